@@ -1,7 +1,8 @@
 -- A transaction that ends, and its job after it.
-use Rattle.std.proofs.Common.{◌≡◌, ◌+◌, ℕ, ap, refl, sym, ◌∙◌}
-use Rattle.std.specs.Prelude.{Option}
-use Rattle.std.specs.declared.option.Option.TheVariants.{None}
+use Rattle.std.proofs.Common.{◌≡◌, ◌+◌, ◌++◌, ◌∷◌, [], ℕ, List, ap, append_assoc, refl, sym, ◌∙◌}
+use Rattle.std.specs.Prelude.{Option, map, take}
+use Rattle.std.specs.declared.option.Option.TheVariants.{None, Some}
+use Rattle.xc_data.specs.declared.undo.Undo.{Undo}
 use Rattle.xc_data.specs.declared.entry.Cause.{Cause}
 use Rattle.xc_data.specs.declared.entry.Cause.TheVariants as cause
 use Rattle.xc_data.specs.declared.entry.Turn.{Turn}
@@ -9,10 +10,13 @@ use Rattle.xc_data.specs.declared.entry.Turn.TheVariants as turn
 use Rattle.xc_station.specs.Moments.{counted}
 use Rattle.xc_data.specs.declared.entry.Outcome.TheVariants.{Committed, Aborted}
 use Rattle.xc_data.specs.declared.private.Private.{Private}
-use Rattle.xc_compensate.specs.Records.{Records}
+use Rattle.xc_compensate.specs.Records.{AtHost, IsTried, Records}
 use Rattle.xc_deferred.specs.Queue.{Queue}
 use Rattle.xc_script.specs.Position.{Position, at_begin}
-use Rattle.xc_script.specs.Slots.{kept_of, with_ends}
+use Rattle.xc_script.specs.Blocks.{kept_calls}
+use Rattle.xc_script.specs.Slots.{with_ends}
+use Rattle.xc_host.specs.Model.{HostModel}
+use Rattle.xc_world.specs.Ends.{Ending}
 use Rattle.xc_world.specs.World.{beginning}
 use Rattle.xc_model.specs.declared.phase.Attempts.{Attempts}
 use Rattle.xc_model.specs.declared.phase.Phase.{Phase}
@@ -23,8 +27,9 @@ use Rattle.xc_model.specs.Movers.{with_tx}
 use Rattle.xc_station.specs.declared.job.Activity.{Activity}
 use Rattle.xc_station.specs.declared.job.Activity.TheVariants as activity
 use Rattle.xc_station.specs.declared.job.Job.{Job}
+use Rattle.xc_station.specs.declared.tx.Saved.{Saved}
 use Rattle.xc_station.specs.declared.tx.Tx.{Tx}
-use Rattle.xc_station.specs.Jobs.{begun_of, doing_of, outcome_in, doing_view, job_view, tx_view}
+use Rattle.xc_station.specs.Jobs.{begun_of, doing_of, outcome_in, doing_view, job_view, saved_in, saved_view, tx_view}
 
 active_or : TxView → Doing → TxView
 active_or none (Active tx) = tx
@@ -80,23 +85,52 @@ counted_doing turn.Went job = refl
 counted_doing turn.NoMemory job = refl
 counted_doing (turn.Ended end) job = refl
 
--- a job whose transaction's records changed
-pub undo_behind : (job : Job) (tx : TxView) (undo : Records) → doing_of job ≡ Active tx
+-- ---- what an open block's save keeps of it
+-- all records, with an end and without, in the order of the calls
+abbrev records_in : Records → List Undo
+records_in undo = undo.pending ++ map (λ (e : Ending). e.0) undo.ended
+
+-- a record that got its end stands where it stood
+pub tried_same : {H : Type 0} (model : HostModel H) (tries : ℕ) (old new : AtHost H) → IsTried model tries old new
+    → records_in new.undo ≡ records_in old.undo
+tried_same model tries old new tried =
+    let older = tried.older in
+    ap records_in tried.stack
+    ∙ sym (append_assoc older (tried.tried ∷ []) (map (λ (e : Ending). e.0) old.undo.ended))
+    ∙ ap (λ (us : List Undo). us ++ map (λ (e : Ending). e.0) old.undo.ended) (sym tried.was)
+
+-- so its save keeps the same of the records
+undo_saved : (t : Tx) (undo : Records) → records_in undo ≡ records_in t.undo → (o : Option Saved)
+    → saved_in (record t { undo = undo }) o ≡ saved_in t o
+undo_saved t undo same None = refl
+undo_saved t undo same (Some kept) = λ i. Some (record (saved_view t kept) { trail = take kept.records (same i) })
+
+-- and of late calls whose ends alone went on
+late_saved : (t : Tx) (queue : Queue) → queue.calls ≡ t.late.calls → (o : Option Saved) → saved_in (record t { late = queue }) o ≡ saved_in t o
+late_saved t queue same None = refl
+late_saved t queue same (Some kept) = λ i. Some (record (saved_view t kept) { late = take kept.late (same i) })
+
+-- a job whose transaction's records got ends
+pub undo_behind : (job : Job) (tx : TxView) (undo : Records) → doing_of job ≡ Active tx → records_in undo ≡ records_in job.tx.undo
     → job_view (record job { tx = record job.tx { undo = undo } }) ≡ with_tx (job_view job) job.place (record tx { undo = undo })
-undo_behind job tx undo is =
+undo_behind job tx undo is same =
     sym (moves_on job tx job.place (record job.tx { undo = undo }) is refl)
+    ∙ (λ i. with_tx (job_view job) job.place (record (tx_view job.tx) { undo = undo; saved = undo_saved job.tx undo same job.tx.saved i }))
     ∙ ap (λ (t : TxView). with_tx (job_view job) job.place (record t { undo = undo })) (its_active job tx is)
 
--- a job whose late calls went on
-pub late_behind : (job : Job) (tx : TxView) (queue : Queue) → doing_of job ≡ Active tx
+-- a job whose late calls got ends
+pub late_behind : (job : Job) (tx : TxView) (queue : Queue) → doing_of job ≡ Active tx → queue.calls ≡ job.tx.late.calls
     → job_view (record job { tx = record job.tx { late = queue } }) ≡ with_tx (job_view job) job.place (with_queue tx queue)
-late_behind job tx queue is =
+late_behind job tx queue is same =
     sym (moves_on job tx job.place (record job.tx { late = queue }) is refl)
+    ∙ (λ i. with_tx (job_view job) job.place (record (with_queue (tx_view job.tx) queue) { saved = late_saved job.tx queue same job.tx.saved i }))
     ∙ ap (λ (t : TxView). with_tx (job_view job) job.place (with_queue t queue)) (its_active job tx is)
 
+-- ---- a transaction's end
 idle_abort : (job : JobView) (tx : TxView) (c : Cause) → behind_abort (record job { busy = 0; doing = Idle }) tx c ≡ behind_abort job tx c
 idle_abort job tx cause.Asked = refl
 idle_abort job tx cause.NoMemory = refl
+idle_abort job tx (cause.Stuck failed) = refl
 idle_abort job tx _ = refl
 
 -- a job after an abort, without its transaction before
@@ -124,7 +158,7 @@ pub commit_behind : (old : JobView) (t tx : TxView) (me : Private) (place : Posi
     → place ≡ at_begin (record {
       block = old.place.block;
       next = old.place.next + 1;
-      variables = with_ends old.place.variables (kept_of t.calls t.replies) t.ends;
+      variables = with_ends old.place.variables (kept_calls t.calls t.replies) t.ends;
     })
     → attempts ≡ None → record old { me = me; place = place; attempts = attempts; busy = 0; doing = Idle } ≡ behind_commit old tx
 commit_behind old t tx me place attempts same renewed passed none =
@@ -132,6 +166,6 @@ commit_behind old t tx me place attempts same renewed passed none =
     let passed' = passed ∙ ap (λ (u : TxView). at_begin (record {
       block = old.place.block;
       next = old.place.next + 1;
-      variables = with_ends old.place.variables (kept_of u.calls u.replies) u.ends;
+      variables = with_ends old.place.variables (kept_calls u.calls u.replies) u.ends;
     })) same in
     λ i. record old { me = renewed' i; place = passed' i; attempts = none i; busy = 0; doing = Idle }

@@ -30,6 +30,7 @@ use Rattle.xc_world.specs.Checks.{refusal_of}
 use Rattle.xc_world.specs.Act.Step.{step_to}
 use Rattle.xc_world.specs.Effects.{takes_data}
 use Rattle.xc_world.specs.Late.{kept_call}
+use Rattle.xc_world.specs.Fits.{is_back}
 use Rattle.xc_world.specs.Run.{taken_by}
 use Rattle.xc_data.specs.Calls.{is_late, is_kept}
 use Rattle.xc_model.specs.PlainSteps.{Parts, LeavesAsPlainIn, IsReplyInTime, tx_parts, seen}
@@ -146,7 +147,7 @@ module _ {H K : Type 0} (model : HostModel H) (seen_as : HostModel K) (a b : K) 
       }
 
 module _ {H : Type 0} (model : HostModel H) (c : Call) (old new : Acting H) (other : is_word_call c ≡ false) (off : is_on_data c ≡ false)
-    (kept : new.kept ≡ old.kept) where
+    (ahead : is_back c ≡ false) (kept : new.kept ≡ old.kept) where
   abbrev before : CallView
   before = record { contents = model.contents old.host; number = old.tx.number; me = old.tx.me }
 
@@ -182,6 +183,7 @@ module _ {H : Type 0} (model : HostModel H) (c : Call) (old new : Acting H) (oth
         part.answer,
         λ w at. record {
           untaken = off_untaken c off;
+          ahead = ahead;
           fits = part.fits (over w);
           world = sym (part.world (over w));
           records = part.records (over w);
@@ -218,36 +220,37 @@ module _ {H : Type 0} (model : HostModel H) (c : Call) (old new : Acting H) (oth
 
 -- so it has acted; the transaction and the words are as before but for its private state and its records
 pub file_acted : {H : Type 0} (model : HostModel H) (c d : Call) (old new : Acting H) (r : Result Reply NoMemory) → c ≡ d → is_word_call d ≡ false
-    → is_on_data d ≡ false → new.kept ≡ old.kept → is_kept d ≡ false → IsFileCall model d (calling old) (calling new) r
+    → is_on_data d ≡ false → is_back d ≡ false → new.kept ≡ old.kept → is_kept d ≡ false → IsFileCall model d (calling old) (calling new) r
     → new.tx ≡ record old.tx { me = new.tx.me; undo = new.tx.undo }
     → new.tx.me.stored ≤ 16384 → IfOk r (λ reply. is_late reply ≡ false) → HasActedAsPlain model c old new r
-file_acted model c d old new r is other off kept at_once k frame stored now =
+file_acted model c d old new r is other off ahead kept at_once k frame stored now =
     let writes = ap (λ (t : TxView). t.writes) frame in
     let whole : new.tx ≡ framed old.tx (tx_parts new.tx) =
     frame ∙ ap (λ ws. record old.tx { me = new.tx.me; writes = ws; undo = new.tx.undo }) (sym writes) in
-    subst (λ (e : Call). HasActedAsPlain model e old new r) (sym is) (file_answered model d old new other off kept r k whole writes stored at_once now)
+    subst (λ (e : Call). HasActedAsPlain model e old new r) (sym is) (file_answered model d old new other off ahead kept r k whole writes stored at_once now)
 
 -- so has one at these handles, which are those of the transaction
 pub file_acted_at : {H : Type 0} (model : HostModel H) (c d : Call) (old new : Acting H) (me : Private) (r : Result Reply NoMemory) → me ≡ old.tx.me
-    → c ≡ d → is_word_call d ≡ false → is_on_data d ≡ false → new.kept ≡ old.kept → is_kept d ≡ false
+    → c ≡ d → is_word_call d ≡ false → is_on_data d ≡ false → is_back d ≡ false → new.kept ≡ old.kept → is_kept d ≡ false
     → IsFileCall model d (record (calling old) { me = me }) (calling new) r
     → new.tx ≡ record old.tx { me = new.tx.me; undo = new.tx.undo } → new.tx.me.stored ≤ 16384 → IfOk r (λ reply. is_late reply ≡ false)
     → HasActedAsPlain model c old new r
-file_acted_at model c d old new me r same is other off kept at_once k =
-    file_acted model c d old new r is other off kept at_once
+file_acted_at model c d old new me r same is other off ahead kept at_once k =
+    file_acted model c d old new r is other off ahead kept at_once
     (subst (λ (m : Private). IsFileCall model d (record (calling old) { me = m }) (calling new) r) same k)
 
 -- a call that reaches no host has acted
 pub alone_acted : {H : Type 0} (model : HostModel H) (c d : Call) (old : Acting H) (next : Private) (reply : Reply) → c ≡ d → is_word_call d ≡ false
-    → is_on_data d ≡ false → is_kept d ≡ false → StepsAlone d old.tx.me next reply → next.stored ≤ 16384 → is_late reply ≡ false
+    → is_on_data d ≡ false → is_back d ≡ false → is_kept d ≡ false → StepsAlone d old.tx.me next reply → next.stored ≤ 16384 → is_late reply ≡ false
     → HasDoneAsPlain model c old (record old { tx = record old.tx { me = next } }) reply
-alone_acted model c d old next reply is other off at_once alone stored now =
-    file_acted model c d old (record old { tx = record old.tx { me = next } }) (Ok reply) is other off refl at_once
+alone_acted model c d old next reply is other off ahead at_once alone stored now =
+    file_acted model c d old (record old { tx = record old.tx { me = next } }) (Ok reply) is other off ahead refl at_once
     (alone_call model d (calling old) next reply alone) refl stored now
 
 -- so has one at these handles
 pub alone_acted_at : {H : Type 0} (model : HostModel H) (c d : Call) (old : Acting H) (next me : Private) (reply : Reply) → me ≡ old.tx.me → c ≡ d
-    → is_word_call d ≡ false → is_on_data d ≡ false → is_kept d ≡ false → StepsAlone d me next reply → next.stored ≤ 16384 → is_late reply ≡ false
+    → is_word_call d ≡ false → is_on_data d ≡ false → is_back d ≡ false → is_kept d ≡ false → StepsAlone d me next reply → next.stored ≤ 16384
+    → is_late reply ≡ false
     → HasDoneAsPlain model c old (record old { tx = record old.tx { me = next } }) reply
-alone_acted_at model c d old next me reply same is other off at_once alone =
-    alone_acted model c d old next reply is other off at_once (subst (λ (m : Private). StepsAlone d m next reply) same alone)
+alone_acted_at model c d old next me reply same is other off ahead at_once alone =
+    alone_acted model c d old next reply is other off ahead at_once (subst (λ (m : Private). StepsAlone d m next reply) same alone)

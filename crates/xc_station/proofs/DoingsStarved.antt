@@ -24,7 +24,7 @@ use Rattle.xc_world.specs.World.{World}
 use Rattle.xc_world.specs.Checks.{refusal_of}
 use Rattle.xc_world.specs.Act.Step.{Stepped}
 use Rattle.xc_world.specs.Effects.{takes_data}
-use Rattle.xc_world.specs.Fits.{answer_of}
+use Rattle.xc_world.specs.Fits.{is_back, answer_of}
 use Rattle.xc_world.specs.Late.{kept_call}
 use Rattle.xc_world.specs.Run.{given_back, taken_by}
 use Rattle.xc_data.specs.Calls.{is_late}
@@ -60,9 +60,9 @@ stops_behind (Some refusal) c r made calls = inl calls
 
 -- the call was done, and the handles are as before it: its part stands as it was left
 pub unanswered : {H : Type 0} (model : HostModel H) (c : Call) (old new behind : Acting H) (reply : Reply) → HasDoneAsPlain model c old new reply
-    → takes_data c ≡ false
+    → takes_data c ≡ false → is_back c ≡ false
     → behind ≡ record new { tx = record new.tx { me = old.tx.me } } → (value_in reply ≡ None → ⊥) → LeavesOff model c old behind
-unanswered model c old new behind reply d untaken is brings =
+unanswered model c old new behind reply d untaken ahead is brings =
     let writes : new.tx.writes ≡ old.tx.writes =
     d.stores ∙ ap (λ ws. old.tx.writes ++ ws) (no_value (length old.words) (overlaid old.words old.tx.writes) c reply d.spoken.gives brings)
     ∙ append_nil old.tx.writes in
@@ -87,6 +87,7 @@ unanswered model c old new behind reply d untaken is brings =
             let does = d.does tells w at in
             record {
               untaken = untaken;
+              ahead = ahead;
               fits = does.fits;
               world = ap (λ (ws : List (ℕ × ℕ)). seen w (told_of model new) ws) (sym writes) ∙ ap (λ (s : Stepped). s.world) (sym does.step);
               records = append_cancel_left old.tx.undo.pending d.made

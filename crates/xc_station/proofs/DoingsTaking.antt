@@ -17,6 +17,7 @@ use Rattle.xc_pipe.specs.Reading.{Notes}
 use Rattle.xc_txmem.specs.Overlay.{overlaid}
 use Rattle.xc_world.specs.World.{World}
 use Rattle.xc_world.specs.Effects.{takes_data}
+use Rattle.xc_world.specs.Fits.{is_back}
 use Rattle.xc_world.specs.Run.{taken_by}
 use Rattle.xc_data.specs.Calls.{is_late, is_kept}
 use Rattle.xc_model.specs.PlainSteps.{LeavesAsPlainIn, IsReplyInTime, tx_parts}
@@ -44,22 +45,22 @@ module _ {H : Type 0} (model : HostModel H) (c : Call) (old new : Acting H) (oth
       frame writes stored in_time
 
   -- what it did where memory runs out
-  pipe_part : takes_data c ≡ false → (left : List Undo)
+  pipe_part : takes_data c ≡ false → is_back c ≡ false → (left : List Undo)
       → ((left ≡ []) × (told_of model new ≡ told_of model old)) ⊎ DidPart c (told_call_view model old) (told_of model new) left
       → ((left ≡ []) × (told_of model new ≡ told_of model old))
       ⊎ ((a : Answer) × LeavesAsPlainIn old.words (told_between model old new) (tx_parts old.tx) (record { call = c; answer = a }) left)
-  pipe_part untaken left (inl same) = inl same
-  pipe_part untaken left (inr did) =
+  pipe_part untaken ahead left (inl same) = inl same
+  pipe_part untaken ahead left (inr did) =
       let over = λ (w : World). record w { words = overlaid w.words old.tx.writes } in
       inr (
         did.answer,
-        λ w at. record { untaken = untaken; fits = did.fits (over w); world = sym (did.world (over w)); records = did.records (over w) },
+        λ w at. record { untaken = untaken; ahead = ahead; fits = did.fits (over w); world = sym (did.world (over w)); records = did.records (over w) },
       )
 
-  pub pipe_left : (e : NoMemory) → takes_data c ≡ false → IsFileCall (fronted model) c (calling_front old) (calling_front new) (Err e)
+  pub pipe_left : (e : NoMemory) → takes_data c ≡ false → is_back c ≡ false → IsFileCall (fronted model) c (calling_front old) (calling_front new) (Err e)
       → (IsTrue model.tells → KeepsData (model.contents old.host) (model.contents new.host))
       → new.tx ≡ framed old.tx (tx_parts new.tx) → new.tx.writes ≡ old.tx.writes → LeavesOff model c old new
-  pipe_left e untaken k keeps frame writes =
+  pipe_left e untaken ahead k keeps frame writes =
       let uses = uses_below model (in_front old.host old.kept) (in_front new.host new.kept) k.uses in
       record {
         left = k.made;
@@ -68,17 +69,17 @@ module _ {H : Type 0} (model : HostModel H) (c : Call) (old new : Acting H) (oth
         uses = record { made = uses.made; named = inr (inl uses.named); used = uses.used };
         faults = k.cause;
         keeps = keeps;
-        contents = λ tells. pipe_part untaken k.made (k.memory.effect tells);
+        contents = λ tells. pipe_part untaken ahead k.made (k.memory.effect tells);
       }
 
 -- a call on a pipe or a pair that takes nothing and isn't kept is done, or memory ran out
 pub made_acted : {H : Type 0} (model : HostModel H) (c d : Call) (old new : Acting H) (me : Private) (r : Result Reply NoMemory) → me ≡ old.tx.me
-    → c ≡ d → is_word_call d ≡ false → takes_data d ≡ false → is_kept d ≡ false
+    → c ≡ d → is_word_call d ≡ false → takes_data d ≡ false → is_back d ≡ false → is_kept d ≡ false
     → IsFileCall (fronted model) d (record (calling_front old) { me = me }) (calling_front new) r
     → (IsTrue model.tells → KeepsData (model.contents old.host) (model.contents new.host))
     → new.tx ≡ record old.tx { me = new.tx.me; undo = new.tx.undo } → new.tx.me.stored ≤ 16384 → IfOk r (λ reply. is_late reply ≡ false)
     → HasActedAsPlain model c old new r
-made_acted {H = H} model c d old new me r same is other untaken at_once k keeps frame stored now =
+made_acted {H = H} model c d old new me r same is other untaken ahead at_once k keeps frame stored now =
     let writes = ap (λ (t : TxView). t.writes) frame in
     let whole : new.tx ≡ framed old.tx (tx_parts new.tx) =
     frame ∙ ap (λ ws. record old.tx { me = new.tx.me; writes = ws; undo = new.tx.undo }) (sym writes) in
@@ -92,7 +93,7 @@ made_acted {H = H} model c d old new me r same is other untaken at_once k keeps 
         let P = IsBacked (model.contents old.host) in
         pipe_done model d old new other reply called (λ tells. subst (All P) (sym (none_taken d old.tx.me reply untaken)) (All-nil P)) keeps
         (whole ∙ framed_now old.tx (tx_parts new.tx) d reply untaken now) writes stored (in_time_now d old.tx.me old.tx.number reply at_once now)
-    by_result (Err e) whole writes called now = pipe_left model d old new other e untaken called keeps whole writes
+    by_result (Err e) whole writes called now = pipe_left model d old new other e untaken ahead called keeps whole writes
 
 -- a transaction that took something, and noted it
 abbrev pub reading : TxView → Private → List KeptItem → TxView

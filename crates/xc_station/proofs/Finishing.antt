@@ -13,7 +13,7 @@ use Rattle.xc_data.specs.declared.undo.Undo.{Undo}
 use Rattle.xc_data.proofs.Lists.{get_set_same, get_set_other}
 use Rattle.xc_host.specs.Model.{HostModel}
 use Rattle.xc_model.specs.declared.phase.Phase.{Phase}
-use Rattle.xc_model.specs.declared.phase.Phase.TheVariants.{Running, Committing, Undoing}
+use Rattle.xc_model.specs.declared.phase.Phase.TheVariants.{Running, Committing, Undoing, Backing}
 use Rattle.xc_model.specs.Setting.{Setting}
 use Rattle.xc_model.specs.Moment.{TxView, JobView, Doing, Idle, Active, Starved, Ended, Moment, late_left}
 use Rattle.xc_model.specs.Movers.{mover, with_tx}
@@ -90,6 +90,7 @@ module _ (s : Setting) (at : ℕ) (old new : Moment) (job : JobView) (there : sl
   active_nearer : (phase : Phase) (answer : Turn) (left : ℕ) → tx.phase ≡ phase → ActiveTurn (mover s at old job) tx phase answer new
       → left_in tx phase ≡ Some left → ComesNearer at phase old new left
   active_nearer Running answer left is row none = cc none
+  active_nearer Backing answer left is row none = cc none
   active_nearer Committing answer left is row some =
       let same : length (late_left tx) ≡ left = cc some in subst (ComesNearer at Committing old new) same (committing_nearer answer is row)
   active_nearer (Undoing c) answer left is row some =

@@ -1,8 +1,10 @@
 -- What every turn leaves: another job in one place, jobs that are live after the others, and a journal that goes on.
-use Rattle.std.proofs.Common.{◌≡◌, inl, inr, ℕ, List, [], ◌∷◌, ◌++◌, refl, ap, sym, ◌∙◌}
+use Rattle.std.proofs.Common.{◌≡◌, inl, inr, ℕ, Bool, true, false, List, [], ◌∷◌, ◌++◌, length, refl, ap, sym, ◌∙◌}
 use Rattle.std.proofs.lemmas.List.{append-nil}
-use Rattle.std.specs.Prelude.{Option, slice_set}
+use Rattle.std.specs.Prelude.{Option, nat_lt, slice_set}
 use Rattle.std.specs.declared.option.Option.TheVariants.{None, Some}
+use Rattle.xc_data.specs.declared.call.Call.{Call}
+use Rattle.xc_data.specs.declared.call.Call.TheVariants as call
 use Rattle.xc_data.specs.declared.call.LateCall.{LateCall}
 use Rattle.xc_data.specs.declared.call.LateCall.TheVariants as late_call
 use Rattle.xc_data.specs.declared.entry.Cause.{Cause}
@@ -16,12 +18,13 @@ use Rattle.xc_data.specs.declared.undo.Undo.{Undo}
 use Rattle.xc_script.specs.declared.ask.Ask.{Ask}
 use Rattle.xc_script.specs.declared.ask.Ask.TheVariants as ask
 use Rattle.xc_model.specs.declared.phase.Phase.{Phase}
-use Rattle.xc_model.specs.declared.phase.Phase.TheVariants.{Running, Committing, Undoing}
+use Rattle.xc_model.specs.declared.phase.Phase.TheVariants.{Running, Committing, Undoing, Backing}
 use Rattle.xc_model.specs.Setting.{Setting}
-use Rattle.xc_model.specs.Moment.{TxView, JobView, Doing, Idle, Active, Starved, Ended, Moment, late_left, waiting}
+use Rattle.xc_model.specs.Moment.{TxView, SavedView, JobView, Doing, Idle, Active, Starved, Ended, Moment, late_left, waiting}
 use Rattle.xc_model.specs.Rows.{IsTurn, TurnOf, ActiveTurn}
 use Rattle.xc_model.specs.IdleRows.{IdleTurn}
-use Rattle.xc_model.specs.RunningRows.{MarkedTurn, RunningTurn, AskedTurn}
+use Rattle.xc_model.specs.RunningRows.{MarkedTurn, RunningTurn, AskedTurn, CalledTurn}
+use Rattle.xc_model.specs.BackingRows.{BackingRow, MarkedBack, OpenRow}
 use Rattle.xc_model.specs.CommittingRows.{CommittingTurn, LateTurn, NextLate}
 use Rattle.xc_model.specs.UndoingRows.{UndoingTurn, BackTurn}
 use Rattle.xc_model.specs.Rows.{StarvedTurn}
@@ -60,9 +63,13 @@ module _ (s : Setting) (at : ℕ) (old : Moment) (job : JobView) (new : Moment) 
   starved_leaves _ row = absurd row
 
   module _ (tx : TxView) where
+    called_leaves : (c : Call) → CalledTurn (mover s at old job) tx c new → ChangesOne at old new
+    called_leaves call.Back row = alone _ _ row.behind refl refl
+    called_leaves c (inl row) = alone _ _ row.behind refl refl
+    called_leaves c (inr row) = alone _ _ row.behind refl refl
+
     asked_leaves : (asked : Ask) → AskedTurn (mover s at old job) tx asked new → ChangesOne at old new
-    asked_leaves (ask.Call call) (inl row) = alone _ _ row.behind refl refl
-    asked_leaves (ask.Call call) (inr row) = alone _ _ row.behind refl refl
+    asked_leaves (ask.Call c) row = called_leaves c row
     asked_leaves ask.Commit row = alone _ _ row.behind refl refl
     asked_leaves ask.Abort row = alone _ _ row.behind refl refl
     asked_leaves ask.End row = absurd row
@@ -79,6 +86,20 @@ module _ (s : Setting) (at : ℕ) (old : Moment) (job : JobView) (new : Moment) 
     marked_leaves (Some m) (turn.Busy object holder) row = absurd row
     marked_leaves (Some m) turn.NoMemory row = absurd row
     marked_leaves (Some m) (turn.Ended end) row = absurd row
+
+    back_row_leaves : (kept : SavedView) (b : Bool) → BackingRow (mover s at old job) tx kept b new → ChangesOne at old new
+    back_row_leaves kept true row = alone _ _ row.behind refl refl
+    back_row_leaves kept false row = alone _ _ row.behind refl refl
+
+    open_leaves : (saved : Option SavedView) → OpenRow (mover s at old job) tx saved new → ChangesOne at old new
+    open_leaves None row = absurd row
+    open_leaves (Some kept) row = back_row_leaves kept (nat_lt (length kept.trail) (length tx.undo.pending)) row
+
+    backing_leaves : (mark : Option Mark) (answer : Turn) → MarkedBack (mover s at old job) tx mark answer new → ChangesOne at old new
+    backing_leaves None turn.Went row = open_leaves tx.saved row
+    backing_leaves None _ row = absurd row
+    backing_leaves (Some m) turn.Went row = alone _ _ row refl refl
+    backing_leaves (Some m) _ row = absurd row
 
     next_leaves : (call : LateCall) → NextLate (mover s at old job) tx call new → ChangesOne at old new
     next_leaves (late_call.Thread block) row = alone _ _ row.behind refl refl
@@ -110,6 +131,7 @@ module _ (s : Setting) (at : ℕ) (old : Moment) (job : JobView) (new : Moment) 
 
     active_leaves : (phase : Phase) (answer : Turn) → ActiveTurn (mover s at old job) tx phase answer new → ChangesOne at old new
     active_leaves Running answer row = marked_leaves (old.marks tx.number) answer row
+    active_leaves Backing answer row = backing_leaves (old.marks tx.number) answer row
     active_leaves Committing answer row = committing_leaves answer row
     active_leaves (Undoing c) answer row = undoing_leaves c answer row
 

@@ -1,9 +1,11 @@
 pub mod Ahead
 pub mod Backed
+pub mod BacksKept
 pub mod Begun
 pub mod Children
 pub mod Closed
 pub mod Doings
+pub mod DoingsBlocks
 pub mod DoingsLate
 pub mod DoingsStarved
 pub mod DoingsTaking
@@ -12,6 +14,7 @@ pub mod Elsewhere
 pub mod Ended
 pub mod Finishing
 pub mod Giving
+pub mod GoesBack
 pub mod Joined
 pub mod Leaving
 pub mod Lending
@@ -25,13 +28,16 @@ pub mod Ready
 pub mod Rivals
 pub mod Rooms
 pub mod RoomsKept
+pub mod RowsBack
 pub mod RowsCalled
 pub mod RowsMarked
 pub mod RowsRun
 pub mod Runs
+pub mod Saves
 pub mod Seated
 pub mod Stages
 pub mod Started
+pub mod StepsBack
 pub mod Steady
 pub mod Takings
 pub mod Tracked
@@ -39,4 +45,5 @@ pub mod TurnRows
 pub mod Unanswered
 pub mod Waiting
 pub mod WaitsKept
+pub mod WaysBack
 pub mod WordActs

@@ -1,12 +1,11 @@
 -- What a turn's function may rely on, between two turns.
-use Rattle.std.proofs.Common.{◌≡◌, ◌≢◌, ℕ, zero, suc, ◌+◌, ◌<◌, ◌≤◌, ◌^◌, List, [], ◌∷◌, ◌++◌, length, refl, ap, sym, ◌∙◌, subst, arith, Bool, true, false}
+use Rattle.std.proofs.Common.{◌≡◌, ◌≢◌, ℕ, zero, suc, ◌+◌, ◌<◌, ◌≤◌, ◌^◌, List, [], ◌∷◌, ◌++◌, length, refl, ap, sym, ◌∙◌, subst, arith, true}
 use Rattle.std.proofs.lemmas.List.Elements.{All-head, All-tail, All-weaker, All-contains_itself}
 use Rattle.std.specs.FinMap as map
-use Rattle.std.specs.Prelude.{All, Contains, is_some, IsSome, IsTrue, Option, slice_get, slice_set, if◌then◌else◌, nat_le}
+use Rattle.std.specs.Prelude.{All, Contains, is_some, IsSome, IsTrue, Option, slice_get}
 use Rattle.std.specs.List.{fold}
 use Rattle.std.specs.declared.option.Option.TheVariants.{None, Some}
 use Rattle.xc_data.specs.declared.call.Call.{Call}
-use Rattle.xc_data.specs.declared.call.Call.TheVariants.{Store}
 use Rattle.xc_data.specs.declared.call.LateCall.{LateCall}
 use Rattle.xc_deferred.specs.Does.{IsThereFor}
 use Rattle.xc_data.specs.declared.entry.Entry.{Entry}
@@ -19,17 +18,21 @@ use Rattle.xc_roomy.specs.Room.{Roomy}
 use Rattle.xc_txmem.specs.Overlay.{AreWithin}
 use Rattle.xc_text.specs.declared.script.Block.{Block}
 use Rattle.xc_text.specs.declared.script.Script.{Script}
-use Rattle.xc_text.specs.Scripts.{IsBlock}
+use Rattle.xc_text.specs.Scripts.{IsBlock, IsScript}
 use Rattle.xc_script.specs.Ask.{transactions_of, transactions_at}
+use Rattle.xc_script.specs.Asking.{asks}
+use Rattle.xc_script.specs.Blocks.{IsInner, ask_fits, block_from}
+use Rattle.xc_script.specs.Position.{Position, walk_of}
+use Rattle.xc_script.proofs.Opened.{all_inner, asks_inner, begins_inner}
 use Rattle.xc_model.specs.declared.phase.Attempts.{Attempts}
 use Rattle.xc_model.specs.declared.rules.Rules.{Rules}
 use Rattle.xc_model.specs.Setting.{Setting, setting}
-use Rattle.xc_model.specs.WordCalls.{words_after, words_behind}
 use Rattle.xc_model.specs.Progress.{Following, Progress, after_entry, opening_progress, progress_of, words_left}
 use Rattle.xc_model.specs.Moment.{TxView, JobView, Active, Moment, active_in, actives, failures, late_left}
-use Rattle.xc_model.specs.Stories.{AreAttempts, IsDoing, IsInPhase, IsUnderway}
+use Rattle.xc_model.specs.Stories.{AreAttempts, IsAhead, IsDoing, IsInPhase, IsUnderway}
 use Rattle.xc_model.specs.Movers.{IsActiveAt}
 use Rattle.xc_turns.proofs.GivenNumbers.{given_by_now, given_once}
+use Rattle.xc_turns.proofs.WordStates.{behind_count}
 use Rattle.xc_sentinel.specs.declared.seat.Seat.{Seat}
 use Rattle.xc_sentinel.specs.Seating.{seat_in}
 use Rattle.xc_station.proofs.Tracked.{nobody}
@@ -57,7 +60,7 @@ use Rattle.xc_station.proofs.Elsewhere.{nothing_kept_of}
 use Rattle.xc_station.proofs.Lent.{kept_files}
 use Rattle.xc_station.specs.Moments.{AreSingle, CanRun, IsAt, marks_of, runs, seated_as}
 use Rattle.xc_station.specs.Stations.{HasRooms, IsSteady, moment}
-use Rattle.xc_data.proofs.Lists.{get_map, length_set}
+use Rattle.xc_data.proofs.Lists.{get_map}
 use Rattle.xc_station.proofs.Notes.{notes_within}
 use Rattle.xc_station.proofs.Reaching.{lent_for}
 use Rattle.xc_station.proofs.Rivals.{none_met}
@@ -104,20 +107,8 @@ some_within (x ∷ xs) zero is = omega arith
 some_within (x ∷ xs) (suc i) is = let less = some_within xs i is in omega (arith, less)
 
 -- ---- words are as many as the script's
-count_set : (xs : List ℕ) (i x : ℕ) (b : Bool) → length (if b then xs else slice_set xs i x) ≡ length xs
-count_set xs i x true = refl
-count_set xs i x false = length_set xs i x
-
-count_after : (xs : List ℕ) (c : Call) → length (words_after xs c) ≡ length xs
-count_after xs (Store i x) = count_set xs i x (nat_le (length xs) i)
-count_after xs _ = refl
-
-count_behind : (xs : List ℕ) (calls : List Call) → length (words_behind xs calls) ≡ length xs
-count_behind xs [] = refl
-count_behind xs (c ∷ calls) = count_behind (words_after xs c) calls ∙ count_after xs c
-
 count_left : (xs : List ℕ) (calls : List Call) (o : Outcome) → length (words_left xs calls o) ≡ length xs
-count_left xs calls (Committed late) = count_behind xs calls
+count_left xs calls (Committed late) = behind_count xs calls
 count_left xs calls (Aborted report) = refl
 
 count_told : (script : Script) (p : Progress) (journal : List Entry) → length (fold (after_entry script) p journal).words ≡ length p.words
@@ -157,6 +148,17 @@ module _ (s : Setting) (faults : ℕ) (now : Moment) (steady : IsSteady s faults
       let same = failed_so t.following job.attempts t.attempts in
       omega (arith, less, same)
 
+-- ---- what is asked
+-- it fits the block that is open
+fits_there : (s : Setting) (f : Following) (place : Position) (tx : TxView) → IsScript s.script → IsAhead s f place tx
+    → ask_fits (is_some place.saved) (asks (walk_of s.script place)) ≡ true
+fits_there s f place tx read ahead =
+    let walk = walk_of s.script place in
+    let inner : IsInner (record { walk = walk; saved = place.saved }) =
+    subst IsInner (sym ahead) (all_inner (block_from s.script f.job) tx.replies (begins_inner s.script f.job read)) in
+    asks_inner (is_some place.saved) walk.variables walk.stored walk.refused walk.left inner
+
+-- ---- seats
 unseated : (o : Option Seat) → seated_as o ≡ None → o ≡ None
 unseated None is = refl
 unseated (Some seat) is = cc is
@@ -188,6 +190,9 @@ module _ {H : Type 0} (model : HostModel H) (shared : Shared H) (journal : List 
         tx = runs.tx;
         doing = runs.doing;
         left = subst IsSome (λ i. slice_get (transactions_at script (block i)) (next i)) t.underway.left;
+        fits = subst (λ b. ask_fits b (asks (walk_of script was.place)) ≡ true) t.underway.together
+            (fits_there s t.following was.place runs.tx steady.set.read phase.ahead);
+        together = t.underway.together;
         may = record {
           running = runs.phase;
           within = subst (λ n. AreWithin n runs.tx.writes) (sym steady.kept.spoken.count) spoken.within;

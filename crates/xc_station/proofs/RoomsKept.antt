@@ -2,6 +2,8 @@
 use Rattle.std.proofs.Common.{◌≡◌, ◌≢◌, inl, inr, ℕ, ◌+◌, ◌-◌, ◌<◌, ◌≤◌, Bool, true, List, length, refl, ap, sym, ◌∙◌, subst, arith, []}
 use Rattle.std.specs.Prelude.{Option, slice_get, slice_set}
 use Rattle.std.specs.declared.option.Option.TheVariants.{None, Some}
+use Rattle.xc_data.specs.declared.call.Call.{Call}
+use Rattle.xc_data.specs.declared.call.Call.TheVariants as call
 use Rattle.xc_data.specs.declared.claim.Claim.{Claim}
 use Rattle.xc_data.specs.declared.entry.Cause.{Cause}
 use Rattle.xc_data.specs.declared.entry.Cause.TheVariants as cause
@@ -19,7 +21,7 @@ use Rattle.xc_sentinel.specs.Seating.{KeepsSeats, SetsSeat, seat_in}
 use Rattle.xc_wordlocks.specs.Table.{Table, mode_in, held_mode}
 use Rattle.xc_model.specs.Setting.{Setting}
 use Rattle.xc_model.specs.Moment.{TxView, JobView, Active, Ended, Moment, active_in, active_of, begun_count, rank_of, waiting, with_job}
-use Rattle.xc_model.specs.RunningRows.{AskedTurn, MarkedTurn, RunningTurn}
+use Rattle.xc_model.specs.RunningRows.{AskedTurn, CalledTurn, MarkedTurn, RunningTurn}
 use Rattle.xc_model.specs.IdleRows.{IdleTurn, beginning_job, new_tx}
 use Rattle.xc_model.specs.Movers.{IsActiveAt, asked_at, mover}
 use Rattle.xc_model.specs.Entering.{behind_abort}
@@ -48,12 +50,18 @@ pub record GoesOn (old new : Moment) (at : ℕ) (job : JobView) (tx : TxView) : 
   pub rank : tx'.rank ≡ tx.rank
   pub jobs : new.jobs ≡ slice_set old.jobs at behind
 
+called_on : (s : Setting) (at : ℕ) (old : Moment) (job : JobView) (tx : TxView) (c : Call) (new : Moment) → CalledTurn (mover s at old job) tx c new
+    → GoesOn old new at job tx
+called_on s at old job tx call.Back new row =
+    record { behind = _; tx' = _; doing = refl; number = refl; rank = refl; jobs = ap (λ (n : Moment). n.jobs) row.behind }
+called_on s at old job tx c new (inl row) =
+    record { behind = _; tx' = _; doing = refl; number = refl; rank = refl; jobs = ap (λ (n : Moment). n.jobs) row.behind }
+called_on s at old job tx c new (inr row) =
+    record { behind = _; tx' = _; doing = refl; number = refl; rank = refl; jobs = ap (λ (n : Moment). n.jobs) row.behind }
+
 asked_on : (s : Setting) (at : ℕ) (old : Moment) (job : JobView) (tx : TxView) (a : Ask) (new : Moment) → AskedTurn (mover s at old job) tx a new
     → GoesOn old new at job tx
-asked_on s at old job tx (ask.Call call) new (inl row) =
-    record { behind = _; tx' = _; doing = refl; number = refl; rank = refl; jobs = ap (λ (n : Moment). n.jobs) row.behind }
-asked_on s at old job tx (ask.Call call) new (inr row) =
-    record { behind = _; tx' = _; doing = refl; number = refl; rank = refl; jobs = ap (λ (n : Moment). n.jobs) row.behind }
+asked_on s at old job tx (ask.Call c) new row = called_on s at old job tx c new row
 asked_on s at old job tx ask.Commit new row =
     record { behind = _; tx' = _; doing = refl; number = refl; rank = refl; jobs = ap (λ (n : Moment). n.jobs) row.behind }
 asked_on s at old job tx ask.Abort new row =
@@ -85,7 +93,8 @@ pub back_none : (job : JobView) (tx : TxView) (c : Cause) → active_of (behind_
 back_none job tx cause.Asked = refl
 back_none job tx cause.NoMemory = refl
 back_none job tx (cause.Conflict o holder at) = refl
-back_none job tx _ = refl
+back_none job tx (cause.Revoked o by at) = refl
+back_none job tx (cause.Stuck failed) = refl
 
 -- ---- at the moments of a station
 module _ {H : Type 0} (model : HostModel H) (shared : Shared H) (journal : List Entry) (jobs : List Job) (at : ℕ) (was job : Job)

@@ -1,5 +1,5 @@
 -- Rows of the turn of a job whose transaction runs, of a call whose claims are granted: it is done, or memory runs out.
-use Rattle.std.proofs.Common.{◌≡◌, ◌⊎◌, inl, inr, ℕ, ◌<◌, List, [], ◌∷◌, ◌++◌, length, IsTrue, refl, ap, sym, ◌∙◌, subst, arith}
+use Rattle.std.proofs.Common.{◌≡◌, ◌⊎◌, inl, inr, ℕ, ◌<◌, false, List, [], ◌∷◌, ◌++◌, length, IsTrue, refl, ap, sym, ◌∙◌, subst, arith}
 use Rattle.std.specs.Prelude.{All}
 use Rattle.xc_data.specs.Claims.{holding}
 use Rattle.xc_data.specs.Counts.{CountsFault}
@@ -32,28 +32,37 @@ use Rattle.xc_model.specs.declared.phase.Phase.TheVariants.{Undoing}
 use Rattle.xc_model.specs.Setting.{Setting}
 use Rattle.xc_model.specs.Moment.{TxView, JobView, Active, Moment, active_in, with_job}
 use Rattle.xc_model.specs.WordCalls.{IsWordStep}
-use Rattle.xc_model.specs.RunningRows.{Calls, HoldsWanting}
+use Rattle.xc_model.specs.RunningRows.{Calls, HoldsWanting, IsDoneWhere, opens_or_closes}
 use Rattle.xc_model.specs.PlainSteps.{StepsAsPlainIn, LeavesAsPlainIn, IsLeft}
 use Rattle.xc_model.specs.Movers.{HasCalled, IsActiveAt, IsSameBegin, mover}
 use Rattle.xc_model.specs.Rivals.{HasNoRival}
 use Rattle.xc_model.specs.Movers.{IsSamePosition, with_tx}
-use Rattle.xc_model.specs.PlainSteps.{IsReplyInTime, Parts, StopsAt, noting, tx_parts, stored_by, wanting}
+use Rattle.xc_model.specs.PlainSteps.{IsReplyInTime, Parts, StopsAt, copied, noting, noting_plain, saved_by, tx_parts, stored_by, wanting}
 use Rattle.xc_model.specs.RunningRows.{RunningTurn}
 use Rattle.xc_station.specs.declared.calls.Shared.{Shared}
 use Rattle.xc_station.specs.declared.tx.Tx.{Tx}
 use Rattle.xc_station.specs.Acting.{HasDoneAsPlain, LeavesOff, acting, leaving, with_parts}
 use Rattle.xc_station.specs.Jobs.{tx_view}
 use Rattle.xc_station.specs.Moments.{HasTx, IsAt, IsGranted, IsRow, Front, counted, front_of, marks_of, moved, told_by, told_front}
-use Rattle.xc_station.proofs.RowsRun.{asked_before, asked_row}
+use Rattle.xc_world.specs.Fits.{is_back}
+use Rattle.xc_station.proofs.DoingsBlocks.{no_way_back}
+use Rattle.xc_station.proofs.RowsRun.{asked_before, asked_row, called_turn}
 use Rattle.xc_station.proofs.Rivals.{none_met}
 use Rattle.xc_station.proofs.Seated.{marks_kept}
 use Rattle.xc_station.proofs.Tracked.{tracked_on}
 
--- the job stands after the reply
-pub record IsBehind (s : Setting) (old new : Position) (reply : Reply) : Type 0 where
+-- the job stands after the reply to a call, and a save keeps what the variables held there
+pub record IsBehind (s : Setting) (call : Call) (old new : Position) (reply : Reply) : Type 0 where
   pub begin : IsSameBegin old new
   pub walk : walk_of s.script new ≡ answered (walk_of s.script old) reply
   pub nearer : old.at < new.at
+  pub values : new.saved ≡ saved_by call old.saved (walk_of s.script old).variables.values
+
+-- a call that isn't a back: it did what it does of blocks
+pub record DoesBlocks (call : Call) (old new : TxView) (reply : Reply) : Type 0 where
+  pub ahead : is_back call ≡ false
+  pub done : IsDoneWhere (opens_or_closes call) reply
+  pub saved : new.saved ≡ saved_by call old.saved (copied new)
 
 -- ---- after granted claims
 module _ {H : Type 0} (model : HostModel H) (s : Setting) (shared : Shared H) (now : Moment) (at : ℕ) (job : JobView) (place : Position) (old : Tx)
@@ -128,9 +137,9 @@ module _ {H : Type 0} (model : HostModel H) (s : Setting) (shared : Shared H) (n
   module _ (telling : IsTrue s.tells → IsTrue model.tells) (place' : Position) (from : Front H) (done new : Tx) (same : place' ≡ place)
       (host : from ≡ front_of shared)
       (l : LeavesOff model call (acting from.host from.lent.kept behind.words mid) (acting behind.host behind.buffers.kept behind.words done))
-      (is : tx_view new ≡ record (tx_view done) { phase = Undoing cause.NoMemory }) where
+      (seen : (tx_view done).saved ≡ (tx_view mid).saved) (is : tx_view new ≡ record (tx_view done) { phase = Undoing cause.NoMemory }) where
     left_as : tx_view new ≡ wanting (tx_view old) l.left (holding old.held.items (claims_of call old.me.value (length now.words)))
-    left_as = is ∙ ap (λ (t : TxView). record t { phase = Undoing cause.NoMemory }) l.tx
+    left_as = is ∙ (λ i. record (l.tx i) { phase = Undoing cause.NoMemory; saved = seen i })
         ∙ ap (λ (t : TxView). record (leaving t l.left) { phase = Undoing cause.NoMemory }) g.held
         ∙ ap (λ claims. wanting (tx_view old) l.left (holding old.held.items claims)) claims_now
 
@@ -172,23 +181,38 @@ module _ {H : Type 0} (model : HostModel H) (s : Setting) (shared : Shared H) (n
 
   -- the call is done and noted
   module _ (telling : IsTrue s.tells → IsTrue model.tells) (place' : Position) (from : Front H) (done new : Tx) (reply : Reply)
-      (stands : IsBehind s place place' reply) (host : from ≡ front_of shared)
+      (stands : IsBehind s call place place' reply) (host : from ≡ front_of shared)
       (d : HasDoneAsPlain model call (acting from.host from.lent.kept behind.words mid) (acting behind.host behind.buffers.kept behind.words done) reply)
+      (b : DoesBlocks call (tx_view mid) (tx_view done) reply)
       (noted : tx_view new ≡ record (tx_view done) { calls = done.calls.items ++ call ∷ []; replies = done.replies.items ++ reply ∷ [] }) where
-    done_as : tx_view done ≡ with_parts (record (tx_view old) { held = holding old.held.items (claims_of call old.me.value (length now.words)) })
-        call reply (tx_parts (tx_view done))
-    done_as = d.tx ∙ ap (λ (t : TxView). with_parts t call reply (tx_parts (tx_view done))) g.held
-        ∙ ap (λ claims. with_parts (record (tx_view old) { held = holding old.held.items claims }) call reply (tx_parts (tx_view done))) claims_now
+    -- but for its block
+    abbrev done_from : TxView → TxView
+    done_from t = record (with_parts t call reply (tx_parts (tx_view done))) { saved = (tx_view done).saved }
+
+    done_as : tx_view done ≡ done_from (record (tx_view old) { held = holding old.held.items (claims_of call old.me.value (length now.words)) })
+    done_as = (λ i. record (d.tx i) { saved = (tx_view done).saved }) ∙ ap done_from g.held
+        ∙ ap (λ claims. done_from (record (tx_view old) { held = holding old.held.items claims })) claims_now
+
+    abbrev noted_plain : TxView
+    noted_plain = noting_plain (tx_view old) call reply (claims_of call old.me.value (length now.words)) (tx_parts (tx_view done))
+
+    saved_as : (tx_view done).saved ≡ saved_by call (tx_view old).saved (copied noted_plain)
+    saved_as = b.saved ∙ ap (λ (t : TxView). saved_by call t.saved (copied (tx_view done))) g.held
+        ∙ ap (λ (t : TxView). saved_by call (tx_view old).saved (copied t)) done_as
 
     noted_as : tx_view new ≡ noting (tx_view old) call reply (claims_of call old.me.value (length now.words)) (tx_parts (tx_view done))
-    noted_as = noted ∙ ap (λ (t : TxView). record t { calls = t.calls ++ call ∷ []; replies = t.replies ++ reply ∷ [] }) done_as
+    noted_as = noted ∙ (λ i. record (done_as i) {
+      calls = (done_as i).calls ++ call ∷ [];
+      replies = (done_as i).replies ++ reply ∷ [];
+      saved = saved_as i;
+    })
 
-    writes_old : mid.writes ≡ old.writes
+    writes_old : mid.writes.stores ≡ old.writes.stores
     writes_old = ap (λ (t : TxView). t.writes) g.held
 
-    spoken_now : IsWordStep (overlaid now.words old.writes) (overlaid now.words done.writes) call reply
-    spoken_now = subst (λ ws. IsWordStep (overlaid now.words ws) (overlaid now.words done.writes) call reply) writes_old
-        (subst (λ ws. IsWordStep (overlaid ws mid.writes) (overlaid ws done.writes) call reply) words_now d.spoken)
+    spoken_now : IsWordStep (overlaid now.words old.writes.stores) (overlaid now.words done.writes.stores) call reply
+    spoken_now = subst (λ ws. IsWordStep (overlaid now.words ws) (overlaid now.words done.writes.stores) call reply) writes_old
+        (subst (λ ws. IsWordStep (overlaid ws mid.writes.stores) (overlaid ws done.writes.stores) call reply) words_now d.spoken)
 
     does_now : IsTrue s.tells → StepsAsPlainIn now.words (record { old = now.contents; new = told_by model behind })
         (record { old = tx_parts (tx_view old); new = tx_parts (tx_view done) }) call reply
@@ -220,6 +244,10 @@ module _ {H : Type 0} (model : HostModel H) (s : Setting) (shared : Shared H) (n
           };
           walk = stands.walk ∙ ap (λ w. answered w reply) has.same.walk;
           nearer = (let far = stands.nearer in let near = has.same.at in omega arith);
+          saved = stands.values ∙ (λ i. saved_by call (has.same.saved i) (has.same.walk i).variables.values);
+          no_way_back = no_way_back call old.me.value reply b.ahead
+              (subst (λ (t : TxView). IsChecked (refusal_of call t.me) call reply) g.held d.checked);
+          blocks = b.done;
           in_time = subst (λ (t : TxView). IsReplyInTime t.me t.number call reply) g.held d.in_time;
           checked = subst (λ (t : TxView). IsChecked (refusal_of call t.me) call reply) g.held d.checked;
           after = subst (λ (t : TxView). IsMeAfter t.number call reply t.me done.me.value) g.held d.after;
@@ -231,7 +259,7 @@ module _ {H : Type 0} (model : HostModel H) (s : Setting) (shared : Shared H) (n
           undo = d.undo ∙ ap (λ (t : TxView). record t.undo { pending = t.undo.pending ++ d.made }) g.held;
           stored = d.stored;
           stores = d.stores ∙ ap (λ ws. ws ++ stored_by (length behind.words) call) writes_old
-              ∙ ap (λ n. old.writes ++ stored_by n call) (ap length words_now);
+              ∙ ap (λ n. old.writes.stores ++ stored_by n call) (ap length words_now);
           spoken = spoken_now;
           cause = subst (λ n. CountsFault (is_fault_reply reply) n (model.fault_count behind.host)) (ap (λ (f : Front H). model.fault_count f.host) host
               ∙ sym here.faults) d.cause;
@@ -242,4 +270,5 @@ module _ {H : Type 0} (model : HostModel H) (s : Setting) (shared : Shared H) (n
     pub called : IsRow (mover s at now job) (moved model behind (with_tx job place' (tx_view new)) now at) turn.Went behind.sentinels.claims
     called = row_granted (with_tx job place' (tx_view new)) (tx_view new) turn.Went refl (ap (λ (t : TxView). t.number) noted_as)
         (ap (λ (t : TxView). t.held) noted_as ∙ ap (holding old.held.items) (sym claims_now))
-        (asked_row s at now (moved model behind (with_tx job place' (tx_view new)) now at) job place (tx_view old) (ask.Call call) has asked (inl calls_now))
+        (asked_row s at now (moved model behind (with_tx job place' (tx_view new)) now at) job place (tx_view old) (ask.Call call) has asked
+        (called_turn (mover s at now job) (tx_view old) call (moved model behind (with_tx job place' (tx_view new)) now at) b.ahead (inl calls_now)))

@@ -1,11 +1,13 @@
 -- Rows of the turn of a job whose transaction runs, but for calls whose claims are granted.
 use Rattle.std.proofs.Common.{◌≡◌, ◌⊎◌, inl, inr, ℕ, ◌<◌, ◌≤◌, Bool, true, false, List, [], length, refl, ap, sym, ◌∙◌, subst, arith}
 use Rattle.std.proofs.Math.Decide.{dec_le}
-use Rattle.std.specs.Prelude.{Option, IsSome, Err, nat_lt, slice_set}
+use Rattle.std.specs.Prelude.{Option, is_some, IsSome, Err, nat_lt, slice_set}
 use Rattle.std.specs.declared.option.Option.TheVariants.{None, Some}
 use mathlib.Core.Logic.{dite}
 use borrow.Author.Tests.{ltb-false, ltb-true}
 use Rattle.xc_data.specs.declared.call.Call.{Call}
+use Rattle.xc_data.specs.declared.call.Call.TheVariants as call
+use Rattle.xc_world.specs.Fits.{is_back}
 use Rattle.xc_data.specs.declared.claim.Claim.{Claim}
 use Rattle.xc_data.specs.declared.entry.Cause.TheVariants as cause
 use Rattle.xc_data.specs.declared.entry.Mark.{Mark}
@@ -30,10 +32,10 @@ use Rattle.xc_txmem.specs.Overlay.{overlaid}
 use Rattle.xc_world.specs.Modes.{claims_of}
 use Rattle.xc_wordlocks.specs.Table.{Table, mode_in, held_mode}
 use Rattle.xc_wordlocks.specs.Met as met
-use Rattle.xc_model.specs.declared.phase.Phase.TheVariants.{Committing, Undoing}
+use Rattle.xc_model.specs.declared.phase.Phase.TheVariants.{Committing, Undoing, Backing}
 use Rattle.xc_model.specs.Setting.{Setting}
 use Rattle.xc_model.specs.Moment.{TxView, JobView, Moment, Active, active_in, waiting, with_job}
-use Rattle.xc_model.specs.RunningRows.{AskedTurn, HoldsWanting}
+use Rattle.xc_model.specs.RunningRows.{AskedTurn, CalledTurn, Calls, Conflicts, HoldsWanting}
 use Rattle.xc_model.specs.Movers.{IsActiveAt, IsSamePosition}
 use Rattle.xc_model.specs.Rivals.{IsFirstRival}
 use Rattle.xc_model.specs.Movers.{Mover, mover, with_tx}
@@ -41,7 +43,8 @@ use Rattle.xc_model.specs.RunningRows.{RunningTurn, marked}
 use Rattle.xc_model.specs.PlainSteps.{StopsAt, wanting}
 use Rattle.xc_station.specs.declared.calls.Shared.{Shared}
 use Rattle.xc_station.specs.declared.tx.Tx.{Tx}
-use Rattle.xc_station.specs.Jobs.{tx_view}
+use Rattle.xc_station.specs.declared.tx.Saved.{Saved}
+use Rattle.xc_station.specs.Jobs.{saved_in, tx_view}
 use Rattle.xc_station.specs.Moments.{Front, front_of, told_by, told_front}
 use Rattle.xc_station.specs.Moments.{AreTerms, HasClaimed, HasTx, IsAt, IsRefused, IsRow, IsToldToWait, counted, marks_of, moved, runs, seated_as}
 use Rattle.xc_station.proofs.Rivals.{first_rival}
@@ -82,6 +85,11 @@ pub asked_row : (s : Setting) (at : ℕ) (now new : Moment) (job : JobView) (pla
     → asks (walk_of s.script place) ≡ a → AskedTurn (mover s at now job) tx a new → RunningTurn (mover s at now job) tx turn.Went new
 asked_row s at now new job place tx a has asked row =
     subst (λ b. AskedTurn (mover s at now job) tx b new) (sym (asked_before s job place tx a has asked)) row
+
+-- so it is of a call that isn't a back: it is done, or meets a holder
+pub called_turn : (m : Mover) (tx : TxView) (c : Call) (new : Moment) → is_back c ≡ false → Calls m tx c new ⊎ Conflicts m tx c new → CalledTurn m tx c new
+called_turn m tx call.Back new ahead row = cc ahead
+called_turn m tx _ new ahead row = row
 
 -- where whoever has patience isn't younger, patience is spent or the holder isn't younger
 stopped : (n m busy patience : ℕ) (b : Bool) → nat_lt busy patience ≡ b → (nat_lt busy patience ≡ true → n < m → ⊥) → (m ≤ n) ⊎ (patience ≤ busy)
@@ -161,19 +169,21 @@ module _ {H : Type 0} (model : HostModel H) (s : Setting) (shared : Shared H) (n
       (claims_of call old.me.value (length shared.words)) object holder first)
 
   -- another holds something against it
-  pub refused : (behind : Shared H) (new : Tx) (call : Call) (patient : Bool) (entered : ℕ) → front_of behind ≡ front_of shared → behind.words ≡ shared.words
+  pub refused : (behind : Shared H) (new : Tx) (call : Call) (patient : Bool) (entered : ℕ) → is_back call ≡ false → front_of behind ≡ front_of shared
+      → behind.words ≡ shared.words
       → asks (walk_of s.script place) ≡ ask.Call call → AreTerms s.rules now job patient entered
       → IsRefused (record { old = shared.sentinels; new = behind.sentinels }) (record { old = old; new = new })
       (record { claims = claims_of call old.me.value (length shared.words); patient = patient; at = entered })
       → IsRow (mover s at now job) (moved model behind (with_tx job place (tx_view new)) now at) turn.Went behind.sentinels.claims
-  refused behind new call patient entered host words asked terms r =
+  refused behind new call patient entered ahead host words asked terms r =
       let undoing = λ (n : ℕ). record (tx_view old) { phase = Undoing (cause.Conflict r.object r.holder n) } in
       let is : tx_view new ≡ undoing (length now.journal) = r.undoes ∙ ap undoing (sym terms.entered) in
       let met = rival_now call r.object r.holder r.conflict.met in
       let kept : KeepsSeats shared.sentinels.seats behind.sentinels.seats = λ n. ap (λ (t : Sentinels). seat_in t.seats n) r.conflict.same in
       row_same behind (with_tx job place (tx_view new)) (tx_view new) turn.Went (ap (λ (t : Sentinels). t.claims) r.conflict.same) refl
       (ap (λ (t : TxView). t.number) r.undoes) (ap (λ (t : TxView). t.held) r.undoes)
-      (asked_row s at now (moved model behind (with_tx job place (tx_view new)) now at) job place (tx_view old) (ask.Call call) has asked (inr (record {
+      (asked_row s at now (moved model behind (with_tx job place (tx_view new)) now at) job place (tx_view old) (ask.Call call) has asked
+      (called_turn (mover s at now job) (tx_view old) call (moved model behind (with_tx job place (tx_view new)) now at) ahead (inr (record {
         object = r.object;
         holder = r.holder;
         met = met;
@@ -183,7 +193,7 @@ module _ {H : Type 0} (model : HostModel H) (s : Setting) (shared : Shared H) (n
         same = has.same;
         behind = unmarked_moment behind (with_tx job place (tx_view new)) host words kept
             ∙ ap (λ (t : TxView). with_job now at (with_tx job place t)) is;
-      })))
+      }))))
 
   -- a younger one does, and is waited for
   pub told_to_wait : (behind : Shared H) (new : Tx) (call : Call) (patient : Bool) (entered : ℕ) (object : Object) (holder : ℕ)
@@ -254,7 +264,7 @@ module _ {H : Type 0} (model : HostModel H) (s : Setting) (shared : Shared H) (n
 
   -- ---- the commit, and the abort that is asked
   -- its stores are written
-  pub commits : (behind : Shared H) (new : Tx) → front_of behind ≡ front_of shared → behind.words ≡ overlaid shared.words old.writes
+  pub commits : (behind : Shared H) (new : Tx) → front_of behind ≡ front_of shared → behind.words ≡ overlaid shared.words old.writes.stores
       → behind.sentinels ≡ shared.sentinels
       → tx_view new ≡ record (tx_view old) { phase = Committing } → asks (walk_of s.script place) ≡ ask.Commit → IsPastSilent s.script place
       → IsRow (mover s at now job) (moved model behind (with_tx job place (tx_view new)) now at) turn.Went behind.sentinels.claims
@@ -266,7 +276,7 @@ module _ {H : Type 0} (model : HostModel H) (s : Setting) (shared : Shared H) (n
         same = has.same;
         settled = settled;
         behind = λ i. record now {
-          words = (words ∙ ap (λ (ws : List ℕ). overlaid ws old.writes) (sym here.words)) i;
+          words = (words ∙ ap (λ (ws : List ℕ). overlaid ws old.writes.stores) (sym here.words)) i;
           contents = (ap (told_front model) host ∙ sym here.contents) i;
           faults = (ap (λ (f : Front H). model.fault_count f.host) host ∙ sym here.faults) i;
           calls = (ap (λ (f : Front H). model.calls f.host) host ∙ sym here.calls) i;
@@ -289,17 +299,35 @@ module _ {H : Type 0} (model : HostModel H) (s : Setting) (shared : Shared H) (n
             ∙ ap (λ (t : TxView). with_job now at (with_tx job place t)) is;
       }))
 
+  -- the script asks it to go back to its block's begin
+  pub begins_back : (behind : Shared H) (new : Tx) → front_of behind ≡ front_of shared → behind.words ≡ shared.words → behind.sentinels ≡ shared.sentinels
+      → tx_view new ≡ record (tx_view old) { phase = Backing } → asks (walk_of s.script place) ≡ ask.Call call.Back → IsPastSilent s.script place
+      → IsSome (tx_view old).saved
+      → IsRow (mover s at now job) (moved model behind (with_tx job place (tx_view new)) now at) turn.Went behind.sentinels.claims
+  begins_back behind new host words same is asked settled opened =
+      row_same behind (with_tx job place (tx_view new)) (tx_view new) turn.Went (ap (λ (t : Sentinels). t.claims) same) refl
+      (ap (λ (t : TxView). t.number) is) (ap (λ (t : TxView). t.held) is)
+      (asked_row s at now (moved model behind (with_tx job place (tx_view new)) now at) job place (tx_view old) (ask.Call call.Back) has asked (record {
+        place = place;
+        same = has.same;
+        settled = settled;
+        opened = opened;
+        behind = unmarked_moment behind (with_tx job place (tx_view new)) host words (λ n. ap (λ (t : Sentinels). seat_in t.seats n) same)
+            ∙ ap (λ (t : TxView). with_job now at (with_tx job place t)) is;
+      }))
+
   -- the claims failed
-  pub unclaimed : (behind : Shared H) (new : Tx) (call : Call) (patient : Bool) (entered : ℕ) (answer : Turn) → front_of behind ≡ front_of shared
+  pub unclaimed : (behind : Shared H) (new : Tx) (call : Call) (patient : Bool) (entered : ℕ) (answer : Turn) → is_back call ≡ false
+      → front_of behind ≡ front_of shared
       → behind.words ≡ shared.words → asks (walk_of s.script place) ≡ ask.Call call → AreTerms s.rules now job patient entered
       → HasClaimed (record { old = shared.sentinels; new = behind.sentinels }) (record { old = old; new = new })
       (record { claims = claims_of call old.me.value (length shared.words); patient = patient; at = entered }) (Err answer)
       → IsRow (mover s at now job) (moved model behind (counted answer (with_tx job place (tx_view new))) now at) answer behind.sentinels.claims
-  unclaimed behind new call patient entered turn.Went host words asked terms r = refused behind new call patient entered host words asked terms r
-  unclaimed behind new call patient entered (turn.Busy object holder) host words asked terms w =
+  unclaimed behind new call patient entered turn.Went ahead host words asked terms r = refused behind new call patient entered ahead host words asked terms r
+  unclaimed behind new call patient entered (turn.Busy object holder) ahead host words asked terms w =
       told_to_wait behind new call patient entered object holder host words asked terms w
-  unclaimed behind new call patient entered turn.NoMemory host words asked terms w = wants behind new turn.NoMemory host words w.same w.undoes refl
-  unclaimed behind new call patient entered (turn.Ended end) host words asked terms r = absurd r
+  unclaimed behind new call patient entered turn.NoMemory ahead host words asked terms w = wants behind new turn.NoMemory host words w.same w.undoes refl
+  unclaimed behind new call patient entered (turn.Ended end) ahead host words asked terms r = absurd r
 
 -- ---- what is asked
 -- a transaction at a place that silent statements lead to
@@ -316,3 +344,21 @@ pub asked_walk : (script : Script) (was place : Position) (a : Ask) → IsSome (
     → a ≡ asks_from (next_body script (job_of was)) (walk_of script was) → asks (walk_of script place) ≡ a
 asked_walk script was place a left walk value =
     ap asks walk ∙ sym (asks_left (next_body script (job_of was)) (walk_of script was) left) ∙ sym value
+
+-- by the answer of a turn that may have begun a way back
+pub begun_or_wanting : (P : Turn → Type 0) (answer : Turn) → (answer ≡ turn.Went → P turn.Went)
+    → ((answer ≡ turn.Went → ⊥) → (answer ≡ turn.NoMemory) × P turn.NoMemory) → P answer
+begun_or_wanting P turn.Went went wanting = went refl
+begun_or_wanting P turn.NoMemory went wanting = (wanting (λ e. cc e)).1
+begun_or_wanting P (turn.Busy object holder) went wanting = absurd (let no = (wanting (λ e. cc e)).0 in cc no)
+begun_or_wanting P (turn.Ended end) went wanting = absurd (let no = (wanting (λ e. cc e)).0 in cc no)
+
+-- a block is open in what contracts see where one is
+pub opened_seen : (tx : Tx) (o : Option Saved) → is_some o ≡ true → IsSome (saved_in tx o)
+opened_seen tx None is = cc is
+opened_seen tx (Some kept) is = refl
+
+-- a back is one call
+pub back_is : (c : Call) → is_back c ≡ true → c ≡ call.Back
+back_is call.Back is = refl
+back_is _ is = cc is

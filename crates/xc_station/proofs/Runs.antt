@@ -15,7 +15,7 @@ use Rattle.xc_data.specs.declared.entry.Turn.{Turn}
 use Rattle.xc_data.specs.declared.undo.Undo.{Undo}
 use Rattle.xc_host.specs.Model.{HostModel}
 use Rattle.xc_model.specs.declared.phase.Phase.{Phase}
-use Rattle.xc_model.specs.declared.phase.Phase.TheVariants.{Running, Committing, Undoing}
+use Rattle.xc_model.specs.declared.phase.Phase.TheVariants.{Running, Committing, Undoing, Backing}
 use Rattle.xc_model.specs.Alone.{AreAlone}
 use Rattle.xc_data.specs.declared.call.LateCall.{LateCall}
 use Rattle.xc_model.specs.Moment.{TxView, JobView, Doing, Active, Moment, active_in, late_left}
@@ -144,6 +144,7 @@ back_goes (u ∷ pending) = refl
 -- an active transaction goes on in each phase
 pub phase_goes : (tx : TxView) (phase : Phase) → goes_on (phase_stage tx phase) ≡ true
 phase_goes tx Running = refl
+phase_goes tx Backing = refl
 phase_goes tx Committing = late_goes (late_left tx)
 phase_goes tx (Undoing c) = back_goes tx.undo.pending
 

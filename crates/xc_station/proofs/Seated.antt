@@ -11,7 +11,7 @@ use Rattle.xc_sentinel.specs.Seating.{KeepsSeats, SetsSeat, seat_in}
 use Rattle.xc_sentinel.specs.Asking.{changed, mark_of, marked_seat}
 use Rattle.xc_sentinel.specs.Asking as asking
 use Rattle.xc_model.specs.declared.phase.Phase.{Phase}
-use Rattle.xc_model.specs.declared.phase.Phase.TheVariants.{Running, Committing, Undoing}
+use Rattle.xc_model.specs.declared.phase.Phase.TheVariants.{Running, Committing, Undoing, Backing}
 use Rattle.xc_model.specs.Moment.{TxView, unmarked}
 use Rattle.xc_model.specs.RunningRows.{mark_behind, marked}
 use Rattle.xc_station.specs.Moments.{marks_of, runs, seated_as}
@@ -50,6 +50,8 @@ same_rule phase running is kept m = ap (λ (b : Bool). asking.mark_behind b kept
     by_phase : (phase : Phase) (kept : Option Mark) → asking.mark_behind (runs phase) kept m ≡ mark_behind phase kept m
     by_phase Running None = refl
     by_phase Running (Some k) = refl
+    by_phase Backing None = refl
+    by_phase Backing (Some k) = refl
     by_phase Committing None = refl
     by_phase Committing (Some k) = refl
     by_phase (Undoing c) None = refl

@@ -54,6 +54,7 @@ late_active (c ∷ cs) = refl
 
 phase_active : (tx : TxView) (p : Phase) → is_active (phase_stage tx p) ≡ true
 phase_active tx phase.Running = refl
+phase_active tx phase.Backing = refl
 phase_active tx phase.Committing = late_active (late_left tx)
 phase_active tx (phase.Undoing c) = back_active tx.undo.pending
 
@@ -92,6 +93,7 @@ back_not (u ∷ us) t other e = let both : true ≡ false = ap is_back_stage e �
 
 running_phase : (tx : TxView) (p : Phase) → phase_stage tx p ≡ stage.Running → p ≡ phase.Running
 running_phase tx phase.Running e = refl
+running_phase tx phase.Backing e = cc e
 running_phase tx phase.Committing e = absurd (late_not (late_left tx) stage.Running refl e)
 running_phase tx (phase.Undoing c) e = absurd (back_not tx.undo.pending stage.Running refl e)
 
@@ -118,6 +120,7 @@ committing_left tx (c ∷ cs) commits left e = record { tx = tx; doing = refl; p
 
 committing_phase : (tx : TxView) (p : Phase) → tx.phase ≡ p → phase_stage tx p ≡ stage.Committing → IsLating (Active tx)
 committing_phase tx phase.Running in' e = cc e
+committing_phase tx phase.Backing in' e = cc e
 committing_phase tx phase.Committing in' e = committing_left tx (late_left tx) in' refl e
 committing_phase tx (phase.Undoing c) in' e = absurd (back_not tx.undo.pending stage.Committing refl e)
 
@@ -142,6 +145,7 @@ committed_left tx (c ∷ cs) commits left e = cc e
 
 committed_phase : (tx : TxView) (p : Phase) → tx.phase ≡ p → phase_stage tx p ≡ stage.Committed → IsCommitted (Active tx)
 committed_phase tx phase.Running in' e = cc e
+committed_phase tx phase.Backing in' e = cc e
 committed_phase tx phase.Committing in' e = committed_left tx (late_left tx) in' refl e
 committed_phase tx (phase.Undoing c) in' e = absurd (back_not tx.undo.pending stage.Committed refl e)
 
@@ -169,6 +173,7 @@ undoing_left tx c (u ∷ us) in' left e = record { tx = tx; cause = c; doing = r
 
 undoing_phase : (tx : TxView) (p : Phase) → tx.phase ≡ p → phase_stage tx p ≡ stage.Undoing → IsBack (Active tx)
 undoing_phase tx phase.Running in' e = cc e
+undoing_phase tx phase.Backing in' e = cc e
 undoing_phase tx phase.Committing in' e = absurd (late_not (late_left tx) stage.Undoing refl e)
 undoing_phase tx (phase.Undoing c) in' e = undoing_left tx c tx.undo.pending in' refl e
 
@@ -194,6 +199,7 @@ undone_left tx c (u ∷ us) in' left e = cc e
 
 undone_phase : (tx : TxView) (p : Phase) → tx.phase ≡ p → phase_stage tx p ≡ stage.Undone → IsUndone (Active tx)
 undone_phase tx phase.Running in' e = cc e
+undone_phase tx phase.Backing in' e = cc e
 undone_phase tx phase.Committing in' e = absurd (late_not (late_left tx) stage.Undone refl e)
 undone_phase tx (phase.Undoing c) in' e = undone_left tx c tx.undo.pending in' refl e
 

@@ -14,6 +14,7 @@ use Rattle.xc_host.specs.Model.{HostModel}
 use Rattle.xc_script.specs.Answers.{value_in}
 use Rattle.xc_model.specs.Moment.{TxView}
 use Rattle.xc_world.specs.Effects.{takes_data}
+use Rattle.xc_world.specs.Fits.{is_back}
 use Rattle.xc_world.specs.Run.{given_back, gives, taken_by}
 use Rattle.xc_world.specs.World.{World}
 use Rattle.xc_station.specs.Acting.{Acting, HasDoneAsPlain, IsLentFor, IsSidedFor, LeavesOff}
@@ -93,13 +94,13 @@ module _ {H : Type 0} (model : HostModel H) (c : Call) (old new : Acting H) (rep
 
   -- there was nothing to give
   pub nothing_undone : (lent : IsTrue model.tells → IsLentFor old.tx.me old.tx.number c (model.contents old.host) old.kept)
-      → (behind : Acting H) → length new.tx.taken ≤ length old.tx.taken
+      → (behind : Acting H) → length new.tx.taken ≤ length old.tx.taken → is_back c ≡ false
       → behind ≡ record new { tx = record new.tx { me = old.tx.me } } → (value_in reply ≡ None → ⊥) → LeavesOff model c old behind
-  nothing_undone lent behind shorter is brings =
+  nothing_undone lent behind shorter ahead is brings =
       let none = nothing_taken shorter in
       let still : new.tx.taken ≡ old.tx.taken = noted_behind ∙ ap (λ items. old.tx.taken ++ items) none ∙ append-nil old.tx.taken in
       elim (taking_or_not (takes_data c)) [
-        | inl untaken ↦ unanswered model c old new behind reply d untaken is brings
+        | inl untaken ↦ unanswered model c old new behind reply d untaken ahead is brings
         | inr takes ↦ taking_undone model c old new behind new.kept reply takes d lent (sided_for old.tx.me c sided)
             (λ w. ap (given_back (given_back w new.kept)) (sym none))
             (is ∙ ap (λ items. record new { tx = record new.tx { me = old.tx.me; taken = items } }) still) brings

@@ -18,7 +18,7 @@ use Rattle.xc_text.specs.declared.script.Script.{Script}
 use Rattle.xc_model.specs.declared.phase.Phase.TheVariants as phase
 use Rattle.xc_script.specs.Ask.{block_place}
 use Rattle.xc_script.specs.Position.{at_begin}
-use Rattle.xc_script.specs.Slots.{kept_of}
+use Rattle.xc_script.specs.Blocks.{kept_calls}
 use Rattle.xc_model.specs.LateCalls.{started_late, started_with}
 use Rattle.xc_model.specs.Rows.{IsTurn}
 use Rattle.xc_model.specs.Entering.{behind_commit, started_job, started_jobs}
@@ -62,7 +62,7 @@ none_without script job tx is none =
 same_started : (script : Script) (job : JobView) (tx : TxView) (ends : List LateEnd) (block : List ℕ)
     → started_job script (behind_commit job (record tx { ends = ends })) block ≡ started_job script (behind_commit job tx) block
 same_started script job tx ends block =
-    let kept = kept_of tx.calls tx.replies in
+    let kept = kept_calls tx.calls tx.replies in
     let handed = sym (handed_same script job.place.variables kept ends) ∙ handed_same script job.place.variables kept tx.ends in
     λ i. record {
       block = block;

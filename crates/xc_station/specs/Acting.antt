@@ -110,9 +110,13 @@ pub record Acting (H : Type 0) : Type 0 where
   pub words : List ℕ
   pub tx : TxView
 
+-- a transaction as a call sees it, which opens and closes no block
+abbrev pub in_no_block : TxView → TxView
+in_no_block tx = record tx { saved = None }
+
 -- the same of the code's transaction
 abbrev pub acting : {H : Type 0} → H → List KeptItem → List ℕ → Tx → Acting H
-acting host kept words tx = record { host = host; kept = kept; words = words; tx = tx_view tx }
+acting host kept words tx = record { host = host; kept = kept; words = words; tx = in_no_block (tx_view tx) }
 
 -- the transaction with these parts, after a call that got this reply: its late call is kept where that is late, and what it took
 -- is noted

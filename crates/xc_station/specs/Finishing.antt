@@ -6,7 +6,7 @@ use Rattle.xc_data.specs.declared.entry.Entry.{Entry}
 use Rattle.xc_data.specs.declared.entry.Outcome.{Outcome}
 use Rattle.xc_data.specs.declared.entry.Outcome.TheVariants.{Aborted, Committed}
 use Rattle.xc_model.specs.declared.phase.Phase.{Phase}
-use Rattle.xc_model.specs.declared.phase.Phase.TheVariants.{Running, Committing, Undoing}
+use Rattle.xc_model.specs.declared.phase.Phase.TheVariants.{Running, Committing, Undoing, Backing}
 use Rattle.xc_model.specs.Moment.{TxView, JobView, Doing, Idle, Active, Starved, Ended, late_left}
 
 -- the phase of a job's active transaction
@@ -29,6 +29,7 @@ phase_at jobs number = told_at phase_in jobs number
 -- end yet
 abbrev pub left_in : TxView → Phase → Option ℕ
 left_in tx Running = None
+left_in tx Backing = None
 left_in tx Committing = Some (length (late_left tx))
 left_in tx (Undoing c) = Some (length tx.undo.pending)
 
@@ -46,6 +47,7 @@ left_at jobs number = told_at left_of jobs number
 -- what a transaction in this phase comes to
 abbrev pub ComesTo : Phase → Outcome → Type 0
 ComesTo Running outcome = ⊥
+ComesTo Backing outcome = ⊥
 ComesTo Committing (Committed late) = Unit {0}
 ComesTo Committing (Aborted report) = ⊥
 ComesTo (Undoing c) (Committed late) = ⊥

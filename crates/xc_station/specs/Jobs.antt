@@ -1,5 +1,5 @@
 -- A job and its active transaction as plain data, and what a turn of the job goes by.
-use Rattle.std.specs.Prelude.{◌≡◌, ℕ, Bool, true, false, Option, List, [], ◌∷◌, map, slice_get, if◌then◌else◌}
+use Rattle.std.specs.Prelude.{◌≡◌, ℕ, Bool, true, false, Option, List, [], ◌∷◌, ◌++◌, map, take, unwrap_or, slice_get, if◌then◌else◌}
 use Rattle.std.specs.Global.{Box}
 use Rattle.std.specs.declared.option.Option.TheVariants.{None, Some}
 use Rattle.xc_data.specs.declared.call.LateCall.{LateCall}
@@ -13,7 +13,8 @@ use Rattle.xc_world.specs.Ends.{Ending}
 use Rattle.xc_model.specs.Entering.{started_jobs}
 use Rattle.xc_model.specs.declared.phase.Phase.{Phase}
 use Rattle.xc_model.specs.declared.phase.Phase.TheVariants as phase
-use Rattle.xc_model.specs.Moment.{TxView, JobView, Doing, Idle, Active, Starved, Ended, late_left}
+use Rattle.xc_model.specs.Moment.{TxView, SavedView, JobView, Doing, Idle, Active, Starved, Ended, late_left}
+use Rattle.xc_station.specs.declared.tx.Saved.{Saved}
 use Rattle.xc_station.specs.declared.tx.Tx.{Tx}
 use Rattle.xc_station.specs.declared.job.Child.{Child}
 use Rattle.xc_station.specs.declared.job.Job.{Job}
@@ -21,6 +22,27 @@ use Rattle.xc_station.specs.declared.job.Activity.{Activity}
 use Rattle.xc_station.specs.declared.job.Activity.TheVariants as activity
 use Rattle.xc_station.specs.declared.job.Stage.{Stage}
 use Rattle.xc_station.specs.declared.job.Stage.TheVariants as stage
+
+-- ---- a transaction
+-- its records, with an end and without, in the order of the calls
+abbrev pub trail_of : Tx → List Undo
+trail_of tx = tx.undo.pending ++ map (λ (e : Ending). e.0) tx.undo.ended
+
+-- what an open block's save keeps: the first so many of each list
+abbrev pub saved_view : Tx → Saved → SavedView
+saved_view tx kept =
+    record {
+      places = kept.me.value.places;
+      writes = unwrap_or tx.writes.saved [];
+      trail = take kept.records (trail_of tx);
+      taken = take kept.taken tx.taken.items;
+      late = take kept.late tx.late.calls;
+    }
+
+-- the same, where a block is open
+abbrev pub saved_in : Tx → Option Saved → Option SavedView
+saved_in tx None = None
+saved_in tx (Some kept) = Some (saved_view tx kept)
 
 -- a transaction, without the room after its lists
 abbrev pub tx_view : Tx → TxView
@@ -31,7 +53,7 @@ tx_view tx =
       began = tx.began;
       phase = tx.phase;
       me = tx.me.value;
-      writes = tx.writes;
+      writes = tx.writes.stores;
       undo = tx.undo;
       taken = tx.taken.items;
       calls = tx.calls.items;
@@ -39,6 +61,7 @@ tx_view tx =
       held = tx.held.items;
       late = tx.late.calls;
       ends = tx.late.ends;
+      saved = saved_in tx tx.saved;
     }
 
 -- what was kept, or else this
@@ -107,6 +130,7 @@ late_stage (c ∷ cs) = stage.Committing
 -- a transaction, by its phase
 abbrev pub phase_stage : TxView → Phase → Stage
 phase_stage tx phase.Running = stage.Running
+phase_stage tx phase.Backing = stage.Backing
 phase_stage tx phase.Committing = late_stage (late_left tx)
 phase_stage tx (phase.Undoing c) = back_stage tx.undo.pending
 

@@ -1,4 +1,5 @@
 pub mod Acting
+pub mod Backs
 pub mod Beginning
 pub mod Events
 pub mod Finishing
@@ -7,6 +8,7 @@ pub mod Lent
 pub mod Moments
 pub mod Places
 pub mod PutBack
+pub mod Returning
 pub mod Starting
 pub mod Stations
 pub mod Waits

@@ -1,5 +1,6 @@
 -- A moment of a station, as one job sees it: what all jobs share, and the job itself in its place.
-use Rattle.std.specs.Prelude.{◌≡◌, ℕ, ◌+◌, ◌≤◌, Bool, true, false, List, length, All, nat_lt, slice_get, slice_set, IsSome, IsTrue, Option}
+use Rattle.std.specs.Prelude.{◌≡◌, ℕ, ◌+◌, ◌≤◌, Bool, true, false, List, length, All, nat_lt, slice_get, slice_set, is_some, IsSome, IsTrue}
+use Rattle.std.specs.Prelude.{Option}
 use Rattle.std.specs.Prelude.{Result, Ok, Err}
 use Rattle.std.specs.declared.option.Option.TheVariants.{None, Some}
 use Rattle.xc_data.specs.Claims.{holding}
@@ -15,7 +16,9 @@ use Rattle.xc_host.specs.Contents.{Contents}
 use Rattle.xc_host.specs.Kept.{KeepsData, with_kept}
 use Rattle.xc_host.specs.Model.{HostModel}
 use Rattle.xc_script.specs.Ask.{next_body}
-use Rattle.xc_script.specs.Position.{Position, job_of}
+use Rattle.xc_script.specs.Asking.{asks}
+use Rattle.xc_script.specs.Blocks.{ask_fits}
+use Rattle.xc_script.specs.Position.{Position, job_of, walk_of}
 use Rattle.xc_text.specs.declared.script.Script.{Script}
 use Rattle.xc_wordlocks.specs.Met.{IsNotMet}
 use Rattle.xc_wordlocks.specs.Table.{Table, Holds, KeepsOthers, mode_in, held_mode}
@@ -26,7 +29,7 @@ use Rattle.xc_sentinel.specs.declared.sentinels.Sentinels.{Sentinels}
 use Rattle.xc_sentinel.specs.Seating.{SetsSeat, seat_in}
 use Rattle.xc_sentinel.specs.Asking.{AreGranted, Claiming, IsBusy, IsConflict, mark_of}
 use Rattle.xc_model.specs.declared.phase.Phase.{Phase}
-use Rattle.xc_model.specs.declared.phase.Phase.TheVariants.{Running, Committing, Undoing}
+use Rattle.xc_model.specs.declared.phase.Phase.TheVariants.{Running, Committing, Undoing, Backing}
 use Rattle.xc_model.specs.declared.rules.Rules.{Rules}
 use Rattle.xc_model.specs.Setting.{Setting}
 use Rattle.xc_model.specs.Moment.{TxView, JobView, Active, Moment, actives, waiting}
@@ -56,6 +59,7 @@ seated_as (Some seat) = Some (seat.rank, seat.running)
 -- a transaction in this phase runs
 abbrev pub runs : Phase → Bool
 runs Running = true
+runs Backing = true
 runs Committing = false
 runs (Undoing c) = false
 
@@ -223,6 +227,9 @@ pub record CanRun {H : Type 0} (script : Script) (model : HostModel H) (shared :
   pub tx : TxView
   pub doing : job.doing ≡ Active tx
   pub left : IsSome (next_body script (job_of job.place))
+  -- what is asked fits the block that is open, in the script as in the transaction
+  pub fits : ask_fits (is_some tx.saved) (asks (walk_of script job.place)) ≡ true
+  pub together : is_some job.place.saved ≡ is_some tx.saved
   pub may : MayGo (length shared.words) tx
   pub ready : IsTrue model.tells → AreReadyFor tx (model.contents shared.host)
   pub needs : IsTrue model.tells → HasNeeds model shared tx

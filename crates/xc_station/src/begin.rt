@@ -50,7 +50,7 @@ fn named_last(attempts: &Option<Attempts>) -> Option<(Object, u32)>
         Some(attempts) => match &attempts.last {
             Cause::Conflict { object, holder, .. } => Some((object.again(), *holder)),
             Cause::Revoked { object, by, .. } => Some((object.again(), *by)),
-            Cause::Asked | Cause::NoMemory => None,
+            Cause::Asked | Cause::NoMemory | Cause::Stuck { .. } => None,
         },
         None => None,
     }

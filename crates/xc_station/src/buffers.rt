@@ -1,4 +1,4 @@
-ghost use Rattle.std.specs.Prelude.{◌≡◌, ◌⊎◌, ◌<◌, ◌≤◌, ◌+◌, ◌^◌, ◌++◌, ◌∷◌, [], ℕ, true, false, List, All, length, Contains};
+ghost use Rattle.std.specs.Prelude.{◌≡◌, ◌⊎◌, ◌<◌, ◌≤◌, ◌+◌, ◌^◌, ◌++◌, ◌∷◌, [], ℕ, true, false, List, All, length, take, drop, Contains};
 ghost use Rattle.std.specs.Prelude.{IfOk, Ok, OnOk, OnErr, IsTrue, None};
 ghost use Rattle.xc_buffers.specs.Items.{is_fit};
 ghost use Rattle.xc_compensate.specs.Records.{Records};
@@ -150,6 +150,19 @@ impl Buffers {
     {
         taken.give_last(&mut self.kept);
         self.noted -= 1;
+    }
+
+    /// What a transaction has taken after so many notes is in front again of what is there. It takes no memory.
+    pub fn give_to(&mut self, taken: &mut Taken, mark: u32)
+        requires { length taken.old.items ≤ self.old.noted }
+        ensures given { (w : World) → given_back w self.new.kept ≡ given_back (given_back w self.old.kept) (drop mark taken.old.items) }
+        ensures among { (item : KeptItem) → Contains self.new.kept item → Contains taken.old.items item ⊎ Contains self.old.kept item }
+        ensures noted { self.new.noted + length taken.old.items ≡ self.old.noted + length taken.new.items }
+        ensures left { taken.new.items ≡ take mark taken.old.items }
+    {
+        let before = taken.count();
+        taken.give_to(&mut self.kept, mark);
+        self.noted -= before - taken.count();
     }
 
     /// What an aborted transaction took is in front again of what is there. It takes no memory.

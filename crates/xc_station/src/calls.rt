@@ -1,4 +1,5 @@
-ghost use Rattle.std.specs.Prelude.{None, ◌≡◌, ◌≢◌, ◌<◌, ◌++◌, ℕ, ◌+◌, ◌≤◌, slice_set, true, false, length, IfOk, OnOk, OnErr, IsTrue};
+ghost use Rattle.std.specs.Prelude.{None, ◌≡◌, ◌≢◌, ◌<◌, ◌++◌, ℕ, ◌+◌, ◌≤◌, slice_set, true, false, is_some, length, IfOk, OnOk, OnErr};
+ghost use Rattle.std.specs.Prelude.{IsTrue};
 ghost use Rattle.xc_data.specs.declared.call.Call.TheVariants as PlainCall;
 ghost use Rattle.xc_script.specs.declared.ask.Ask.TheVariants.{Call as AskedCall};
 ghost use Rattle.xc_script.specs.Asking.{asks};
@@ -10,12 +11,17 @@ ghost use Rattle.xc_world.specs.After.{IsMeAfter};
 ghost use Rattle.xc_data.specs.Calls.{is_late};
 ghost use Rattle.xc_model.specs.WordCalls.{is_word_call, word_reply, words_after};
 ghost use Rattle.xc_model.specs.Movers.{IsSameBegin};
-ghost use Rattle.xc_model.specs.PlainSteps.{stored_by};
+ghost use Rattle.xc_model.specs.PlainSteps.{copied, saved_by, stored_by};
+ghost use Rattle.xc_model.specs.RunningRows.{opens_or_closes, IsDoneWhere};
+ghost use Rattle.xc_script.specs.Blocks.{fits_block};
+ghost use Rattle.xc_world.specs.Fits.{is_back};
+ghost use Rattle.xc_station.specs.Backs.{HasSave};
 ghost use Rattle.xc_station.specs.Acting.{AreReadyFor, HasActedAsPlain, IsLentFor, MayGo, acting};
 ghost use Rattle.xc_station.specs.Jobs.{begun_of, tx_view};
 ghost use Rattle.xc_station.specs.Lent.{StaysBacked};
 ghost use Rattle.xc_station.specs.PutBack.{changed_at, handle_in, place_before};
 
+use crate::blocks::do_block_call;
 use crate::buffers::Buffers;
 use crate::tx::Tx;
 use std::alloc::Global;
@@ -48,8 +54,8 @@ pub struct Shared<H: Host> {
 
 // The transaction's own stores are seen.
 fn load(words: &Words, writes: &WriteSet, at: u64) -> Reply
-    requires { AreWithin (length words.now) writes.now }
-    ensures reply { result ≡ word_reply (overlaid words.now writes.now) (PlainCall.Load at) }
+    requires { AreWithin (length words.now) writes.now.stores }
+    ensures reply { result ≡ word_reply (overlaid words.now writes.now.stores) (PlainCall.Load at) }
     ensures now { is_late result ≡ false }
 {
     if words.count() as u64 <= at {
@@ -60,11 +66,13 @@ fn load(words: &Words, writes: &WriteSet, at: u64) -> Reply
 
 // A store waits for the commit.
 fn store(words: &Words, writes: &mut WriteSet, at: u64, value: u64) -> Result<Reply, NoMemory>
-    requires { AreWithin (length words.now) writes.old }
-    ensures reply { IfOk result (λ reply. reply ≡ word_reply (overlaid words.now writes.old) (PlainCall.Store at value)) }
-    ensures stores { OnOk result (writes.new ≡ writes.old ++ stored_by (length words.now) (PlainCall.Store at value)) }
-    ensures words { OnOk result (overlaid words.now writes.new ≡ words_after (overlaid words.now writes.old) (PlainCall.Store at value)) }
-    ensures err { OnErr result (writes.new ≡ writes.old) }
+    requires { AreWithin (length words.now) writes.old.stores }
+    ensures reply { IfOk result (λ reply. reply ≡ word_reply (overlaid words.now writes.old.stores) (PlainCall.Store at value)) }
+    ensures stores { OnOk result (writes.new.stores ≡ writes.old.stores ++ stored_by (length words.now) (PlainCall.Store at value)) }
+    ensures saved { writes.new.saved ≡ writes.old.saved }
+    ensures words { OnOk result
+        (overlaid words.now writes.new.stores ≡ words_after (overlaid words.now writes.old.stores) (PlainCall.Store at value)) }
+    ensures err { OnErr result (writes.new.stores ≡ writes.old.stores) }
     ensures now { IfOk result (λ reply. is_late reply ≡ false) }
 {
     if words.count() as u64 <= at {
@@ -74,7 +82,8 @@ fn store(words: &Words, writes: &mut WriteSet, at: u64, value: u64) -> Result<Re
     Ok(Reply::Done)
 }
 
-// Does a call. Where memory runs out, a part that the call did at the host is among the records.
+// Does a call, which opens and closes no block and is no back. Where memory runs out, a part that the call did at the host is among the
+// records.
 fn act<H: Host>(
     alloc: Global,
     host: &mut H,
@@ -87,7 +96,9 @@ fn act<H: Host>(
     requires ready { IsTrue H.model.tells → AreReadyFor (tx_view tx.old) (H.model.contents host.old) }
     requires lent { IsTrue H.model.tells → IsLentFor tx.old.me.value tx.old.number call.now (H.model.contents host.old) buffers.old.kept }
     requires noted { length tx.old.taken.items ≤ buffers.old.noted }
+    requires plain { (opens_or_closes call.now ≡ false) × (is_back call.now ≡ false) }
     ensures begun { (tx.new.changed ≡ tx.old.changed) × (tx.new.begun ≡ tx.old.begun) }
+    ensures save { (tx.new.saved ≡ tx.old.saved) × (tx.new.writes.saved ≡ tx.old.writes.saved) }
     ensures notes { (tx.new.calls ≡ tx.old.calls) × (tx.new.replies ≡ tx.old.replies) }
     ensures words { is_word_call call.now ≡ true → (tx.new.me ≡ tx.old.me) × (buffers.new ≡ buffers.old) }
     ensures noted { buffers.new.noted + length tx.old.taken.items ≡ buffers.old.noted + length tx.new.taken.items }
@@ -126,6 +137,8 @@ fn act<H: Host>(
         Call::XRecvmsg { h } => buffers.receive(host, taken, me, *h),
         Call::XSendmsg { h, bytes, .. } => x_sendmsg(late, me, *h, bytes),
         Call::XThreadCreate { body, .. } => x_thread_create(late, body.value()),
+        // The contract leaves none of these.
+        Call::Save | Call::Keep | Call::Back => unreachable!(),
     }
 }
 
@@ -233,11 +246,14 @@ fn do_host_call<H: Host>(
     requires ready { IsTrue H.model.tells → AreReadyFor (tx_view tx.old) (H.model.contents host.old) }
     requires lent { IsTrue H.model.tells → IsLentFor tx.old.me.value tx.old.number call.now (H.model.contents host.old) buffers.old.kept }
     requires noted { length tx.old.taken.items ≤ buffers.old.noted }
+    requires plain { (opens_or_closes call.now ≡ false) × (is_back call.now ≡ false) }
     ensures begun { begun_of tx.new ≡ begun_of tx.old }
     ensures notes { (tx.new.calls ≡ tx.old.calls) × (tx.new.replies ≡ tx.old.replies) }
     ensures walk { IfOk result (λ reply. walk_of script.now place.new ≡ answered (walk_of script.now place.old) reply) }
     ensures nearer { OnOk result (place.old.at < place.new.at) }
     ensures begin { IsSameBegin place.old place.new }
+    ensures values { place.new.saved ≡ place.old.saved }
+    ensures save { (tx.new.saved ≡ tx.old.saved) × (tx.new.writes.saved ≡ tx.old.writes.saved) }
     ensures err_place { OnErr result (place.new ≡ place.old) }
     ensures noted { buffers.new.noted + length tx.old.taken.items ≡ buffers.old.noted + length tx.new.taken.items }
     ensures backs { IsTrue H.model.tells → StaysBacked (H.model.contents host.old) buffers.old.kept buffers.new.kept }
@@ -258,7 +274,14 @@ fn do_host_call<H: Host>(
     Ok(reply)
 }
 
-/// Does the call that is asked, and goes on after its reply. Without memory the place is as it was, and so are the
+// A call that opens or closes an inner block.
+fn is_block_end(call: &Call) -> bool
+    ensures { result ≡ opens_or_closes call.now }
+{
+    matches!(call, Call::Save | Call::Keep)
+}
+
+/// Does the call that is asked, which is no back, and goes on after its reply. Without memory the place is as it was, and so are the
 /// handles, also where it is wanting after the call, for the variable that takes the reply.
 pub fn do_call<H: Host>(
     alloc: Global,
@@ -276,17 +299,29 @@ pub fn do_call<H: Host>(
     requires ready { IsTrue H.model.tells → AreReadyFor (tx_view tx.old) (H.model.contents host.old) }
     requires lent { IsTrue H.model.tells → IsLentFor tx.old.me.value tx.old.number call.now (H.model.contents host.old) buffers.old.kept }
     requires noted { length tx.old.taken.items ≤ buffers.old.noted }
+    requires ahead { is_back call.now ≡ false }
+    requires fits { fits_block (is_some tx.old.saved) call.now ≡ true }
+    requires together { is_some place.old.saved ≡ is_some tx.old.saved }
+    requires save { HasSave tx.old tx.old.saved }
     ensures begun { begun_of tx.new ≡ begun_of tx.old }
     ensures notes { (tx.new.calls ≡ tx.old.calls) × (tx.new.replies ≡ tx.old.replies) }
     ensures walk { IfOk result (λ reply. walk_of script.now place.new ≡ answered (walk_of script.now place.old) reply) }
     ensures nearer { OnOk result (place.old.at < place.new.at) }
     ensures begin { IsSameBegin place.old place.new }
+    ensures values { OnOk result (place.new.saved ≡ saved_by call.now place.old.saved (walk_of script.now place.old).variables.values) }
+    ensures saved { OnOk result ((tx_view tx.new).saved ≡ saved_by call.now (tx_view tx.old).saved (copied (tx_view tx.new))) }
+    ensures err_saved { OnErr result ((tx_view tx.new).saved ≡ (tx_view tx.old).saved) }
+    ensures save { HasSave tx.new tx.new.saved }
+    ensures blocks { IfOk result (IsDoneWhere (opens_or_closes call.now)) }
     ensures err_place { OnErr result (place.new ≡ place.old) }
     ensures noted { buffers.new.noted + length tx.old.taken.items ≡ buffers.old.noted + length tx.new.taken.items }
     ensures backs { IsTrue H.model.tells → StaysBacked (H.model.contents host.old) buffers.old.kept buffers.new.kept }
     ensures acted { HasActedAsPlain H.model call.now (acting host.old buffers.old.kept words.now tx.old)
         (acting host.new buffers.new.kept words.now tx.new) result }
 {
+    if is_block_end(call) {
+        return do_block_call(alloc, script, place, tx, call);
+    }
     if !is_on_words(call) {
         return do_host_call(alloc, host, buffers, words, script, place, tx, call);
     }

@@ -155,7 +155,8 @@ fn go_back(job: &mut Job, rank: u32, cause: Cause)
 {
     match cause {
         Cause::NoMemory => job.activity = Activity::Starved,
-        Cause::Asked => {
+        // A block that got stuck is not tried again: another try would find what remains.
+        Cause::Asked | Cause::Stuck { .. } => {
             job.place.back();
             go_on(&mut job.place, &mut job.attempts);
         }

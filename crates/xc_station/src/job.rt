@@ -47,6 +47,8 @@ pub struct Job {
 pub enum Stage {
     Idle,
     Running,
+    /// A block goes back.
+    Backing,
     /// A late call has no end yet.
     Committing,
     /// Every late call has its end.
@@ -64,6 +66,7 @@ fn phase_now(tx: &Tx) -> Stage
 {
     match &tx.phase {
         Phase::Running => Stage::Running,
+        Phase::Backing => Stage::Backing,
         Phase::Committing => {
             if tx.late.has_left() {
                 return Stage::Committing;
@@ -103,6 +106,7 @@ impl Job {
     pub fn wait(&mut self)
         requires { self.old.busy + 1 < 2 ^ 32 }
         ensures waits { job_view self.new ≡ waiting (job_view self.old) }
+        ensures kept { (self.new.tx ≡ self.old.tx) × (self.new.activity ≡ self.old.activity) }
         ensures children { self.new.children.items ≡ self.old.children.items }
     {
         self.busy += 1;

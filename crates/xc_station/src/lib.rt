@@ -1,7 +1,9 @@
 //! The core: jobs take turns, each turn one row of the table of turns, and the journal tells what they did.
 #![tactic(auto)]
 
+mod backing;
 mod begin;
+mod blocks;
 mod buffers;
 mod calls;
 mod close;

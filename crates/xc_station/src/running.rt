@@ -1,9 +1,11 @@
-ghost use Rattle.std.specs.Prelude.{◌≡◌, ◌≢◌, ◌+◌, ◌<◌, ◌≤◌, ◌^◌, [], ℕ, length, true, IsSome, IsTrue, Some};
+ghost use Rattle.std.specs.Prelude.{◌≡◌, ◌≢◌, ◌+◌, ◌<◌, ◌≤◌, ◌^◌, [], ℕ, length, is_some, true, false, IsSome, IsTrue, Some};
 ghost use Rattle.xc_data.specs.declared.entry.Cause.TheVariants as PlainCause;
 ghost use Rattle.xc_script.specs.declared.ask.Ask.TheVariants.{Call as AskedCall};
 ghost use Rattle.xc_script.specs.Asking.{asks};
+ghost use Rattle.xc_script.specs.Blocks.{ask_fits, fits_block};
 ghost use Rattle.xc_script.specs.Ask.{next_body};
 ghost use Rattle.xc_script.specs.Position.{walk_of, job_of, IsPastSilent};
+ghost use Rattle.xc_world.specs.Fits.{is_back};
 ghost use Rattle.xc_world.specs.Modes.{claims_of};
 ghost use Rattle.xc_model.specs.declared.phase.Phase.TheVariants as PlainPhase;
 ghost use Rattle.xc_model.specs.declared.rules.Rules.{Rules as PlainRules};
@@ -12,12 +14,14 @@ ghost use Rattle.xc_data.specs.declared.object.Object.{Object};
 ghost use Rattle.xc_model.specs.Setting.{setting};
 ghost use Rattle.xc_model.specs.Movers.{with_tx, mover};
 ghost use Rattle.xc_station.specs.Acting.{AreReadyFor, MayGo};
+ghost use Rattle.xc_station.specs.Backs.{BacksSafely, CanGoBack, HasSave};
 ghost use Rattle.xc_station.specs.Jobs.{begun_of, job_view, tx_view};
 ghost use Rattle.xc_station.specs.Moments.{AreTerms, CanRun, HasClaimed, HasNeeds, HasTx, IsAt, IsRow, IsRunningRow, KeepsSeated, Lends};
 ghost use Rattle.xc_station.specs.Moments.{counted, front_of, marks_of, moved, runs, seated_as};
 ghost use Rattle.xc_sentinel.specs.Seating.{seat_in};
 ghost use Rattle.xc_wordlocks.specs.Table.{Holds};
 
+use crate::backing::begin_back;
 use crate::calls::{Shared, do_call};
 use crate::job::Job;
 use crate::tx::Tx;
@@ -44,10 +48,11 @@ fn touch(claims: &mut ArrayVec<Claim, 2>, words: &Words, tx: &Tx, call: &Call)
     push_claims(claims, call, &tx.me, words.count() as u32);
 }
 
-// The transaction undoes for lack of memory.
-fn abort_for_memory(tx: &mut Tx) -> Turn
+/// The transaction undoes for lack of memory.
+pub fn abort_for_memory(tx: &mut Tx) -> Turn
     ensures tx { tx_view tx.new ≡ record (tx_view tx.old) { phase = PlainPhase.Undoing PlainCause.NoMemory } }
     ensures begun { begun_of tx.new ≡ begun_of tx.old }
+    ensures save { HasSave tx.old tx.old.saved → HasSave tx.new tx.new.saved }
     ensures answer { result ≡ Turn.NoMemory }
 {
     tx.phase = Phase::Undoing(Cause::NoMemory);
@@ -60,6 +65,7 @@ fn abort_for_memory(tx: &mut Tx) -> Turn
 fn lose(tx: &mut Tx, object: &Object, holder: u32, at: u32)
     ensures tx { tx_view tx.new ≡ record (tx_view tx.old) { phase = PlainPhase.Undoing (PlainCause.Conflict object.now holder at) } }
     ensures begun { begun_of tx.new ≡ begun_of tx.old }
+    ensures save { HasSave tx.old tx.old.saved → HasSave tx.new tx.new.saved }
 {
     tx.phase = Phase::Undoing(Cause::Conflict {
         object: object.again(),
@@ -77,6 +83,8 @@ struct Terms {
     at: u32,
     // For how many calls there is to be room: for as many as its transaction may have, before the first one.
     most: u32,
+    // How often a compensation is tried.
+    tries: u32,
 }
 
 // Claims what a call touches, with room to note the call. Where another holds something against it the transaction waits, if that
@@ -95,6 +103,7 @@ fn claim<H: Host>(
         (record { old = tx.old; new = tx.new })
         (record { claims = claims_of call.now tx.old.me.value (length shared.old.words); patient = terms.patient; at = terms.at }) result }
     ensures begun { begun_of tx.new ≡ begun_of tx.old }
+    ensures save { HasSave tx.old tx.old.saved → HasSave tx.new tx.new.saved }
 {
     let mut touched = ArrayVec::new();
     touch(&mut touched, &shared.words, tx, call);
@@ -127,6 +136,10 @@ fn try_call<H: Host>(
     call: Call,
 ) -> Turn
     requires asked { asks (walk_of script.now place.old) ≡ AskedCall call }
+    requires ahead { is_back call ≡ false }
+    requires fits { fits_block (is_some tx.old.saved) call ≡ true }
+    requires together { is_some place.old.saved ≡ is_some tx.old.saved }
+    requires save { HasSave tx.old tx.old.saved }
     requires settled { IsPastSilent script.now place.old }
     requires may { MayGo (length shared.old.words) (tx_view tx.old) }
     requires count { length shared.old.words ≤ 4096 }
@@ -142,6 +155,7 @@ fn try_call<H: Host>(
     ensures lends { Lends H.model (record { old = front_of shared.old; new = front_of shared.new })
         (record { old = tx_view tx.old; new = tx_view tx.new }) }
     ensures begun { begun_of tx.new ≡ begun_of tx.old }
+    ensures backs { runs tx.new.phase ≡ true → CanGoBack terms.tries tx.new }
     ensures row { (rules : PlainRules) (now : Moment) (at : ℕ) (job : JobView) → let s = setting script.now rules H.model.tells in
         IsAt H.model shared.old now at job → HasTx s job place.old (tx_view tx.old) → AreTerms rules now job terms.patient terms.at
         → IsRow (mover s at now job) (moved H.model shared.new (counted result (with_tx job place.new (tx_view tx.new))) now at) result
@@ -165,6 +179,53 @@ fn try_call<H: Host>(
     }
 }
 
+fn is_back(call: &Call) -> bool
+    ensures { result ≡ is_back call.now }
+{
+    matches!(call, Call::Back)
+}
+
+// The turn of a running transaction whose call is asked: with a back its block begins to go back.
+fn step_call<H: Host>(
+    alloc: Global,
+    shared: &mut Shared<H>,
+    script: &Script,
+    terms: Terms,
+    place: &mut JobState,
+    tx: &mut Tx,
+    call: Call,
+) -> Turn
+    requires asked { asks (walk_of script.now place.old) ≡ AskedCall call }
+    requires fits { fits_block (is_some tx.old.saved) call ≡ true }
+    requires together { is_some place.old.saved ≡ is_some tx.old.saved }
+    requires save { HasSave tx.old tx.old.saved }
+    requires settled { IsPastSilent script.now place.old }
+    requires may { MayGo (length shared.old.words) (tx_view tx.old) }
+    requires count { length shared.old.words ≤ 4096 }
+    requires ready { IsTrue H.model.tells → AreReadyFor (tx_view tx.old) (H.model.contents shared.old.host) }
+    requires needs { IsTrue H.model.tells → HasNeeds H.model shared.old (tx_view tx.old) }
+    requires noted { length tx.old.taken.items ≤ shared.old.buffers.noted }
+    requires holds { Holds shared.old.sentinels.claims tx.old.number tx.old.held.items }
+    ensures words { shared.new.words ≡ shared.old.words }
+    ensures started { shared.new.started ≡ shared.old.started }
+    ensures plan { H.model.plan shared.new.host ≡ H.model.plan shared.old.host }
+    ensures seats { KeepsSeated shared.old.sentinels.seats shared.new.sentinels.seats }
+    ensures waits { (object : Object) (holder : ℕ) → result ≡ Turn.Busy object holder → terms.patient ≡ true }
+    ensures lends { Lends H.model (record { old = front_of shared.old; new = front_of shared.new })
+        (record { old = tx_view tx.old; new = tx_view tx.new }) }
+    ensures begun { begun_of tx.new ≡ begun_of tx.old }
+    ensures backs { runs tx.new.phase ≡ true → CanGoBack terms.tries tx.new }
+    ensures row { (rules : PlainRules) (now : Moment) (at : ℕ) (job : JobView) → let s = setting script.now rules H.model.tells in
+        IsAt H.model shared.old now at job → HasTx s job place.old (tx_view tx.old) → AreTerms rules now job terms.patient terms.at
+        → IsRow (mover s at now job) (moved H.model shared.new (counted result (with_tx job place.new (tx_view tx.new))) now at) result
+        shared.new.sentinels.claims }
+{
+    if is_back(&call) {
+        return begin_back(terms.tries, tx);
+    }
+    try_call(alloc, shared, script, terms, place, tx, call)
+}
+
 // What a running transaction does next: the call that is asked, or it enters its commit, which writes its
 // stores, or its rollback.
 #[inline(always)]
@@ -177,6 +238,9 @@ fn step_running<H: Host>(
     tx: &mut Tx,
 ) -> Turn
     requires left { IsSome (next_body script.now (job_of place.old)) }
+    requires fits { ask_fits (is_some tx.old.saved) (asks (walk_of script.now place.old)) ≡ true }
+    requires together { is_some place.old.saved ≡ is_some tx.old.saved }
+    requires save { HasSave tx.old tx.old.saved }
     requires may { MayGo (length shared.old.words) (tx_view tx.old) }
     requires count { length shared.old.words ≤ 4096 }
     requires ready { IsTrue H.model.tells → AreReadyFor (tx_view tx.old) (H.model.contents shared.old.host) }
@@ -191,6 +255,7 @@ fn step_running<H: Host>(
     ensures lends { Lends H.model (record { old = front_of shared.old; new = front_of shared.new })
         (record { old = tx_view tx.old; new = tx_view tx.new }) }
     ensures begun { begun_of tx.new ≡ begun_of tx.old }
+    ensures backs { runs tx.new.phase ≡ true → CanGoBack terms.tries tx.new }
     ensures row { (rules : PlainRules) (now : Moment) (at : ℕ) (job : JobView) → let s = setting script.now rules H.model.tells in
         IsAt H.model shared.old now at job → job.doing ≡ Active (tx_view tx.old) → job.place ≡ place.old
         → AreTerms rules now job terms.patient terms.at
@@ -198,7 +263,7 @@ fn step_running<H: Host>(
         shared.new.sentinels.claims }
 {
     match place.ask(script) {
-        Ok(Ask::Call(call)) => try_call(alloc, shared, script, terms, place, tx, call),
+        Ok(Ask::Call(call)) => step_call(alloc, shared, script, terms, place, tx, call),
         Ok(Ask::Commit) => {
             tx.writes.apply(&mut shared.words);
             tx.phase = Phase::Committing;
@@ -213,9 +278,9 @@ fn step_running<H: Host>(
     }
 }
 
-// A transaction that no longer runs is known as one that doesn't.
+/// A transaction that no longer runs is known as one that doesn't.
 #[inline(always)]
-fn settle(sentinels: &mut Sentinels, tx: &Tx)
+pub fn settle(sentinels: &mut Sentinels, tx: &Tx)
     ensures claims { sentinels.new.claims ≡ sentinels.old.claims }
     ensures marks { marks_of sentinels.new.seats ≡ marks_of sentinels.old.seats }
     ensures others { (n : ℕ) → n ≢ tx.now.number → seated_as (seat_in sentinels.new.seats n) ≡ seated_as (seat_in sentinels.old.seats n) }
@@ -223,15 +288,15 @@ fn settle(sentinels: &mut Sentinels, tx: &Tx)
         → seated_as (seat_in sentinels.new.seats tx.now.number) ≡ Some (rank, runs tx.now.phase) }
 {
     match &tx.phase {
-        Phase::Running => {}
+        Phase::Running | Phase::Backing => {}
         Phase::Committing | Phase::Undoing(_) => sentinels.settle(tx.number),
     }
 }
 
-// The turn of a job whose transaction is marked: it undoes.
+/// The turn of a job whose transaction is marked: it undoes.
 #[cold]
 #[inline(never)]
-fn revoke(tx: &mut Tx, mark: &Mark) -> Turn
+pub fn revoke(tx: &mut Tx, mark: &Mark) -> Turn
     ensures tx { tx_view tx.new ≡ record (tx_view tx.old) { phase = PlainPhase.Undoing (revoked mark.now) } }
     ensures begun { begun_of tx.new ≡ begun_of tx.old }
     ensures answer { result ≡ Turn.Went }
@@ -249,6 +314,7 @@ fn count_wait(job: &mut Job, answer: &Turn)
     requires { (object : Object) (holder : ℕ) → answer.now ≡ Turn.Busy object holder → job.old.busy + 1 < 2 ^ 32 }
     ensures counted { job_view job.new ≡ counted answer.now (job_view job.old) }
     ensures block { job.new.block ≡ job.old.block }
+    ensures kept { (job.new.tx ≡ job.old.tx) × (job.new.activity ≡ job.old.activity) }
     ensures children { job.new.children.items ≡ job.old.children.items }
 {
     match answer {
@@ -278,10 +344,12 @@ pub fn run<H: Host>(
 ) -> Turn
     requires running { CanRun script.now H.model shared.old (job_view job.old) }
     requires count { length shared.old.words ≤ 4096 }
+    requires save { HasSave job.old.tx job.old.tx.saved }
     ensures count { length shared.new.words ≡ length shared.old.words }
     ensures started { shared.new.started ≡ shared.old.started }
     ensures plan { H.model.plan shared.new.host ≡ H.model.plan shared.old.host }
     ensures block { job.new.block ≡ job.old.block }
+    ensures backs { BacksSafely rules.now.undo_tries job.new }
     ensures children { job.new.children.items ≡ job.old.children.items }
     ensures lends { (tx : TxView) → (job_view job.old).doing ≡ Active tx → (behind : TxView) × ((job_view job.new).doing ≡ Active behind)
         × Lends H.model (record { old = front_of shared.old; new = front_of shared.new }) (record { old = tx; new = behind }) }
@@ -299,6 +367,7 @@ pub fn run<H: Host>(
         patient: job.busy < rules.patience,
         at: entered,
         most: calls_ahead(job, script),
+        tries: rules.undo_tries,
     };
     let Job { place, tx, .. } = job;
     let answer = step_running(alloc, shared, script, terms, place, tx);

@@ -56,6 +56,7 @@ impl<H: Host> Model for Station<H> {
     ghost use Rattle.xc_script.specs.Position.{coded_position};
     ghost use Rattle.xc_sentinel.specs.Seated.{coded_seats};
     ghost use Rattle.xc_model.specs.Setting.{setting};
+    ghost use Rattle.xc_station.specs.Backs.{AllBackSafely};
     ghost use Rattle.xc_station.specs.Jobs.{job_views};
     ghost use Rattle.xc_station.specs.Lent.{AreBacked};
     ghost use Rattle.xc_station.specs.Places.{IndexesBlocks};
@@ -88,7 +89,8 @@ impl<H: Host> Model for Station<H> {
         × (H.model.plan s.shared.host ≡ plan_of s.opening.script.outline.prologue)
         × (IsTrue H.model.tells → AreBacked (H.model.contents s.shared.host) s.shared.buffers.kept (job_views s.jobs.items))
         × IndexesBlocks s.opening.script s.places
-        × HasStarts s.opening.script s.shared.started.items s.jobs.items (room_of s.jobs s.lines s.ahead) };
+        × HasStarts s.opening.script s.shared.started.items s.jobs.items (room_of s.jobs s.lines s.ahead)
+        × AllBackSafely s.rules.undo_tries s.jobs.items };
 }
 
 impl<H: Host> Station<H> {

@@ -7,6 +7,7 @@ ghost use Rattle.xc_model.specs.IdleRows.{new_tx};
 ghost use Rattle.xc_station.specs.Jobs.{begun_of, kept_or, outcome_in, tx_view};
 ghost use Rattle.xc_wordlocks.specs.Table.{Holds};
 ghost use Rattle.xc_station.specs.Acting.{HasRoom, HasNoteRoom};
+ghost use Rattle.xc_station.specs.Backs.{HasSave};
 ghost use Rattle.xc_station.specs.Moments.{Frees};
 
 use std::alloc::Global;
@@ -20,6 +21,15 @@ use xc_roomy::Roomy;
 use xc_sentinel::Sentinels;
 use xc_txmem::WriteSet;
 use xc_wordlocks::Holding;
+
+/// What an inner block's save keeps of a transaction: its handles, and how many records, notes and late calls it had.
+#[derive(Drop)]
+pub struct Saved {
+    pub me: Box<Private>,
+    pub records: u32,
+    pub taken: u32,
+    pub late: u32,
+}
 
 /// A job's transaction, with what its entry will say. It lies in its job for all of the job's transactions, and with it
 /// the job's handles: no begin and no end copies them. These have places of their
@@ -49,6 +59,8 @@ pub struct Tx {
     pub taken: Taken,
     /// The handles of the begin, where one may have. Their place is made when the first call of the job may change one.
     pub begun: Option<Box<Private>>,
+    /// In an open block what its save kept; the stores keep their own.
+    pub saved: Option<Saved>,
 }
 
 // The outcome of a transaction that ends in this phase, with the ends of its records or of its late calls. Records that
@@ -82,6 +94,7 @@ impl Tx {
             me: Box::new(alloc, *me)?,
             changed: false,
             begun: None,
+            saved: None,
             writes: WriteSet::new(alloc),
             undo: Stack::new(alloc),
             late: Late::new(alloc),
@@ -116,6 +129,7 @@ impl Tx {
             self.take_handles_back();
         }
         self.changed = false;
+        self.saved = None;
         self.writes.clear();
         self.undo.clear();
         self.late = Late::new(alloc);
@@ -131,6 +145,7 @@ impl Tx {
         ensures begun { begun_of self.new ≡ begun_of self.old }
         ensures changed { OnOk result (self.new.changed ≡ true) }
         ensures kept { OnOk result (IsSome self.new.begun) }
+        ensures save { (self.new.saved ≡ self.old.saved) × (self.new.writes.saved ≡ self.old.writes.saved) }
         ensures notes { (self.new.calls ≡ self.old.calls) × (self.new.replies ≡ self.old.replies) }
     {
         match &mut self.begun {
@@ -158,6 +173,7 @@ impl Tx {
     fn make_room(&mut self, calls: u32) -> Result<(), NoMemory>
         ensures same { tx_view self.new ≡ tx_view self.old }
         ensures begun { begun_of self.new ≡ begun_of self.old }
+        ensures save { HasSave self.old self.old.saved → HasSave self.new self.new.saved }
     {
         self.calls.reserve(calls)?;
         self.replies.reserve(calls)?;
@@ -170,6 +186,7 @@ impl Tx {
         ensures ok { OnOk result (HasRoom self.new claims.now) }
         ensures same { tx_view self.new ≡ tx_view self.old }
         ensures begun { begun_of self.new ≡ begun_of self.old }
+        ensures save { HasSave self.old self.old.saved → HasSave self.new self.new.saved }
     {
         if self.calls.is_empty() {
             self.make_room(most)?;
@@ -187,6 +204,7 @@ impl Tx {
           replies = self.old.replies.items ++ reply ∷ [];
         } }
         ensures begun { begun_of self.new ≡ begun_of self.old }
+        ensures save { HasSave self.old self.old.saved → HasSave self.new self.new.saved }
     {
         self.calls.enter(call);
         self.replies.enter(reply);
@@ -205,6 +223,7 @@ impl Tx {
         let late = mem::replace(&mut self.late, Late::new(alloc));
         let held = mem::replace(&mut self.held, Holding::new(alloc));
         let outcome = outcome_of(alloc, &self.phase, &mut self.undo, late);
+        self.saved = None;
         self.undo.clear();
         self.writes.clear();
         Entry {

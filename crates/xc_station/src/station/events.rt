@@ -50,9 +50,13 @@ impl<H: Host> Station<H> {
     /// | running, a call is asked, and nobody holds anything against it | the call is done and noted | Went |
     /// | running, a call meets a younger holder, patience is left | it waits, and may mark the holder | Busy(the object, the holder) |
     /// | running, a call is asked, and another holds something against it otherwise | it undoes, with Conflict | Went |
+    /// | running, a back is asked | its block goes back from the next turn on | Went |
     /// | running, the commit is asked | its stores are written | Went |
     /// | running, an abort is asked | it undoes | Went |
     /// | running, no memory | nothing is noted, but what a call had done at the host is recorded; it undoes | NoMemory |
+    /// | a block goes back, marked | it undoes, with Revoked | Went |
+    /// | a block goes back, a record of it has no end | the newest such record is tried; where that fails, it undoes, with Stuck | Went |
+    /// | a block goes back, all have one | all is as at its save, the back is noted, and the script goes on behind its keep | Went |
     /// | committing, a late call has no end | the first such call is done at the host, or it starts a job | Went |
     /// | committing, all have one | the Committed entry, with its slots set; its claims end, and the jobs that it started are live | Went |
     /// | undoing, a record has no end | the newest such record is tried | Went |

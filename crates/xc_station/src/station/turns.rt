@@ -12,6 +12,7 @@ ghost use Rattle.xc_station.specs.Stations.{ChangesOne, KeepsEvents, KeepsOpenin
 ghost use Rattle.xc_station.specs.Stations.{live_at, now_of, setting_of};
 
 use crate::Station;
+use crate::backing::go_back;
 use crate::begin::begin;
 use crate::calls::Shared;
 use crate::close::{Closing, abort, commit, end_late, end_start, undo};
@@ -61,6 +62,22 @@ impl<H: Host> Station<H> {
             &self.opening.script,
             &self.rules,
             entered,
+            &mut self.jobs[at],
+        )
+    }
+
+    // A block of a transaction goes back: its next record is tried, or the back is noted.
+    #[inline(never)]
+    fn backing(&mut self, at: usize) -> Turn
+        requires { IsStage self.old.jobs at PlainStage.Backing }
+        ensures same { KeepsOpening self.old self.new }
+        ensures quiet { KeepsEvents self.old self.new }
+        ensures row { IsTurn (setting_of H.model self.old) at (now_of H.model self.old) result (now_of H.model self.new) }
+    {
+        go_back(
+            &mut self.shared,
+            &self.opening.script,
+            &self.rules,
             &mut self.jobs[at],
         )
     }
@@ -204,6 +221,7 @@ impl<H: Host> Station<H> {
         match self.jobs[at].stage() {
             Stage::Idle => self.idle(at),
             Stage::Running => self.running(at),
+            Stage::Backing => self.backing(at),
             Stage::Committing => self.committing(at),
             Stage::Committed => self.committed(at),
             Stage::Undoing => self.undoing(at),

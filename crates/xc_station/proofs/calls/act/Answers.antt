@@ -32,7 +32,7 @@ returns-in-XOpen-clause-acted g c =
     let same = c.deref_mut.ensures.value in
     let stored = ap (λ (me : Private). me.stored) same in
     file_acted_at g.H.Host.model _ _ _ _ _ _ same (c.in-XOpen.is ∙ ap call.XOpen (sym c.value.ensures))
-    refl refl refl refl (e.call c.args.tx.now.number c.args.tx.now.undo) refl
+    refl refl refl refl refl (e.call c.args.tx.now.number c.args.tx.now.undo) refl
     (omega (arith, e.same.0, stored, c.requires.may.stored)) e.now
 
 pub returns-in-XCreate-clause-acted : goal.returns-in-XCreate-clause-acted
@@ -40,41 +40,41 @@ returns-in-XCreate-clause-acted g c =
     let e = c.x_create.ensures in
     let same = c.deref_mut-in-XCreate.ensures.value in
     let stored = ap (λ (me : Private). me.stored) same in
-    file_acted_at g.H.Host.model _ _ _ _ _ _ same c.in-XCreate.is refl refl refl refl
+    file_acted_at g.H.Host.model _ _ _ _ _ _ same c.in-XCreate.is refl refl refl refl refl
     e.call refl (omega (arith, e.stored, stored, c.requires.may.stored)) e.now
 
 pub returns-in-XRead-clause-acted : goal.returns-in-XRead-clause-acted
 returns-in-XRead-clause-acted g c =
     let e = c.x_read.ensures in
     file_acted_at g.H.Host.model _ _ _ _ _ _ c.deref_mut-in-XRead.ensures.value c.in-XRead.is
-    refl refl refl refl (e.call c.args.tx.now.number c.args.tx.now.undo) refl e.stored e.now
+    refl refl refl refl refl (e.call c.args.tx.now.number c.args.tx.now.undo) refl e.stored e.now
 
 pub returns-in-XWriteOvr-clause-acted : goal.returns-in-XWriteOvr-clause-acted
 returns-in-XWriteOvr-clause-acted g c =
     let e = c.x_write_ovr.ensures in
     file_acted_at g.H.Host.model _ _ _ _ _ _ c.deref_mut-in-XWriteOvr.ensures.value c.in-XWriteOvr.is
-    refl refl refl refl (e.call c.args.tx.now.number) refl e.stored e.now
+    refl refl refl refl refl (e.call c.args.tx.now.number) refl e.stored e.now
 
 pub returns-in-XSeek-clause-acted : goal.returns-in-XSeek-clause-acted
 returns-in-XSeek-clause-acted g c =
     let e = c.x_seek.ensures in
     let same = c.deref_mut-in-XSeek.ensures.value in
     let stored = ap (λ (me : Private). me.stored) same in
-    alone_acted_at g.H.Host.model _ _ _ _ _ _ same c.in-XSeek.is refl refl refl e.call (omega (arith, e.same.0, stored, c.requires.may.stored)) e.now
+    alone_acted_at g.H.Host.model _ _ _ _ _ _ same c.in-XSeek.is refl refl refl refl e.call (omega (arith, e.same.0, stored, c.requires.may.stored)) e.now
 
 pub returns-in-XClose-clause-acted : goal.returns-in-XClose-clause-acted
 returns-in-XClose-clause-acted g c =
     let e = c.x_close.ensures in
     let same = c.deref_mut-in-XClose.ensures.value in
     let stored = ap (λ (me : Private). me.stored) same in
-    alone_acted_at g.H.Host.model _ _ _ _ _ _ same c.in-XClose.is refl refl refl e.call (omega (arith, e.same.0, stored, c.requires.may.stored)) e.now
+    alone_acted_at g.H.Host.model _ _ _ _ _ _ same c.in-XClose.is refl refl refl refl e.call (omega (arith, e.same.0, stored, c.requires.may.stored)) e.now
 
 pub returns-in-XLen-clause-acted : goal.returns-in-XLen-clause-acted
 returns-in-XLen-clause-acted g c =
     let e = c.x_len.ensures in
     let old = acting c.args.host.now c.args.buffers.now.kept c.args.words.now c.args.tx.now in
     let new = record old { host = c.x_len.new.host } in
-    file_acted g.H.Host.model _ _ old new _ c.in-XLen.is refl refl refl refl
+    file_acted g.H.Host.model _ _ old new _ c.in-XLen.is refl refl refl refl refl
     (subst (λ (m : Private). IsFileCall g.H.Host.model (call.XLen c.in-XLen.h) (record (calling old) { me = m }) (record (calling new) { me = m })
     (Ok c.x_len.result)) c.deref.ensures (e.call c.args.tx.now.number c.args.tx.now.undo)) refl
     c.requires.may.stored e.now
@@ -83,14 +83,14 @@ pub returns-in-XRename-clause-acted : goal.returns-in-XRename-clause-acted
 returns-in-XRename-clause-acted g c =
     let e = c.x_rename.ensures in
     file_acted g.H.Host.model _ _ _ _ _
-    c.in-XRename.is refl refl refl refl
+    c.in-XRename.is refl refl refl refl refl
     (e.call c.args.tx.now.number c.args.tx.now.me.value) refl c.requires.may.stored e.now
 
 pub returns-in-XWriteSeq-clause-acted : goal.returns-in-XWriteSeq-clause-acted
 returns-in-XWriteSeq-clause-acted g c =
     let e = c.x_write_seq.ensures in
     file_acted_at g.H.Host.model _ _ _ _ _ _ c.deref_mut-in-XWriteSeq.ensures.value c.in-XWriteSeq.is
-    refl refl refl refl (e.call c.args.tx.now.number) refl e.stored e.now
+    refl refl refl refl refl (e.call c.args.tx.now.number) refl e.stored e.now
 
 pub returns-in-XUnlink-clause-acted : goal.returns-in-XUnlink-clause-acted
 returns-in-XUnlink-clause-acted g c =
@@ -121,7 +121,7 @@ returns-in-XPipe-clause-acted g c =
     let kept = c.args.buffers.now.kept in
     let none : IsTrue model.tells → kept_bytes (next_num tx.me tx.number) kept ≡ [] =
     λ t. (subst (IsFreeFor (model.contents c.args.host.now) kept (next_num tx.me tx.number)) c.in-XPipe.is (c.requires.lent t).free).1 in
-    made_acted model _ _ _ _ _ _ same c.in-XPipe.is refl refl refl
+    made_acted model _ _ _ _ _ _ same c.in-XPipe.is refl refl refl refl
     (e.call kept (λ t. ap (λ (me : Private). kept_bytes (next_num me tx.number) kept) same ∙ none t))
     e.keeps refl (omega (arith, e.stored, stored, c.requires.may.stored)) e.now
 
@@ -135,7 +135,7 @@ returns-in-XPair-clause-acted g c =
     let kept = c.args.buffers.now.kept in
     let none : IsTrue model.tells → keeps_pair (next_num tx.me tx.number) kept ≡ false =
     λ t. (subst (IsFreeFor (model.contents c.args.host.now) kept (next_num tx.me tx.number)) c.in-XPair.is (c.requires.lent t).free).1 in
-    made_acted model _ _ _ _ _ _ same c.in-XPair.is refl refl refl
+    made_acted model _ _ _ _ _ _ same c.in-XPair.is refl refl refl refl
     (e.call kept (λ t. ap (λ (me : Private). keeps_pair (next_num me tx.number) kept) same ∙ none t))
     e.keeps refl (omega (arith, e.stored, stored, c.requires.may.stored)) e.now
 

@@ -4,7 +4,7 @@ use Rattle.xc_data.specs.declared.private.Private.{Private}
 use Rattle.xc_model.specs.Moment.{TxView}
 use Rattle.xc_world.specs.After.{IsMeAfter}
 use Rattle.xc_world.specs.Run.{given_back}
-use Rattle.xc_station.specs.Acting.{acting, HasActedAsPlain, HasDoneAsPlain, LeavesOff}
+use Rattle.xc_station.specs.Acting.{acting, in_no_block, HasActedAsPlain, HasDoneAsPlain, LeavesOff}
 use Rattle.xc_station.specs.Lent.{Lent, StaysBacked}
 use Rattle.xc_station.specs.PutBack.{place_before}
 use Rattle.xc_station.specs.declared.calls.Before.{Before}
@@ -20,7 +20,7 @@ returns-in_err-keep-clause-acted g c =
     let model = g.H.Host.model in
     let old = acting c.args.host.now c.args.buffers.now.kept c.args.words.now c.args.tx.now in
     unanswered_so model c.args.call.now old _ c.from_residual.result c.from_residual.ensures.0
-    (subst (λ (t : TxView). LeavesOff model c.args.call.now old (record old { tx = t })) (sym c.in_err-keep.ensures.tx)
+    (subst (λ (t : TxView). LeavesOff model c.args.call.now old (record old { tx = t })) (sym (ap in_no_block c.in_err-keep.ensures.tx))
     (nothing_left model c.args.call.now old))
 
 pub returns-then-is_err-clause-noted : goal.returns-then-is_err-clause-noted
@@ -31,7 +31,7 @@ returns-then-is_err-clause-noted g c =
     let old = acting c.args.host.now c.args.buffers.now.kept c.args.words.now c.args.tx.now in
     let done = acting c.act.new.host c.act.new.buffers.kept c.args.words.now c.act.new.tx in
     let did : HasDoneAsPlain model call old done reply =
-    subst (λ (t : TxView). HasDoneAsPlain model call (record old { tx = t }) done reply) c.keep.ensures.tx c.in_ok-reply.ensures.acted in
+    subst (λ (t : TxView). HasDoneAsPlain model call (record old { tx = t }) done reply) (ap in_no_block c.keep.ensures.tx) c.in_ok-reply.ensures.acted in
     let held = ap (λ (t : TxView). length t.taken) c.keep.ensures.tx in
     let counts = c.in_ok-reply.ensures.noted in
     elim c.if-noted.branch [
@@ -60,7 +60,7 @@ returns-then-is_err-clause-acted g c =
     let behind = acting c.act.new.host c.if-noted.buffers.kept c.args.words.now c.if-noted.tx in
     let acted = c.in_ok-reply.ensures.acted in
     let did : HasDoneAsPlain model call old done reply = subst
-    (λ (t : TxView). HasDoneAsPlain model call (record old { tx = t }) done reply) c.keep.ensures.tx acted in
+    (λ (t : TxView). HasDoneAsPlain model call (record old { tx = t }) done reply) (ap in_no_block c.keep.ensures.tx) acted in
     let was = c.keep.new.self.me.value in
     let stood = c.state_before-before.ensures
     ∙ ap (λ (me : Private). let b : Before = record { place = place_before call me.places; made = me.made; stored = me.stored } in b)
@@ -82,7 +82,7 @@ returns-then-is_err-clause-acted g c =
             tx = record done.tx { me = back i; taken = sym (ap (λ (t : Tx). t.taken.items) w.tx-is) i };
           })) brings
       | else-noted w ↦ nothing_undone model call old done reply did c.requires.may.sided c.requires.lent behind
-          (let more = w.if-noted.false in omega (arith, held, counts, more, c.noted.ensures, c.noted-noted.ensures))
+          (let more = w.if-noted.false in omega (arith, held, counts, more, c.noted.ensures, c.noted-noted.ensures)) c.requires.plain.1
           ((λ i. acting c.act.new.host (w.buffers-is i).kept c.args.words.now (w.tx-is i)) ∙ (λ i. record done { tx = record done.tx { me = back i } })) brings
     ]
 
@@ -94,7 +94,7 @@ returns-then-is_err-clause-backs g c = λ tells.
     let old = acting c.args.host.now c.args.buffers.now.kept c.args.words.now c.args.tx.now in
     let done = acting c.act.new.host c.act.new.buffers.kept c.args.words.now c.act.new.tx in
     let did : HasDoneAsPlain model call old done reply =
-    subst (λ (t : TxView). HasDoneAsPlain model call (record old { tx = t }) done reply) c.keep.ensures.tx c.in_ok-reply.ensures.acted in
+    subst (λ (t : TxView). HasDoneAsPlain model call (record old { tx = t }) done reply) (ap in_no_block c.keep.ensures.tx) c.in_ok-reply.ensures.acted in
     let held = ap (λ (t : TxView). length t.taken) c.keep.ensures.tx in
     let counts = c.in_ok-reply.ensures.noted in
     let stays : StaysBacked (model.contents c.args.host.now) c.args.buffers.now.kept c.act.new.buffers.kept = c.in_ok-reply.ensures.backs tells in
@@ -110,4 +110,5 @@ returns-clause-acted g c =
     let model = g.H.Host.model in
     subst (λ (t : TxView). HasActedAsPlain model c.args.call.now
     (record (acting c.args.host.now c.args.buffers.now.kept c.args.words.now c.args.tx.now) { tx = t })
-    (acting c.act.new.host c.act.new.buffers.kept c.args.words.now c.act.new.tx) (Ok c.in_ok-reply.reply)) c.keep.ensures.tx c.in_ok-reply.ensures.acted
+    (acting c.act.new.host c.act.new.buffers.kept c.args.words.now c.act.new.tx) (Ok c.in_ok-reply.reply)) (ap in_no_block c.keep.ensures.tx)
+    c.in_ok-reply.ensures.acted

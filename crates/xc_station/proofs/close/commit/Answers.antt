@@ -1,6 +1,7 @@
 use Rattle.std.proofs.Common.{◌≡◌, ◌+◌, ap, sym, ◌∙◌, subst}
 use Rattle.xc_script.specs.Position.{Position, at_begin}
-use Rattle.xc_script.specs.Slots.{kept_of, with_ends}
+use Rattle.xc_script.specs.Blocks.{kept_calls}
+use Rattle.xc_script.specs.Slots.{with_ends}
 use Rattle.xc_model.specs.Moment.{TxView}
 use Rattle.xc_model.specs.declared.phase.Phase.TheVariants.{Committing}
 use Rattle.xc_station.specs.declared.tx.Tx.{Tx}
@@ -37,7 +38,7 @@ returns-clause-entry g c tx at is number =
           ∙ (λ i. at_begin (record {
             block = was.block;
             next = was.next + 1;
-            variables = with_ends was.variables (kept_of (c.as_slice.ensures i) (c.as_slice-2.ensures i)) (c.ends.ensures i);
+            variables = with_ends was.variables (kept_calls (c.as_slice.ensures i) (c.as_slice-2.ensures i)) (c.ends.ensures i);
           })))
           c.go_on.ensures.attempts,
       c.close.ensures.entry at number ∙ ap (λ (t : Tx). entry_of (tx_view t) at (outcome_in t.phase t.undo.ended t.late.ends)) c.renew.ensures

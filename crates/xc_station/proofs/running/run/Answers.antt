@@ -9,6 +9,9 @@ use Rattle.xc_data.specs.declared.entry.Turn.{Turn}
 use Rattle.xc_station.specs.declared.calls.Shared.{Shared}
 use Rattle.xc_station.specs.Jobs.{job_view, tx_view}
 use Rattle.xc_station.specs.Moments.{HasNeeds, IsRunningRow, counted, moved, runs, seated_as}
+use Rattle.xc_station.specs.Backs.{CanGoBack}
+use Rattle.xc_station.specs.Moments as moments
+use Rattle.xc_station.specs.declared.tx.Tx.{Tx}
 use Rattle.xc_station.proofs.Closed.{counted_doing, moves_on, is_active, its_active, active_again}
 use Rattle.xc_station.proofs.RowsMarked.{gone_row, its_rank, revoked_row}
 use Rattle.xc_station.proofs.running.run.Goals as goal
@@ -94,3 +97,9 @@ pub step_running-answer-requires-clause-needs : goal.step_running-answer-require
 step_running-answer-requires-clause-needs g c =
     let was = c.requires.running in
     λ t. subst (λ (x : TxView). HasNeeds g.H.Host.model c.args.shared.now x) (sym (its_active c.args.job.now was.tx was.doing)) (was.needs t)
+
+pub returns-clause-backs : goal.returns-clause-backs
+returns-clause-backs g c active runs =
+    let kept = c.count_wait.ensures.kept in
+    subst (CanGoBack c.args.rules.now.undo_tries) (sym kept.0)
+    (c.step_running-answer.ensures.backs (ap (λ (t : Tx). moments.runs t.phase) (sym kept.0) ∙ runs))

@@ -15,7 +15,7 @@ pub returns-in-Ok-Commit-clause-row : goal.returns-in-Ok-Commit-clause-row
 returns-in-Ok-Commit-clause-row g c rules now at job here doing place terms =
     let e = c.in-Ok-Commit.ensures in
     let same : IsSamePosition (setting c.args.script.now rules g.H.Host.model.tells) c.args.place.now c.ask.new.self =
-    record { begin = record { block = e.same.0; next = e.same.1; begun = e.begun }; walk = e.walk; at = e.at } in
+    record { begin = record { block = e.same.0; next = e.same.1; begun = e.begun }; walk = e.walk; saved = e.saved; at = e.at } in
     commits g.H.Host.model _ _ _ _ _ c.ask.new.self c.args.tx.now here (has_tx _ _ _ _ _ doing place same)
     (record {
       host = c.args.shared.now.host;
@@ -32,7 +32,7 @@ pub returns-in-Ok-Abort-clause-row : goal.returns-in-Ok-Abort-clause-row
 returns-in-Ok-Abort-clause-row g c rules now at job here doing place terms =
     let e = c.in-Ok-Abort.ensures in
     let same : IsSamePosition (setting c.args.script.now rules g.H.Host.model.tells) c.args.place.now c.ask.new.self =
-    record { begin = record { block = e.same.0; next = e.same.1; begun = e.begun }; walk = e.walk; at = e.at } in
+    record { begin = record { block = e.same.0; next = e.same.1; begun = e.begun }; walk = e.walk; saved = e.saved; at = e.at } in
     turns_back g.H.Host.model _ _ _ _ _ c.ask.new.self c.args.tx.now here (has_tx _ _ _ _ _ doing place same) c.args.shared.now
     (record c.args.tx.now { phase = Undoing cause.Asked }) refl refl refl refl
     (asked_walk c.args.script.now c.args.place.now c.ask.new.self _ c.requires.left e.walk e.value ∙ c.in-Ok-Abort.field-0-is)
@@ -41,7 +41,7 @@ pub returns-in-Err-clause-row : goal.returns-in-Err-clause-row
 returns-in-Err-clause-row g c rules now at job here doing place terms =
     let e = c.in-Err.ensures in
     let same : IsSamePosition (setting c.args.script.now rules g.H.Host.model.tells) c.args.place.now c.ask.new.self =
-    record { begin = record { block = e.same.0; next = e.same.1; begun = e.begun }; walk = e.walk; at = e.at } in
+    record { begin = record { block = e.same.0; next = e.same.1; begun = e.begun }; walk = e.walk; saved = e.saved; at = e.at } in
     wants g.H.Host.model _ _ _ _ _ c.ask.new.self c.args.tx.now here
     (has_tx _ _ _ _ _ doing place same) c.args.shared.now c.abort_for_memory.new.tx c.abort_for_memory.result
     refl refl refl c.abort_for_memory.ensures.tx c.abort_for_memory.ensures.answer

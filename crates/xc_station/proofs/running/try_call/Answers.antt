@@ -1,7 +1,7 @@
 use Rattle.std.proofs.Common.{ap, refl, subst, sym, ◌∙◌, arith, length}
 use Rattle.xc_model.specs.Moment.{TxView}
 use Rattle.xc_station.specs.Jobs.{tx_view}
-use Rattle.xc_station.specs.Acting.{IsLentFor}
+use Rattle.xc_station.specs.Acting.{in_no_block, IsLentFor}
 use Rattle.xc_station.specs.Moments.{Front, Lends, front_of}
 use Rattle.xc_station.proofs.Lending.{lends_done, lends_from, lends_left, lends_still, unclaimed_takes}
 use Rattle.xc_station.proofs.RowsCalled.{called, starved}
@@ -11,7 +11,8 @@ use Rattle.xc_station.proofs.running.try_call.Goals as goal
 pub returns-in-Err-clause-row : goal.returns-in-Err-clause-row
 returns-in-Err-clause-row g c rules now at job here has terms =
     let e = c.in-Err.ensures in
-    unclaimed g.H.Host.model _ _ _ _ _ _ c.args.tx.now here has c.claim.new.shared c.claim.new.tx c.args.call _ _ c.in-Err.turn e.same.0 e.same.1
+    unclaimed g.H.Host.model _ _ _ _ _ _ c.args.tx.now here has c.claim.new.shared c.claim.new.tx c.args.call _ _ c.in-Err.turn c.requires.ahead e.same.0
+    e.same.1
     c.requires.asked terms e.claimed
 
 pub returns-in-Ok-clause-row : goal.returns-in-Ok-clause-row
@@ -28,8 +29,8 @@ returns-in-Ok-clause-row g c rules now at job here has terms =
     c.claim.new.tx c.args.call
     c.in_default.ensures.same.1 c.requires.asked c.in_default.ensures.claimed (λ tells. tells) c.do_call.new.place
     (front_of c.claim.new.shared) c.do_call.new.tx
-    c.note.new.self c.in-Ok.reply (record { begin = e.begin; walk = e.walk; nearer = e.nearer }) c.in_default.ensures.same.0
-    e.acted c.note.ensures.noted
+    c.note.new.self c.in-Ok.reply (record { begin = e.begin; walk = e.walk; nearer = e.nearer; values = e.values }) c.in_default.ensures.same.0
+    e.acted (record { ahead = c.requires.ahead; done = e.blocks; saved = e.saved }) c.note.ensures.noted
 
 pub returns-in-Err-do_call-clause-row : goal.returns-in-Err-do_call-clause-row
 returns-in-Err-do_call-clause-row g c rules now at job here has terms =
@@ -45,7 +46,7 @@ returns-in-Err-do_call-clause-row g c rules now at job here has terms =
     c.claim.new.tx c.args.call
     c.in_default.ensures.same.1 c.requires.asked c.in_default.ensures.claimed (λ tells. tells) c.do_call.new.place
     (front_of c.claim.new.shared) c.do_call.new.tx
-    c.abort_for_memory.new.tx e.err_place c.in_default.ensures.same.0 e.acted
+    c.abort_for_memory.new.tx e.err_place c.in_default.ensures.same.0 e.acted e.err_saved
     c.abort_for_memory.ensures.tx c.abort_for_memory.result c.abort_for_memory.ensures.answer
 
 pub returns-in-Err-clause-plan : goal.returns-in-Err-clause-plan
@@ -88,7 +89,8 @@ returns-in-Ok-clause-lends g c =
     let d = c.in_default.ensures in
     subst (λ (f : Front g.row.H.Denot). Lends model (record { old = f; new = record { host = c.do_call.new.host; lent = c.do_call.new.buffers } })
     (record { old = tx_view c.args.tx.now; new = tx_view c.note.new.self })) d.same.0
-    (lends_from model _ (record { old = tx_view c.claim.new.tx; new = tx_view c.do_call.new.tx }) (tx_view c.args.tx.now) (tx_view c.note.new.self)
+    (lends_from model _ (record { old = in_no_block (tx_view c.claim.new.tx); new = in_no_block (tx_view c.do_call.new.tx) }) (tx_view c.args.tx.now)
+    (tx_view c.note.new.self)
     (ap (λ (t : TxView). t.taken) (sym d.claimed.held)) (ap (λ (t : TxView). t.taken) c.note.ensures.noted)
     (lends_done model c.args.call _ _ (front_of c.claim.new.shared).lent c.do_call.new.buffers refl c.in-Ok.reply e.acted e.noted e.backs))
 
@@ -99,6 +101,7 @@ returns-in-Err-do_call-clause-lends g c =
     let d = c.in_default.ensures in
     subst (λ (f : Front g.row.H.Denot). Lends model (record { old = f; new = record { host = c.do_call.new.host; lent = c.do_call.new.buffers } })
     (record { old = tx_view c.args.tx.now; new = tx_view c.abort_for_memory.new.tx })) d.same.0
-    (lends_from model _ (record { old = tx_view c.claim.new.tx; new = tx_view c.do_call.new.tx }) (tx_view c.args.tx.now) (tx_view c.abort_for_memory.new.tx)
+    (lends_from model _ (record { old = in_no_block (tx_view c.claim.new.tx); new = in_no_block (tx_view c.do_call.new.tx) }) (tx_view c.args.tx.now)
+    (tx_view c.abort_for_memory.new.tx)
     (ap (λ (t : TxView). t.taken) (sym d.claimed.held)) (ap (λ (t : TxView). t.taken) c.abort_for_memory.ensures.tx)
     (lends_left model c.args.call _ _ (front_of c.claim.new.shared).lent c.do_call.new.buffers refl e.acted e.noted e.backs))

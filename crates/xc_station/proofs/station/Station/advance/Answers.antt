@@ -20,6 +20,12 @@ running-requires g c =
     let live = live_shown jobs c.args.job c.index.result.now (subst (λ v. live_at v.jobs c.args.job ≡ true) (sym c.self.view_is) c.requires) c.index.ensures in
     subst (λ v. IsStage v.jobs (c.args.job - 1) PlainStage.Running) c.self.view_is (c.index.result.now, live.there, sym c.stage.ensures ∙ c.in-Running.is)
 
+pub backing-requires : goal.backing-requires
+backing-requires g c =
+    let jobs = c.self.inside.jobs.items in
+    let live = live_shown jobs c.args.job c.index.result.now (subst (λ v. live_at v.jobs c.args.job ≡ true) (sym c.self.view_is) c.requires) c.index.ensures in
+    subst (λ v. IsStage v.jobs (c.args.job - 1) PlainStage.Backing) c.self.view_is (c.index.result.now, live.there, sym c.stage.ensures ∙ c.in-Backing.is)
+
 pub committing-requires : goal.committing-requires
 committing-requires g c =
     let jobs = c.self.inside.jobs.items in
@@ -74,6 +80,10 @@ pub returns-in-Running-clause-falls : goal.returns-in-Running-clause-falls
 returns-in-Running-clause-falls g c = fewer_left g.H.Host.model c.args.self.now c.running.new.self
     (c.args.job - 1) _ c.running.ensures.same c.running.ensures.row
 
+pub returns-in-Backing-clause-falls : goal.returns-in-Backing-clause-falls
+returns-in-Backing-clause-falls g c = fewer_left g.H.Host.model c.args.self.now c.backing.new.self
+    (c.args.job - 1) _ c.backing.ensures.same c.backing.ensures.row
+
 pub returns-in-Committing-clause-falls : goal.returns-in-Committing-clause-falls
 returns-in-Committing-clause-falls g c = fewer_left g.H.Host.model c.args.self.now c.committing.new.self
     (c.args.job - 1) _ c.committing.ensures.same c.committing.ensures.row
@@ -102,6 +112,11 @@ pub returns-in-Running-clause-changes : goal.returns-in-Running-clause-changes
 returns-in-Running-clause-changes g c =
     let model = g.H.Host.model in
     turn_leaves (setting_of model c.args.self.now) (c.args.job - 1) (now_of model c.args.self.now) (now_of model c.running.new.self) _ c.running.ensures.row
+
+pub returns-in-Backing-clause-changes : goal.returns-in-Backing-clause-changes
+returns-in-Backing-clause-changes g c =
+    let model = g.H.Host.model in
+    turn_leaves (setting_of model c.args.self.now) (c.args.job - 1) (now_of model c.args.self.now) (now_of model c.backing.new.self) _ c.backing.ensures.row
 
 pub returns-in-Committing-clause-changes : goal.returns-in-Committing-clause-changes
 returns-in-Committing-clause-changes g c =

@@ -13,8 +13,10 @@ use Rattle.xc_data.specs.declared.entry.Turn.TheVariants as turn
 use Rattle.xc_station.specs.declared.job.Job.{Job}
 use Rattle.xc_station.specs.declared.job.Stage.TheVariants as PlainStage
 use Rattle.xc_station.specs.Jobs.{HasChildren, IsStage, doing_of, goes_on, child_view, job_view, job_views, started_in}
+use Rattle.xc_station.specs.Backs.{AllBackSafely}
 use Rattle.xc_station.specs.Stations.{HasRooms, IsSteady, moment, now_of, room_of, setting_of}
 use Rattle.xc_station.proofs.Ahead.{ahead_kept}
+use Rattle.xc_station.proofs.BacksKept.{backs_joined, backs_made, backs_set, safe_without}
 use Rattle.xc_station.proofs.Joined.{backed_joined, children_joined, children_within, rooms_joined}
 use Rattle.xc_data.proofs.Lists.{get_map, length_set}
 use Rattle.xc_station.proofs.Ready.{fits_next, has_room}
@@ -220,6 +222,11 @@ invariant_of-self g c =
             lines_room = omega (arith, count, lines_room);
             marks_room = omega (arith, count, marks_room, marks');
           }),
+      subst (AllBackSafely station.rules.undo_tries) (sym joins.1)
+          (backs_joined station.rules.undo_tries (slice_set jobs at job) more
+          (backs_set station.rules.undo_tries jobs at was job is.there
+          (safe_without station.rules.undo_tries job (ap active_of gave.0)) c.self.invariant.8)
+          (backs_made station.rules.undo_tries more child_view c.commit-entry.result.children.items (λ child. refl) joins.2)),
     )
 
 pub returns-clause-row : goal.returns-clause-row

@@ -11,6 +11,8 @@ use Rattle.xc_station.specs.Jobs.{IsStage, doing_of, goes_on, job_view, started_
 use Rattle.xc_station.specs.Moments.{marks_of}
 use Rattle.xc_station.specs.Stations.{moment, now_of, room_of, setting_of}
 use Rattle.xc_station.proofs.Ahead.{ahead_kept, taken_kept}
+use Rattle.xc_station.proofs.BacksKept.{backs_set, safe_idle}
+use Rattle.xc_data.proofs.Lists.{get_map}
 use Rattle.xc_station.proofs.Ready.{next_unseated}
 use Rattle.xc_station.proofs.RoomsKept.{rooms_idle_went, rooms_idle_halted, idle_untaken}
 use Rattle.xc_station.proofs.Stages.{IsThere, lent, idle_stage}
@@ -96,6 +98,10 @@ invariant_of-self g c =
           station.journal.items journal.items station.jobs.items at was job (room_of station.jobs station.lines station.ahead) s
           station.opening.faults c.begin-turn.result c.self.invariant.0 is.there turned refl
           (ap (started_in station.opening.script (job_view was)) (idle_stage (doing_of was) is.stage)) c.begin-turn.ensures.children c.self.invariant.7,
+      backs_set station.rules.undo_tries station.jobs.items at was job is.there
+          (safe_idle s at (moment model station.shared station.journal.items station.jobs.items) (job_view was)
+          (marks_of c.begin-turn.new.sentinels.seats) station.rules.undo_tries job (get_map job_view station.jobs.items at was is.there)
+          (idle_stage (doing_of was) is.stage) c.begin-turn.result row) c.self.invariant.8,
     )
 
 pub invariant_of-self-else-matches : goal.invariant_of-self-else-matches
@@ -135,6 +141,10 @@ invariant_of-self-else-matches g c =
           station.journal.items journal.items station.jobs.items at was job (room_of station.jobs station.lines station.ahead) s
           station.opening.faults c.begin-turn.result c.self.invariant.0 is.there turned refl
           (ap (started_in station.opening.script (job_view was)) (idle_stage (doing_of was) is.stage)) c.begin-turn.ensures.children c.self.invariant.7,
+      backs_set station.rules.undo_tries station.jobs.items at was job is.there
+          (safe_idle s at (moment model station.shared station.journal.items station.jobs.items) (job_view was)
+          (marks_of c.begin-turn.new.sentinels.seats) station.rules.undo_tries job (get_map job_view station.jobs.items at was is.there)
+          (idle_stage (doing_of was) is.stage) c.begin-turn.result row) c.self.invariant.8,
     )
 
 pub returns-then-matches-clause-row : goal.returns-then-matches-clause-row

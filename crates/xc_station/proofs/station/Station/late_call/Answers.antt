@@ -10,8 +10,10 @@ use Rattle.xc_data.specs.declared.entry.Turn.TheVariants as turn
 use Rattle.xc_station.specs.declared.job.Stage.TheVariants as PlainStage
 use Rattle.xc_station.specs.declared.job.Job.{Job}
 use Rattle.xc_station.specs.Jobs.{IsStage, doing_of, goes_on, child_view, job_view, started_in}
+use Rattle.xc_station.specs.Moments.{runs}
 use Rattle.xc_station.specs.Stations.{moment, now_of, room_of, setting_of}
 use Rattle.xc_station.proofs.Ahead.{ahead_kept, taken_kept}
+use Rattle.xc_station.proofs.BacksKept.{backs_set, safe_ending}
 use Rattle.xc_station.proofs.Ready.{may_end_late}
 use Rattle.xc_station.proofs.RoomsKept.{rooms_going}
 use Rattle.xc_station.proofs.Stages.{lent, committing_stage}
@@ -86,6 +88,9 @@ invariant_of-self g c =
           (sym (ap next_thread mine.left) ∙ none mine.tx mine.doing))
           ∙ sym (ap (λ (j : JobView). started_in s.script j j.doing)
           (gave.1 ∙ ap (λ (queue : Queue). with_tx (job_view was) was.place (with_queue mine.tx queue)) gave.2.noted))) c.self.invariant.7,
+      backs_set station.rules.undo_tries station.jobs.items at was job is.there
+          (safe_ending station.rules.undo_tries job (with_queue mine.tx gave.0) (ap (λ (j : JobView). j.doing) gave.1) (ap runs mine.phase))
+          c.self.invariant.8,
     )
 
 pub returns-clause-row : goal.returns-clause-row

@@ -13,8 +13,11 @@ use Rattle.xc_station.specs.declared.job.Job.{Job}
 use Rattle.xc_station.specs.declared.job.Stage.TheVariants as PlainStage
 use Rattle.xc_station.specs.Jobs.{HasChildren, IsStage, doing_of, goes_on, child_view, job_view, job_views, started_in}
 use Rattle.xc_station.specs.Lent.{AreBacked, IsBacked}
+use Rattle.xc_station.specs.Backs.{AllBackSafely}
+use Rattle.xc_station.specs.Moments.{runs}
 use Rattle.xc_station.specs.Stations.{AreAhead, HasRooms, IsSteady, moment, now_of, room_of, setting_of}
 use Rattle.xc_station.proofs.Ahead.{ahead_kept, taken_kept}
+use Rattle.xc_station.proofs.BacksKept.{backs_set, safe_ending}
 use Rattle.xc_station.proofs.Children.{lent_children, lent_seen, set_behind}
 use Rattle.xc_station.proofs.Notes.{backed_jobs, keeps_itself}
 use Rattle.xc_data.proofs.Lists.{get_map}
@@ -148,6 +151,10 @@ invariant_of-self g c =
         lines_room = started.lines_room all.lines_room;
         marks_room = started.ahead_room all.marks_room;
       },
+      subst (AllBackSafely station.rules.undo_tries) (sym items)
+          (backs_set station.rules.undo_tries jobs at was job is.there
+          (safe_ending station.rules.undo_tries job tx' (ap (λ (j : JobView). j.doing) (gives mine.tx mine.doing)) (ap runs mine.phase))
+          c.self.invariant.8),
     )
 
 pub returns-clause-row : goal.returns-clause-row

@@ -53,6 +53,7 @@ invariant_of-self g c =
       c.self.invariant.5,
       c.self.invariant.6,
       c.self.invariant.7,
+      c.self.invariant.8,
     )
 
 pub returns-else-next-count-clause-next : goal.returns-else-next-count-clause-next

@@ -4,8 +4,10 @@ use Rattle.xc_model.specs.Setting.{setting}
 use Rattle.xc_model.specs.Rows.{IsTurn}
 use Rattle.xc_station.specs.declared.job.Stage.TheVariants as PlainStage
 use Rattle.xc_station.specs.Jobs.{doing_of, IsStage, goes_on, job_view}
+use Rattle.xc_station.specs.Moments.{runs}
 use Rattle.xc_station.specs.Stations.{moment, now_of, room_of, setting_of}
 use Rattle.xc_station.proofs.Ahead.{ahead_kept, taken_kept}
+use Rattle.xc_station.proofs.BacksKept.{backs_set, safe_running}
 use Rattle.xc_station.proofs.Ready.{may_run, stands_now, few_words}
 use Rattle.xc_station.proofs.RoomsKept.{rooms_running}
 use Rattle.xc_station.proofs.Stages.{lent, running_stage}
@@ -41,6 +43,16 @@ run-requires-clause-count g c =
     let is = lent station.jobs.items at PlainStage.Running was (subst (λ v. IsStage v.jobs at PlainStage.Running) (sym c.self.view_is) c.requires)
     c.index_mut.ensures.value in
     few_words s station.opening.faults (moment model station.shared station.journal.items station.jobs.items) c.self.invariant.0
+
+pub run-requires-clause-save : goal.run-requires-clause-save
+run-requires-clause-save g c =
+    let was = c.index_mut.result.now in
+    let station = c.self.inside in
+    let at = c.args.at in
+    let is = lent station.jobs.items at PlainStage.Running was (subst (λ v. IsStage v.jobs at PlainStage.Running) (sym c.self.view_is) c.requires)
+    c.index_mut.ensures.value in
+    let mine = running_stage (doing_of was) is.stage in
+    (safe_running station.rules.undo_tries was mine.tx (c.self.invariant.8 at was is.there) mine.doing (ap runs mine.phase)).save
 
 pub invariant_of-self : goal.invariant_of-self
 invariant_of-self g c =
@@ -88,6 +100,7 @@ invariant_of-self g c =
           (room_of station.jobs station.lines station.ahead) s station.opening.faults c.run.result c.self.invariant.0 is.there turned c.run.ensures.started
           (none_running s station.opening.faults (moment model station.shared station.journal.items station.jobs.items) at (job_view was) mine.tx
           c.self.invariant.0 (get_map job_view station.jobs.items at was is.there) mine.doing mine.phase) c.run.ensures.children c.self.invariant.7,
+      backs_set station.rules.undo_tries station.jobs.items at was job is.there c.run.ensures.backs c.self.invariant.8,
     )
 
 pub returns-clause-row : goal.returns-clause-row

@@ -1,4 +1,4 @@
-use Rattle.std.proofs.Common.{ap, sym, ◌∙◌, length, arith}
+use Rattle.std.proofs.Common.{ap, refl, sym, ◌∙◌, length, arith}
 use Rattle.std.proofs.lemmas.List.{length-map}
 use Rattle.xc_data.specs.declared.script.Outline.{Outline}
 use Rattle.xc_host.specs.Contents.{opened}
@@ -8,6 +8,7 @@ use Rattle.xc_model.specs.Opened.{IsOpening, opened_job}
 use Rattle.xc_model.specs.Setting.{setting}
 use Rattle.xc_station.specs.Jobs.{job_view}
 use Rattle.xc_station.specs.Stations.{moment}
+use Rattle.xc_station.proofs.BacksKept.{backs_made}
 use Rattle.xc_station.proofs.Started.{backed_at_start, each_opened, roomy, started}
 use Rattle.xc_station.proofs.station.Station.start.Goals as goal
 use Rattle.xc_station.specs.Lent.{Lent}
@@ -58,6 +59,7 @@ invariant_of-result g c =
             lines_room = omega (arith, count, names, lines);
             marks_room = omega (arith, count, names, marks, ahead_len, ahead_cap);
           }),
+      backs_made c.args.rules.undo_tries rooms.jobs.items (opened_job c.args.script) c.args.script.outline.jobs (λ name. refl) c.in-Ok.ensures.jobs,
     )
 
 pub returns-clause-opening : goal.returns-clause-opening

@@ -7,6 +7,7 @@ use Rattle.xc_station.specs.declared.job.Stage.TheVariants as PlainStage
 use Rattle.xc_station.specs.Jobs.{IsStage, doing_of, goes_on, job_view, started_in}
 use Rattle.xc_station.specs.Stations.{moment, now_of, room_of, setting_of}
 use Rattle.xc_station.proofs.Ahead.{ahead_kept, taken_kept}
+use Rattle.xc_station.proofs.BacksKept.{backs_set, safe_without}
 use Rattle.xc_station.proofs.RoomsKept.{rooms_still}
 use Rattle.xc_station.proofs.Stages.{lent, starved_stage}
 use Rattle.xc_station.proofs.Steady.{steady_kept}
@@ -42,6 +43,8 @@ invariant_of-self g c =
       starts_still model station.shared station.shared station.journal.items station.journal.items station.jobs.items at was job
           (room_of station.jobs station.lines station.ahead) s station.opening.faults c.end.result c.self.invariant.0 is.there turned refl
           (ap (started_in station.opening.script (job_view was)) (starved_stage (doing_of was) is.stage)) c.end.ensures.children c.self.invariant.7,
+      backs_set station.rules.undo_tries station.jobs.items at was job is.there
+          (safe_without station.rules.undo_tries job (ap active_of c.end.ensures.ended.0)) c.self.invariant.8,
     )
 
 pub returns-clause-row : goal.returns-clause-row

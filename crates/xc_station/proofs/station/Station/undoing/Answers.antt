@@ -6,8 +6,10 @@ use Rattle.xc_station.specs.declared.calls.Shared.{Shared}
 use Rattle.xc_data.specs.declared.entry.Turn.TheVariants as turn
 use Rattle.xc_station.specs.declared.job.Stage.TheVariants as PlainStage
 use Rattle.xc_station.specs.Jobs.{IsStage, doing_of, goes_on, job_view, job_views}
+use Rattle.xc_station.specs.Moments.{runs}
 use Rattle.xc_station.specs.Stations.{moment, now_of, room_of, setting_of}
 use Rattle.xc_station.proofs.Ahead.{ahead_kept, taken_kept}
+use Rattle.xc_station.proofs.BacksKept.{backs_set, safe_ending}
 use Rattle.xc_station.proofs.Ready.{may_undo, took_elsewhere, undo_elsewhere}
 use Rattle.xc_station.proofs.RoomsKept.{rooms_going}
 use Rattle.xc_station.proofs.Stages.{lent, undoing_stage}
@@ -78,6 +80,9 @@ invariant_of-self g c =
           (none_undoing s station.opening.faults (moment model station.shared station.journal.items station.jobs.items) at (job_view was) back.tx
           back.cause c.self.invariant.0 (get_map job_view station.jobs.items at was is.there) back.doing back.phase) c.undo.ensures.children
           c.self.invariant.7,
+      backs_set station.rules.undo_tries station.jobs.items at was job is.there
+          (safe_ending station.rules.undo_tries job (record back.tx { undo = gave.0 }) (ap (λ j. j.doing) gave.1) (ap runs back.phase))
+          c.self.invariant.8,
     )
 
 pub returns-clause-row : goal.returns-clause-row

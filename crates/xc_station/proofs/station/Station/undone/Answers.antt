@@ -8,6 +8,7 @@ use Rattle.xc_station.specs.declared.job.Stage.TheVariants as PlainStage
 use Rattle.xc_station.specs.Jobs.{IsStage, doing_of, goes_on, job_view, job_views}
 use Rattle.xc_station.specs.Stations.{moment, now_of, room_of, setting_of}
 use Rattle.xc_station.proofs.Ahead.{ahead_kept, taken_kept}
+use Rattle.xc_station.proofs.BacksKept.{backs_set, safe_without}
 use Rattle.xc_data.proofs.Lists.{get_map}
 use Rattle.xc_station.proofs.Ready.{fits_next, fits_failures, has_room}
 use Rattle.xc_station.proofs.RoomsKept.{rooms_entered, back_none}
@@ -138,6 +139,8 @@ invariant_of-self g c =
           (none_undoing s station.opening.faults (moment model station.shared station.journal.items station.jobs.items) at (job_view was) mine.tx
           mine.cause c.self.invariant.0 (get_map job_view station.jobs.items at was is.there) mine.doing mine.phase) c.abort-entry.ensures.children
           c.self.invariant.7,
+      backs_set station.rules.undo_tries station.jobs.items at was job is.there
+          (safe_without station.rules.undo_tries job (ap active_of gave.0 ∙ back_none (job_view was) mine.tx mine.cause)) c.self.invariant.8,
     )
 
 pub returns-clause-row : goal.returns-clause-row
