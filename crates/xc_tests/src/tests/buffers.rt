@@ -83,3 +83,22 @@ fn all_is_given_back_in_the_old_order(rt: HostRuntime) -> Result<(), Fail> {
     assert!(rt; is_chunk(&kept.take_front(PIPE, 9)?, b"hello"));
     Ok(())
 }
+
+// What was taken before the mark stays noted.
+#[test]
+fn what_was_taken_above_a_mark_is_given_back(rt: HostRuntime) -> Result<(), Fail> {
+    let mut taken = Taken::new(rt.alloc());
+    noted(&mut taken, Chunk::new(rt.alloc(), b"one")?)?;
+    assert_eq!(rt; taken.mark(), 1);
+    noted(&mut taken, Chunk::new(rt.alloc(), b"two")?)?;
+    noted(&mut taken, Chunk::new(rt.alloc(), b"six")?)?;
+    assert_eq!(rt; taken.count(), 3);
+    let mut kept = kept(rt.alloc())?;
+    kept.reserve(2)?;
+    taken.give_to(&mut kept, 1);
+    assert_eq!(rt; taken.count(), 1);
+    assert!(rt; is_chunk(&kept.take_front(PIPE, 9)?, b"two"));
+    assert!(rt; is_chunk(&kept.take_front(PIPE, 9)?, b"six"));
+    assert!(rt; is_chunk(&kept.take_front(PIPE, 9)?, b"hello"));
+    Ok(())
+}

@@ -1,4 +1,4 @@
-ghost use Rattle.std.specs.Prelude.{IfOk};
+ghost use Rattle.std.specs.Prelude.{◌≡◌, [], length, IfOk};
 ghost use Rattle.xc_compensate.specs.Records.{IsRecord};
 
 use super::{FILE, host_of, name, shared_name};
@@ -165,5 +165,58 @@ fn drops_the_pipe(mut host: TestHost, mut stack: Stack) -> bool {
 fn a_new_pipe_is_dropped(rt: HostRuntime) -> Result<(), Fail> {
     let stack = with_pipe(rt.alloc())?;
     assert!(rt; drops_the_pipe(host_of(rt.alloc(), b"")?, stack));
+    Ok(())
+}
+
+// ---- a block
+
+// The record of an overwrite of "a" at place 0.
+fn overwrite_front(alloc: Global) -> Result<Undo, NoMemory>
+    ensures { IfOk result IsRecord }
+{
+    Ok(Undo::Bytes {
+        file: FILE,
+        at: 0,
+        before: Chunk::new(alloc, b"a")?,
+        after: Chunk::new(alloc, b"A")?,
+        n: 1,
+    })
+}
+
+// A record before the save of a block, and one of the block.
+fn with_block(alloc: Global) -> Result<Stack, NoMemory>
+    ensures { IfOk result (λ stack. (length stack.pending ≡ 2) × (stack.ended ≡ [])) }
+{
+    let mut stack = Stack::new(alloc);
+    stack.push(overwrite(alloc)?)?;
+    stack.push(overwrite_front(alloc)?)?;
+    Ok(stack)
+}
+
+// The block's record is undone at the second try and dropped, and the other one stays.
+fn goes_back(mut host: TestHost, mut stack: Stack) -> bool
+    requires two { length stack.pending ≡ 2 }
+    requires none { stack.ended ≡ [] }
+{
+    host.fails = [1, 0, 0];
+    let UndoTurn::Undone { faults } = stack.undo_to(&mut host, 2, 1) else {
+        return false;
+    };
+    if stack.undo_to(&mut host, 2, 1) != UndoTurn::Ended {
+        return false;
+    }
+    stack.forget(1);
+    let calls = [Asked::new(Restore, 0, 1), Asked::new(Restore, 0, 1)];
+    faults == 1
+        && stack.mark() == 1
+        && host.bytes.as_slice() == b"abCDEFGh".as_slice()
+        && host.log.as_slice() == calls.as_slice()
+}
+
+#[test]
+fn the_records_of_a_block_are_undone(rt: HostRuntime) -> Result<(), Fail> {
+    let stack = with_block(rt.alloc())?;
+    assert_eq!(rt; stack.mark(), 2);
+    assert!(rt; goes_back(host_of(rt.alloc(), b"AbCDEFGh")?, stack));
     Ok(())
 }

@@ -1,3 +1,5 @@
+ghost use Rattle.std.specs.Prelude.{◌≡◌, [], IfOk};
+
 use super::{FILE, are_of, host_of, shared_name};
 use Kind::{Lookup, Sync, Unlink};
 use std::alloc::Global;
@@ -8,7 +10,9 @@ use xc_deferred::Late;
 use xc_testhost::TestHost;
 
 // An unlink of the name `a` and a sync of its file.
-fn late_calls(alloc: Global) -> Result<Late, NoMemory> {
+fn late_calls(alloc: Global) -> Result<Late, NoMemory>
+    ensures { IfOk result (λ late. late.ends ≡ []) }
+{
     let mut late = Late::new(alloc);
     late.push(LateCall::Unlink(shared_name(alloc, b"a")?))?;
     late.push(LateCall::Sync(FILE))?;
@@ -50,5 +54,17 @@ fn an_unlink_wants_memory(rt: HostRuntime) -> Result<(), Fail> {
     host.starves = true;
     let ends = [LateEnd::NoMemory(0), LateEnd::Done];
     assert!(rt; ends_so(host, late, &kept, &ends, &[Lookup, Sync]));
+    Ok(())
+}
+
+#[test]
+fn the_first_calls_are_kept(rt: HostRuntime) -> Result<(), Fail> {
+    let mut late = late_calls(rt.alloc())?;
+    assert_eq!(rt; late.count(), 2);
+    late.cut(1);
+    assert_eq!(rt; late.count(), 1);
+    let kept = Kept::new(rt.alloc());
+    let host = host_of(rt.alloc(), b"hello")?;
+    assert!(rt; ends_so(host, late, &kept, &[LateEnd::Done], &[Lookup, Unlink]));
     Ok(())
 }

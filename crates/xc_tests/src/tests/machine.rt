@@ -1,12 +1,12 @@
 ghost use Rattle.xc_data.specs.Limits.{KeepsLimits};
 ghost use Rattle.xc_world.specs.Sound.{IsShortCall};
-ghost use Rattle.std.specs.Prelude.{IfOk, IsTrue};
+ghost use Rattle.std.specs.Prelude.{◌≡◌, IfOk, IsTrue};
 
 use std::alloc::Global;
 use std::test::Fail;
 use xc_data::{
     Answer, Call, CallWithAnswer, Chunk, Claim, FaultList, IdentList, LateAnswer, LateCall,
-    LateEnd, Mode, NoMemory, Num, Object, OpenedList, Outline, Prologue, Reply, WordList,
+    LateEnd, Mode, NoMemory, Num, Object, OpenedList, Outline, Prologue, Reply, SlotName, WordList,
 };
 use xc_machine::{Replied, World, run_body};
 use xc_world::opening_private;
@@ -103,5 +103,103 @@ fn a_pipe_gets_full(rt: HostRuntime) -> Result<(), Fail> {
         assert_eq!(rt; end_of(&mut world, &call)?, Some(LateEnd::Done));
     }
     assert_eq!(rt; end_of(&mut world, &call)?, Some(LateEnd::Full(96)));
+    Ok(())
+}
+
+// Writes to the pipe until it is full.
+fn fill(world: &mut World, call: &LateCall) -> Result<(), NoMemory> {
+    for _ in 0..5 {
+        end_of(world, call)?;
+    }
+    Ok(())
+}
+
+// How a write ends in a copy that was made before the world's pipe got full.
+fn end_in_copy(world: &mut World, call: &LateCall) -> Result<Option<LateEnd>, NoMemory> {
+    let mut copy = world.copy()?;
+    fill(world, call)?;
+    end_of(&mut copy, call)
+}
+
+// The second copy is one of a world whose pipe is full.
+fn copies_end_apart(world: &mut World, call: &LateCall) -> Result<bool, NoMemory> {
+    let before = end_in_copy(world, call)?;
+    let after = end_in_copy(world, call)?;
+    Ok(before == Some(LateEnd::Done) && after == Some(LateEnd::Full(0)))
+}
+
+#[test]
+fn a_copy_stays_as_the_world_was(rt: HostRuntime) -> Result<(), Fail> {
+    let script = outline(rt.alloc(), 0)?;
+    let call = write_pipe(rt.alloc())?;
+    let mut world = with_pipe(rt.alloc(), &script)?;
+    assert!(rt; copies_end_apart(&mut world, &call)?);
+    Ok(())
+}
+
+// ---- a block that goes back
+
+// A call at which the host does its part.
+fn fine(call: Call) -> CallWithAnswer
+    ensures { result ≡ record { call = call; answer = Answer.Fine } }
+{
+    CallWithAnswer {
+        call,
+        answer: Answer::Fine,
+    }
+}
+
+// Bytes written to the object of handle 0, at the commit.
+fn write(alloc: Global, bytes: &[u8]) -> Result<Call, NoMemory> {
+    Ok(Call::XWritePipe {
+        h: 0,
+        bytes: Chunk::new(alloc, bytes)?,
+        slot: SlotName::new(alloc, None)?,
+    })
+}
+
+// Runs a transaction whose block makes a pipe, writes to it and stores word 0; then it makes another one.
+fn goes_back(alloc: Global, script: &Outline) -> Result<Replied, NoMemory>
+    requires { KeepsLimits script.now }
+{
+    let mut world = World::of(alloc, script)?;
+    let mut me = opening_private(alloc, script)?;
+    let asked = [
+        fine(Call::Save),
+        fine(Call::XPipe),
+        fine(write(alloc, b"one")?),
+        fine(Call::Store { at: 0, value: 7 }),
+        fine(Call::Back),
+        fine(Call::Load { at: 0 }),
+        fine(Call::XPipe),
+        fine(write(alloc, b"two")?),
+    ];
+    run_body(alloc, &mut world, &mut me, 1, &asked)
+}
+
+// There is one late call, which writes to the pipe of this number.
+fn writes_to(calls: &[LateCall], num: Num) -> bool {
+    match calls {
+        [LateCall::WritePipe(pipe, _)] => *pipe == num,
+        _ => false,
+    }
+}
+
+#[test]
+fn a_block_goes_back(rt: HostRuntime) -> Result<(), Fail> {
+    let script = outline(rt.alloc(), 100)?;
+    let replied = goes_back(rt.alloc(), &script)?;
+    let replies = [
+        Reply::Done,
+        Reply::Made(0),
+        Reply::Late,
+        Reply::Done,
+        Reply::Undone(0),
+        Reply::Number(100),
+        Reply::Made(0),
+        Reply::Late,
+    ];
+    assert!(rt; replied.replies.as_slice() == replies.as_slice());
+    assert!(rt; writes_to(replied.late.as_slice(), Num { tx: 1, k: 1 }));
     Ok(())
 }
