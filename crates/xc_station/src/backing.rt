@@ -54,7 +54,7 @@ pub fn begin_back(tries: u32, tx: &mut Tx) -> Turn
     ensures begun { begun_of tx.new ≡ begun_of tx.old }
 {
     // never reached: a transaction has at most 256 records
-    if !can_count(tx.undo.mark(), tries) || tx.room(&[], 1).is_err() {
+    if !can_count(tx.undo.mark(), tries) || tx.note_room().is_err() {
         return abort_for_memory(tx);
     }
     tx.phase = Phase::Backing;

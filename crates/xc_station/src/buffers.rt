@@ -1,6 +1,6 @@
 ghost use Rattle.std.specs.Prelude.{◌≡◌, ◌⊎◌, ◌<◌, ◌≤◌, ◌+◌, ◌^◌, ◌++◌, ◌∷◌, [], ℕ, true, false, List, All, length, take, drop, Contains};
 ghost use Rattle.std.specs.Prelude.{IfOk, Ok, OnOk, OnErr, IsTrue, None};
-ghost use Rattle.xc_buffers.specs.Items.{is_fit};
+ghost use Rattle.xc_buffers.specs.Items.{AreKept, is_fit};
 ghost use Rattle.xc_compensate.specs.Records.{Records};
 ghost use Rattle.xc_data.specs.Calls.{is_late};
 ghost use Rattle.xc_data.specs.declared.call.Call.TheVariants.{XReadPipe, XRecvmsg};
@@ -202,9 +202,10 @@ impl Buffers {
         &self.kept
     }
 
-    /// All that is kept. It takes no memory.
+    /// All that is kept, in the order in which a journal prints it. It takes no memory.
     pub fn into_items(self) -> KeptList
-        ensures { result ≡ self.kept }
+        ensures items { result ≡ self.kept }
+        ensures kept { AreKept result }
     {
         self.kept.into_items()
     }

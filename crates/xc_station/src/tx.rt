@@ -191,9 +191,21 @@ impl Tx {
         if self.calls.is_empty() {
             self.make_room(most)?;
         }
-        self.calls.reserve(1)?;
-        self.replies.reserve(1)?;
+        self.note_room()?;
         self.held.reserve(claims)
+    }
+
+    /// Makes room for the note of one call.
+    #[inline(always)]
+    pub fn note_room(&mut self) -> Result<(), NoMemory>
+        ensures ok { OnOk result (HasNoteRoom self.new) }
+        ensures same { tx_view self.new ≡ tx_view self.old }
+        ensures held { self.new.held ≡ self.old.held }
+        ensures begun { begun_of self.new ≡ begun_of self.old }
+        ensures save { HasSave self.old self.old.saved → HasSave self.new self.new.saved }
+    {
+        self.calls.reserve(1)?;
+        self.replies.reserve(1)
     }
 
     /// Notes a call with its reply, into the room for them. It takes no memory.

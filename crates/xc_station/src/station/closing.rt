@@ -1,5 +1,6 @@
 ghost use Rattle.std.specs.Prelude.{◌≡◌, ◌<◌, ◌≤◌, ◌-◌, length, [], false};
 ghost use Rattle.std.specs.Prelude.{All, sum_by};
+ghost use Rattle.xc_buffers.specs.Items.{AreKept};
 ghost use Rattle.xc_data.specs.Counts.{RisesBy};
 ghost use Rattle.xc_data.specs.Faults.{entry_faults};
 ghost use Rattle.xc_host.specs.Kept.{with_kept};
@@ -55,6 +56,9 @@ impl<H: Host> Station<H> {
             × (result.journal.items ≡ self.journal) × AreLinesOf (job_views self.jobs) result.jobs }
         ensures whole { IsTrueEnd (setting self.opening.script self.rules H.model.tells) result.journal.items
             (record { words = result.words; contents = with_kept (H.model.contents result.host) result.kept; lines = result.jobs }) }
+
+        // Kept data stand in order: pipes by number, then pairs by number and side, and no item is empty but a message.
+        ensures kept { AreKept result.kept }
 
         // The host's count rose by the faults that are recorded, and stayed where none is.
         ensures faults { RisesBy (sum_by entry_faults result.journal.items) self.opening.faults (H.model.fault_count result.host) }

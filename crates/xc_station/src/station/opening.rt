@@ -174,6 +174,7 @@ impl<H: Host> Station<H> {
         requires rules { (1 ≤ rules.attempts) × (1 ≤ rules.undo_tries) }
         ensures ok { IfOk result (λ s. (s.opening ≡ record { script = script; faults = H.model.fault_count host }) × (s.rules ≡ rules)
             × (s.taken ≡ 0)) }
+        ensures unturned { IfOk result (λ s. (s.events ≡ 0) × (s.last ≡ None)) }
         ensures opening { IfOk result (λ s. IsOpening script (now_of H.model s)) }
         ensures told { IsTrue H.model.tells
             → IfOk result (λ s. H.model.contents s.host ≡ opened script.outline.prologue.objects) }

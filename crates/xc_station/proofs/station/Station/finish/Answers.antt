@@ -34,7 +34,7 @@ returns-clause-whole g c =
     (record { words = words; contents = told_by model station.shared; lines = c.lines_of.result })) (sym c.list.ensures) whole in
     let kept = subst (λ (items : List KeptItem). IsTrueEnd (setting station.opening.script station.rules model.tells) station.journal.items
     (record { words = c.list.result; contents = with_kept (model.contents station.shared.host) items; lines = c.lines_of.result }))
-    (sym c.into_items.ensures) listed in
+    (sym c.into_items.ensures.items) listed in
     subst (λ v. IsTrueEnd (setting v.opening.script v.rules model.tells) station.journal.items
     (record { words = c.list.result; contents = with_kept (model.contents station.shared.host) c.into_items.result; lines = c.lines_of.result }))
     c.self.view_is kept
