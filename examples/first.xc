@@ -1,7 +1,15 @@
-word 0 100
+# An append that is aborted, and one that is committed.
+file log "one\n"
 job main
 tx
-load 0 -> x
-store 0 x + 5
+x_open log -> f
+x_write_seq f "two\n"
+abort
+commit
+tx
+x_open log -> f
+x_read f 9 -> d
+x_write_seq f "two\n"
+x_sync f
 commit
 end
