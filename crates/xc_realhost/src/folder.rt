@@ -46,7 +46,8 @@ impl<R: Files + Drop> Folder<R> {
     }
 
     fn file(&mut self, num: Num) -> Result<&mut R::File, Fault> {
-        self.files.of(num).ok_or(Fault)
+        let entry = self.files.of(num).ok_or(Fault)?;
+        Ok(&mut entry.file)
     }
 
     // What is in the folder under a name, if anything is. A link isn't followed.
@@ -60,10 +61,11 @@ impl<R: Files + Drop> Folder<R> {
 
     // The number of the file that is held under a name, if the name still is that file.
     fn held(&self, name: &Name) -> Result<Num, Fault> {
-        let entry = self.files.named(name).ok_or(Fault)?;
+        let num = self.files.named(name).ok_or(Fault)?;
+        let entry = self.files.get(num).ok_or(Fault)?;
         let held = or_fault(entry.file.metadata())?;
         match self.look(name)? {
-            Some(there) if is_same(&there, &held) => Ok(entry.num),
+            Some(there) if is_same(&there, &held) => Ok(num),
             Some(_) | None => Err(Fault),
         }
     }

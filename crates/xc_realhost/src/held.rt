@@ -1,87 +1,104 @@
-ghost use Rattle.std.specs.Prelude.{◌<◌, OnOk, vec_len, vec_capacity};
+ghost use Rattle.std.specs.Prelude.{◌≡◌, ◌<◌, OnOk};
+ghost use Rattle.std.specs.FinMap as map;
+ghost use Rattle.std.specs.HashMap.{IsEmpty, spare};
 
+use crate::table::Table;
 use std::alloc::Global;
 use xc_data::{Name, NoMemory, Num};
+use xc_maps::NameMap;
 
 /// A file that is held open, with its name in the folder, if it has one.
 #[derive(Drop)]
 pub(crate) struct Entry<F: Drop> {
-    pub(crate) num: Num,
     pub(crate) name: Option<Name>,
     pub(crate) file: F,
 }
 
-impl<F: Drop> Entry<F> {
-    fn is_named(&self, name: &Name) -> bool {
-        self.name == Some(*name)
-    }
-
-    fn rename(&mut self, from: &Name, to: &Option<Name>) {
-        if self.is_named(from) {
-            self.name = *to;
-        }
-    }
-}
-
-/// The files that are held open, in no order.
+/// The files that are held open, and the numbers of their names.
 #[derive(Drop)]
 pub(crate) struct Held<F: Drop> {
-    entries: Vec<Entry<F>>,
+    files: Table<Entry<F>>,
+    names: NameMap<Num>,
 }
 
 impl<F: Drop> Held<F> {
-    pub(crate) fn new(alloc: Global) -> Held<F> {
-        Held {
-            entries: Vec::new(alloc),
-        }
-    }
-
-    pub(crate) fn named(&self, name: &Name) -> Option<&Entry<F>> {
-        for entry in &self.entries {
-            if entry.is_named(name) {
-                return Some(entry);
-            }
-        }
-        None
-    }
-
-    pub(crate) fn of(&mut self, num: Num) -> Option<&mut F> {
-        for entry in self.entries.iter_mut() {
-            if entry.num == num {
-                return Some(&mut entry.file);
-            }
-        }
-        None
-    }
-
-    // Makes room for one more.
-    pub(crate) fn reserve(&mut self) -> Result<(), NoMemory>
-        ensures room { OnOk result (vec_len self.new.entries < vec_capacity self.new.entries) }
+    pub(crate) fn new(alloc: Global) -> Held<F>
+        ensures files { IsEmpty result.files.rows }
+        ensures names { result.names ≡ map.empty }
     {
-        Ok(self.entries.reserve(1)?)
+        Held {
+            files: Table::new(alloc),
+            names: NameMap::new(alloc),
+        }
     }
 
-    // Adds a file to the room that was made, so that this takes no memory.
+    pub(crate) fn named(&self, name: &Name) -> Option<Num>
+        ensures { result ≡ map.get self.now.names name.now }
+    {
+        self.names.get(*name).copied()
+    }
+
+    pub(crate) fn get(&self, num: Num) -> Option<&Entry<F>> {
+        self.files.get(num)
+    }
+
+    pub(crate) fn of(&mut self, num: Num) -> Option<&mut Entry<F>> {
+        self.files.of(num)
+    }
+
+    // Gives a name the number of a file that isn't held yet, and makes room for the file.
+    pub(crate) fn enter(&mut self, name: &Name, num: Num) -> Result<(), NoMemory>
+        ensures room { OnOk result (0 < spare self.new.files.rows) }
+    {
+        self.files.reserve()?;
+        self.names.settle();
+        self.names.insert(*name, num)
+    }
+
+    // The name has no number any more.
+    pub(crate) fn leave(&mut self, name: &Name) {
+        self.names.remove(*name);
+    }
+
+    // Holds the file of a name that was entered, in the room that was made. This takes no memory.
     pub(crate) fn add(&mut self, name: &Name, num: Num, file: F)
-        requires room { vec_len self.old.entries < vec_capacity self.old.entries }
+        requires room { 0 < spare self.old.files.rows }
     {
         let entry = Entry {
-            num,
             name: Some(*name),
             file,
         };
-        let added = self.entries.push(entry);
-        prove!(added.is_ok());
+        self.files.add(num, entry);
     }
 
-    // The file of a name takes another name, or none.
-    pub(crate) fn change_name(&mut self, from: &Name, to: Option<Name>) {
-        for entry in self.entries.iter_mut() {
-            entry.rename(from, &to);
+    // The file of a name, if it has one, has no name any more.
+    pub(crate) fn unname(&mut self, name: &Name) {
+        let Some(num) = self.names.remove(*name) else {
+            return;
+        };
+        if let Some(entry) = self.files.of(num) {
+            entry.name = None;
+        }
+    }
+
+    // The file of a name takes another name. This takes no memory.
+    pub(crate) fn rename(&mut self, from: &Name, to: &Name) {
+        self.unname(to);
+        let (Some(num), None) = (self.named(from), self.named(to)) else {
+            return;
+        };
+        self.names.rename(*from, *to);
+        if let Some(entry) = self.files.of(num) {
+            entry.name = Some(*to);
         }
     }
 
     pub(crate) fn remove(&mut self, num: Num) {
-        self.entries.retain(|entry| entry.num != num);
+        let Some(entry) = self.files.remove(num) else {
+            return;
+        };
+        if let Some(name) = entry.name {
+            self.names.remove(name);
+        }
     }
 }

@@ -8,8 +8,8 @@ use xc_host::{Fault, HostErr};
 
 impl<R: Files + Drop> Folder<R> {
     pub(crate) fn lookup(&mut self, name: &Name) -> Result<Option<Num>, HostErr> {
-        if let Some(entry) = self.files.named(name) {
-            return Ok(Some(entry.num));
+        if let Some(num) = self.files.named(name) {
+            return Ok(Some(num));
         }
         match or_host_fault(self.look(name))? {
             Some(there) => Ok(Some(self.find(name, &there)?)),
@@ -26,11 +26,18 @@ impl<R: Files + Drop> Folder<R> {
             tx: 0,
             k: self.found,
         };
-        self.files.reserve()?;
-        let file = or_host_fault(self.open(name, there))?;
-        self.files.add(name, num, file);
-        self.found += 1;
-        Ok(num)
+        self.files.enter(name, num)?;
+        match self.open(name, there) {
+            Ok(file) => {
+                self.files.add(name, num, file);
+                self.found += 1;
+                Ok(num)
+            }
+            Err(Fault) => {
+                self.files.leave(name);
+                Err(HostErr::Fault)
+            }
+        }
     }
 
     // Opens a regular file. A link that took its place since is opened and closed again, and nothing
@@ -52,11 +59,24 @@ impl<R: Files + Drop> Folder<R> {
 
     // What is there already isn't opened, be it a link or anything else.
     pub(crate) fn create(&mut self, name: &Name, num: Num) -> Result<(), HostErr> {
-        let path = or_host_fault(path(name))?;
-        self.files.reserve()?;
-        let file = or_host_fault(or_fault(File::create_new(&self.rt, path)))?;
-        self.files.add(name, num, file);
-        Ok(())
+        if self.files.named(name).is_some() {
+            return Err(HostErr::Fault);
+        }
+        self.files.enter(name, num)?;
+        match self.make(name) {
+            Ok(file) => {
+                self.files.add(name, num, file);
+                Ok(())
+            }
+            Err(Fault) => {
+                self.files.leave(name);
+                Err(HostErr::Fault)
+            }
+        }
+    }
+
+    fn make(&self, name: &Name) -> Result<R::File, Fault> {
+        or_fault(File::create_new(&self.rt, path(name)?))
     }
 
     // The new name is made first, as a link to the file: that refuses a name that is there. If the old
@@ -69,14 +89,14 @@ impl<R: Files + Drop> Folder<R> {
             or_fault(fs::remove_file(&self.rt, new))?;
             return Err(Fault);
         }
-        self.files.change_name(from, Some(*to));
+        self.files.rename(from, to);
         Ok(())
     }
 
     pub(crate) fn unlink(&mut self, name: &Name) -> Result<(), Fault> {
         self.held(name)?;
         or_fault(fs::remove_file(&self.rt, path(name)?))?;
-        self.files.change_name(name, None);
+        self.files.unname(name);
         Ok(())
     }
 
