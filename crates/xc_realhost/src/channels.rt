@@ -68,7 +68,7 @@ impl Channels {
 
     pub(crate) fn new_pair<R: Net>(&mut self, rt: &R, num: Num) -> Result<(), HostErr> {
         self.pairs.reserve()?;
-        let pair = or_host_fault(Pair::new(rt))?;
+        let pair = or_host_fault(Pair::new(rt, self.alloc))?;
         self.pairs.add(num, pair);
         Ok(())
     }
@@ -87,7 +87,9 @@ impl Channels {
         }
     }
 
-    pub(crate) fn send(&mut self, pair: Num, side: u8, bytes: &[u8]) -> Result<(), Fault> {
+    pub(crate) fn send(&mut self, pair: Num, side: u8, bytes: &[u8]) -> Result<(), Fault>
+        requires few { length bytes.now ≤ 1024 }
+    {
         self.pair(pair)?.send(side, bytes)
     }
 

@@ -1,4 +1,4 @@
-//! A host on the system: regular files of the current folder, pipes, and pairs of sockets on loopback.
+//! A host on the system: regular files of the current folder, pipes, and pairs of sockets.
 //!
 //! It takes no script and tells nothing. Its contracts say when it answers a fault and how it is
 //! counted, and bound what a call gives. What the system does is trusted.

@@ -1,12 +1,13 @@
-ghost use Rattle.std.specs.Prelude.{IfOk};
+ghost use Rattle.std.specs.Prelude.{◌≤◌, length, IfOk};
 ghost use Rattle.xc_host.specs.Pairs.{IsMessage};
 
 use crate::errors::{or_fault, or_host_fault};
+use arrayvec::ArrayVec;
 use std::alloc::Global;
 use std::io;
-use std::io::ErrorKind;
-use std::net::{Ipv4Addr, Net, UdpSocket};
-use std::time::Duration;
+use std::io::{Read, Write};
+use std::net::Net;
+use std::os::unix::net::UnixStream;
 use xc_data::Chunk;
 use xc_host::{Fault, HostErr, HostState, Took};
 
@@ -14,20 +15,21 @@ use xc_host::{Fault, HostErr, HostState, Took};
 const MOST: usize = 1024;
 
 // The most messages that wait for a side.
-const WAITING: u32 = 8;
+const WAITING: usize = 8;
 
-// The most messages of strangers that a new socket may hold before it is connected.
-const STRANGE: usize = 64;
-
-/// One side of a pair: a socket that is connected to the other side's, and the count of what waits.
+/// One side of a pair: its socket, and the lengths of the messages that wait there, in their order.
 #[derive(Drop)]
 struct End {
-    socket: UdpSocket,
-    waiting: u32,
+    socket: UnixStream,
+    lengths: ArrayVec<u16, WAITING>,
+    // What was read of the first message and not yet given, so that a receipt that runs out of memory loses none.
+    back: Vec<u8>,
+    // Whether the system once took a part of a message alone. What came behind that part couldn't be told from it, so
+    // nothing is sent here any more.
+    torn: bool,
 }
 
-/// A pair of sockets on loopback, connected to each other. Its own counts of messages keep each
-/// receipt from waiting.
+/// A pair of sockets, connected to each other and to nobody else. What it notes of messages keeps each receipt from waiting.
 #[derive(Drop)]
 pub(crate) struct Pair {
     zero: End,
@@ -35,56 +37,88 @@ pub(crate) struct Pair {
     shut: bool,
 }
 
-fn bound<R: Net>(rt: &R) -> io::Result<UdpSocket> {
-    UdpSocket::bind(rt, (Ipv4Addr::LOCALHOST, 0))
-}
-
-// Drops what came before the socket was connected. From then on it takes from its peer alone. A
-// message that the system lost is an error after a second.
-fn cleared(socket: UdpSocket) -> io::Result<End> {
-    let mut buffer = [0u8; 1];
-    socket.set_nonblocking(true)?;
-    for _ in 0..STRANGE {
-        match socket.recv(&mut buffer) {
-            Ok(_) => {}
-            Err(error) if error.kind() == ErrorKind::WouldBlock => {
-                socket.set_nonblocking(false)?;
-                socket.set_read_timeout(Some(Duration::from_secs(1)))?;
-                return Ok(End { socket, waiting: 0 });
-            }
-            Err(error) => return Err(error),
-        }
+// Reads the rest of a message of this length, behind what was read of it. The room for it is made first.
+fn fill(mut socket: &UnixStream, back: &mut Vec<u8>, length: usize) -> Result<(), HostErr> {
+    let left = length.saturating_sub(back.len());
+    if left == 0 {
+        return Ok(());
     }
-    Err(io::Error::from(ErrorKind::AddrInUse))
+    back.reserve(left)?;
+    let mut buffer = [0u8; MOST];
+    let most = MOST.min(left);
+    let got = or_host_fault(or_fault(socket.read(&mut buffer[..most])))?;
+    let kept = back.extend_from_slice(&buffer[..got]);
+    prove!(kept.is_ok());
+    if got < left {
+        return Err(HostErr::Fault);
+    }
+    Ok(())
 }
 
-fn connected<R: Net>(rt: &R) -> io::Result<Pair> {
-    let (zero, one) = (bound(rt)?, bound(rt)?);
-    zero.connect(one.local_addr()?)?;
-    one.connect(zero.local_addr()?)?;
+impl End {
+    // No call on the socket waits.
+    fn new(alloc: Global, socket: UnixStream) -> io::Result<End> {
+        socket.set_nonblocking(true)?;
+        Ok(End {
+            socket,
+            lengths: ArrayVec::new(),
+            back: Vec::new(alloc),
+            torn: false,
+        })
+    }
+
+    // Takes the first message, if one waits.
+    fn recv(&mut self, alloc: Global, shut: bool) -> Result<Took, HostErr>
+        ensures bound { IfOk result IsMessage }
+    {
+        let Some(length) = self.lengths.as_slice().first().copied() else {
+            return Ok(if shut { Took::End } else { Took::Empty });
+        };
+        fill(&self.socket, &mut self.back, usize::from(length))?;
+        let count = MOST.min(self.back.len());
+        let message = Chunk::new(alloc, &self.back[..count])?;
+        self.back.clear();
+        self.lengths.pop_at(0);
+        Ok(Took::Bytes(message))
+    }
+
+    // Puts a message behind those that wait here, by the other side's socket.
+    fn put(&mut self, mut from: &UnixStream, bytes: &[u8]) -> Result<(), Fault>
+        requires few { length bytes.now ≤ 1024 }
+    {
+        if self.torn || self.lengths.is_full() {
+            return Err(Fault);
+        }
+        if !bytes.is_empty() {
+            let sent = or_fault(from.write(bytes))?;
+            if sent != bytes.len() {
+                self.torn = sent > 0;
+                return Err(Fault);
+            }
+        }
+        self.lengths.push(bytes.len() as u16);
+        Ok(())
+    }
+}
+
+fn connected<R: Net>(rt: &R, alloc: Global) -> io::Result<Pair> {
+    let (zero, one) = UnixStream::pair(rt)?;
     Ok(Pair {
-        zero: cleared(zero)?,
-        one: cleared(one)?,
+        zero: End::new(alloc, zero)?,
+        one: End::new(alloc, one)?,
         shut: false,
     })
 }
 
 impl Pair {
-    pub(crate) fn new<R: Net>(rt: &R) -> Result<Pair, Fault> {
-        or_fault(connected(rt))
+    pub(crate) fn new<R: Net>(rt: &R, alloc: Global) -> Result<Pair, Fault> {
+        or_fault(connected(rt, alloc))
     }
 
-    fn end(&mut self, side: u8) -> &mut End {
-        if side == 0 {
-            &mut self.zero
-        } else {
-            &mut self.one
-        }
-    }
-
-    pub(crate) fn state(&mut self, side: u8) -> HostState {
+    pub(crate) fn state(&self, side: u8) -> HostState {
+        let end = if side == 0 { &self.zero } else { &self.one };
         HostState {
-            held: self.end(side).waiting,
+            held: end.lengths.len() as u32,
             shut: self.shut,
         }
     }
@@ -93,35 +127,24 @@ impl Pair {
         self.shut = true;
     }
 
-    // A message is looked at before it leaves, so that a receipt that runs out of memory loses none.
     pub(crate) fn recv(&mut self, alloc: Global, side: u8) -> Result<Took, HostErr>
         ensures bound { IfOk result IsMessage }
     {
         let shut = self.shut;
-        let end = self.end(side);
-        if end.waiting == 0 {
-            return Ok(if shut { Took::End } else { Took::Empty });
+        if side == 0 {
+            self.zero.recv(alloc, shut)
+        } else {
+            self.one.recv(alloc, shut)
         }
-        let mut buffer = [0u8; MOST];
-        let count = or_host_fault(or_fault(end.socket.peek(&mut buffer)))?;
-        let message = Chunk::new(alloc, &buffer[..count])?;
-        let mut dropped = [0u8; 1];
-        or_host_fault(or_fault(end.socket.recv(&mut dropped)))?;
-        end.waiting = end.waiting.saturating_sub(1);
-        Ok(Took::Bytes(message))
     }
 
-    pub(crate) fn send(&mut self, side: u8, bytes: &[u8]) -> Result<(), Fault> {
-        let other = if side == 0 { 1 } else { 0 };
-        if self.end(other).waiting >= WAITING {
-            return Err(Fault);
+    pub(crate) fn send(&mut self, side: u8, bytes: &[u8]) -> Result<(), Fault>
+        requires few { length bytes.now ≤ 1024 }
+    {
+        if side == 0 {
+            self.one.put(&self.zero.socket, bytes)
+        } else {
+            self.zero.put(&self.one.socket, bytes)
         }
-        let sent = or_fault(self.end(side).socket.send(bytes))?;
-        if sent != bytes.len() {
-            return Err(Fault);
-        }
-        let end = self.end(other);
-        end.waiting = end.waiting.saturating_add(1);
-        Ok(())
     }
 }

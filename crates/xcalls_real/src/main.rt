@@ -1,5 +1,5 @@
-//! Runs the script on standard input over files of the current folder, pipes and sockets on loopback, and
-//! prints its journal on standard output.
+//! Runs the script on standard input over files of the current folder, pipes and sockets, and prints
+//! its journal on standard output.
 #![tactic(auto)]
 
 use std::process::ExitCode;
