@@ -1,4 +1,5 @@
 ghost use Rattle.std.specs.Prelude.{◌<◌, ◌≤◌, length, IfOk};
+ghost use Rattle.std.specs.HashMap.{IsEmpty};
 ghost use Rattle.xc_host.specs.Pairs.{IsMessage};
 ghost use Rattle.xc_host.specs.Pipes.{IsSomeOf};
 
@@ -21,12 +22,23 @@ pub(crate) struct Channels {
 }
 
 impl Channels {
-    pub(crate) fn new(alloc: Global) -> Channels {
+    pub(crate) fn new(alloc: Global) -> Channels
+        ensures pipes { IsEmpty result.pipes.rows }
+        ensures pairs { IsEmpty result.pairs.rows }
+    {
         Channels {
             alloc,
             pipes: Table::new(alloc),
             pairs: Table::new(alloc),
         }
+    }
+
+    // None is there any more.
+    pub(crate) fn begin_anew(&mut self)
+        ensures pipes { IsEmpty self.new.pipes.rows }
+        ensures pairs { IsEmpty self.new.pairs.rows }
+    {
+        *self = Channels::new(self.alloc);
     }
 
     fn pipe(&mut self, num: Num) -> Result<&mut Pipe, Fault> {

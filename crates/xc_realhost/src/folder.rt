@@ -1,3 +1,7 @@
+ghost use Rattle.std.specs.Prelude.{◌≡◌};
+ghost use Rattle.std.specs.FinMap as map;
+ghost use Rattle.std.specs.HashMap.{IsEmpty};
+
 mod bytes;
 mod names;
 
@@ -39,6 +43,16 @@ impl<R: Files + Drop> Folder<R> {
             files: Held::new(alloc),
             found: 0,
         }
+    }
+
+    // No file is held any more, and the next one that is found gets the first number.
+    pub(crate) fn begin_anew(&mut self)
+        ensures files { IsEmpty self.new.files.files.rows }
+        ensures names { self.new.files.names ≡ map.empty }
+        ensures found { self.new.found ≡ 0 }
+    {
+        self.files = Held::new(self.alloc);
+        self.found = 0;
     }
 
     pub(crate) fn runtime(&self) -> &R {

@@ -1,3 +1,8 @@
+ghost use Rattle.std.specs.Prelude.{◌≡◌};
+ghost use Rattle.std.specs.FinMap as map;
+ghost use Rattle.std.specs.HashMap.{IsEmpty};
+ghost use Rattle.xc_host.specs.Counting.{no_calls};
+
 mod host;
 
 use crate::channels::Channels;
@@ -6,8 +11,7 @@ use crate::folder::Folder;
 use std::net::Net;
 use std::rt::Files;
 
-/// A host on the system: regular files of the current folder, pipes, and pairs of sockets on
-/// loopback. It tells nothing, and takes no script.
+/// A host on the system: regular files of the current folder, pipes, and pairs of sockets. It tells nothing, and takes no script.
 ///
 /// A file that was there before gets the number 0.k at its first lookup, with k from 0 to 65,534. Each
 /// error of the system is a fault, whatever its cause.
@@ -27,5 +31,20 @@ impl<R: Files + Net + AllocGlobal + Drop> RealHost<R> {
             channels: Channels::new(alloc),
             counts: Counts::none(),
         }
+    }
+
+    // Nothing is held open any more. The calls are counted anew, and the faults on.
+    fn begin_anew(&mut self)
+        ensures files { IsEmpty self.new.folder.files.files.rows }
+        ensures names { self.new.folder.files.names ≡ map.empty }
+        ensures found { self.new.folder.found ≡ 0 }
+        ensures pipes { IsEmpty self.new.channels.pipes.rows }
+        ensures pairs { IsEmpty self.new.channels.pairs.rows }
+        ensures calls { self.new.counts.calls ≡ no_calls }
+        ensures faults { self.new.counts.faults ≡ self.old.counts.faults }
+    {
+        self.folder.begin_anew();
+        self.channels.begin_anew();
+        self.counts.begin_anew();
     }
 }

@@ -27,7 +27,7 @@ impl<R: Files + Net + AllocGlobal + Drop> Host for RealHost<R> {
         if !prologue.objects.is_empty() || !prologue.faults.is_empty() || prologue.grain.is_some() {
             return Err(OpenErr::NotScripted);
         }
-        self.counts.begin_anew();
+        self.begin_anew();
         Ok(())
     }
 
