@@ -1,29 +1,40 @@
 ghost use Rattle.std.specs.Prelude.{◌≡◌};
 ghost use Rattle.std.specs.FinMap as map;
-ghost use Rattle.std.specs.HashMap.{IsEmpty};
+ghost use Rattle.std.specs.HashMap as table;
+ghost use Rattle.std.specs.HashSet as set;
 
 mod bytes;
 mod names;
+mod opening;
 
-use crate::errors::or_fault;
-use crate::held::Held;
+use crate::held::{Held, Inode};
 use std::alloc::Global;
-use std::fs::{Metadata, OpenFile};
+use std::fs::{File, Metadata};
 use std::io::ErrorKind;
-use std::os::unix::fs::MetadataExt;
 use std::rt::Files;
 use std::{fs, str};
 use xc_data::{Name, Num};
 use xc_host::Fault;
 
+/// The file of the last append, opened for appending too.
+#[derive(Drop)]
+struct Tail {
+    num: Num,
+    file: File,
+}
+
 /// The regular files of the current folder, held open from their first use.
 #[derive(Drop)]
-pub(crate) struct Folder<R: Files + Drop> {
+pub(crate) struct Folder<R: Files<File = File> + Drop> {
     rt: R,
     alloc: Global,
-    files: Held<R::File>,
+    files: Held,
     // How many files were found that were there before: the `k` of the next one's number.
     found: u16,
+    // The file that the last look-up found, if no call has named its number yet. So nobody but who looked it up can
+    // have it open.
+    fresh: Option<Num>,
+    tail: Option<Tail>,
 }
 
 // A name as a path. It has no slash, and is neither `.` nor `..`, so it stays in the folder.
@@ -31,37 +42,55 @@ fn path(name: &Name) -> Result<&str, Fault> {
     str::from_utf8(name.as_slice()).map_err(|_| Fault)
 }
 
-fn is_same(a: &Metadata, b: &Metadata) -> bool {
-    a.dev() == b.dev() && a.ino() == b.ino()
-}
-
-impl<R: Files + Drop> Folder<R> {
+impl<R: Files<File = File> + Drop> Folder<R> {
     pub(crate) fn new(rt: R, alloc: Global) -> Folder<R> {
         Folder {
             rt,
             alloc,
             files: Held::new(alloc),
             found: 0,
+            fresh: None,
+            tail: None,
         }
     }
 
     // No file is held any more, and the next one that is found gets the first number.
     pub(crate) fn begin_anew(&mut self)
-        ensures files { IsEmpty self.new.files.files.rows }
+        ensures files { table.IsEmpty self.new.files.files.rows }
         ensures names { self.new.files.names ≡ map.empty }
+        ensures inodes { set.IsEmpty self.new.files.inodes }
         ensures found { self.new.found ≡ 0 }
     {
         self.files = Held::new(self.alloc);
         self.found = 0;
+        self.fresh = None;
+        self.tail = None;
     }
 
     pub(crate) fn runtime(&self) -> &R {
         &self.rt
     }
 
-    fn file(&mut self, num: Num) -> Result<&mut R::File, Fault> {
-        let entry = self.files.of(num).ok_or(Fault)?;
-        Ok(&mut entry.file)
+    fn file(&mut self, num: Num) -> Result<&File, Fault> {
+        self.fresh = None;
+        let entry = self.files.get(num).ok_or(Fault)?;
+        Ok(&entry.opened.file)
+    }
+
+    // Whether a file is the one of the last append, which is open for appending.
+    fn has_tail(&self, num: Num) -> bool {
+        match &self.tail {
+            Some(tail) => tail.num == num,
+            None => false,
+        }
+    }
+
+    // Closes a file. Its lock goes with it.
+    fn close(&mut self, num: Num) {
+        self.files.remove(num);
+        if self.has_tail(num) {
+            self.tail = None;
+        }
     }
 
     // What is in the folder under a name, if anything is. A link isn't followed.
@@ -73,14 +102,19 @@ impl<R: Files + Drop> Folder<R> {
         }
     }
 
+    // A fault, unless a name is this file.
+    fn check(&self, name: &Name, inode: Inode) -> Result<(), Fault> {
+        match self.look(name)? {
+            Some(there) if there.is_file() && Inode::of(&there) == inode => Ok(()),
+            Some(_) | None => Err(Fault),
+        }
+    }
+
     // The number of the file that is held under a name, if the name still is that file.
     fn held(&self, name: &Name) -> Result<Num, Fault> {
         let num = self.files.named(name).ok_or(Fault)?;
         let entry = self.files.get(num).ok_or(Fault)?;
-        let held = or_fault(entry.file.metadata())?;
-        match self.look(name)? {
-            Some(there) if is_same(&there, &held) => Ok(num),
-            Some(_) | None => Err(Fault),
-        }
+        self.check(name, entry.opened.inode)?;
+        Ok(num)
     }
 }

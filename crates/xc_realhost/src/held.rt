@@ -1,34 +1,66 @@
 ghost use Rattle.std.specs.Prelude.{◌≡◌, ◌<◌, OnOk};
 ghost use Rattle.std.specs.FinMap as map;
-ghost use Rattle.std.specs.HashMap.{IsEmpty, spare};
+ghost use Rattle.std.specs.HashMap as table;
+ghost use Rattle.std.specs.HashSet as set;
 
 use crate::table::Table;
 use std::alloc::Global;
+use std::collections::HashSet;
+use std::fs::{File, Metadata};
+use std::os::unix::fs::MetadataExt;
 use xc_data::{Name, NoMemory, Num};
 use xc_maps::NameMap;
 
+/// Which file of the system one is: its device, and its number there.
+#[derive(Clone, Copy, PartialEq, Eq, Hash)]
+pub(crate) struct Inode {
+    dev: u64,
+    ino: u64,
+}
+
+impl Inode {
+    pub(crate) fn of(there: &Metadata) -> Inode {
+        Inode {
+            dev: there.dev(),
+            ino: there.ino(),
+        }
+    }
+}
+
+/// An open file, with its lock.
+#[derive(Drop)]
+pub(crate) struct Opened {
+    pub(crate) inode: Inode,
+    pub(crate) file: File,
+    // Else it is open for reading alone.
+    pub(crate) is_writable: bool,
+}
+
 /// A file that is held open, with its name in the folder, if it has one.
 #[derive(Drop)]
-pub(crate) struct Entry<F: Drop> {
+pub(crate) struct Entry {
     pub(crate) name: Option<Name>,
-    pub(crate) file: F,
+    pub(crate) opened: Opened,
 }
 
-/// The files that are held open, and the numbers of their names.
+/// The files that are held open, and the numbers of their names. No two of them are one file of the system.
 #[derive(Drop)]
-pub(crate) struct Held<F: Drop> {
-    files: Table<Entry<F>>,
+pub(crate) struct Held {
+    files: Table<Entry>,
     names: NameMap<Num>,
+    inodes: HashSet<Inode>,
 }
 
-impl<F: Drop> Held<F> {
-    pub(crate) fn new(alloc: Global) -> Held<F>
-        ensures files { IsEmpty result.files.rows }
+impl Held {
+    pub(crate) fn new(alloc: Global) -> Held
+        ensures files { table.IsEmpty result.files.rows }
         ensures names { result.names ≡ map.empty }
+        ensures inodes { set.IsEmpty result.inodes }
     {
         Held {
             files: Table::new(alloc),
             names: NameMap::new(alloc),
+            inodes: HashSet::new(alloc),
         }
     }
 
@@ -38,19 +70,26 @@ impl<F: Drop> Held<F> {
         self.names.get(*name).copied()
     }
 
-    pub(crate) fn get(&self, num: Num) -> Option<&Entry<F>> {
+    pub(crate) fn get(&self, num: Num) -> Option<&Entry> {
         self.files.get(num)
     }
 
-    pub(crate) fn of(&mut self, num: Num) -> Option<&mut Entry<F>> {
+    pub(crate) fn of(&mut self, num: Num) -> Option<&mut Entry> {
         self.files.of(num)
+    }
+
+    // Whether a file of the system is held.
+    pub(crate) fn has(&self, inode: Inode) -> bool {
+        self.inodes.contains(&inode)
     }
 
     // Gives a name the number of a file that isn't held yet, and makes room for the file.
     pub(crate) fn enter(&mut self, name: &Name, num: Num) -> Result<(), NoMemory>
-        ensures room { OnOk result (0 < spare self.new.files.rows) }
+        ensures files { OnOk result (0 < table.spare self.new.files.rows) }
+        ensures inodes { OnOk result (0 < set.spare self.new.inodes) }
     {
         self.files.reserve()?;
+        self.inodes.reserve(1)?;
         self.names.settle();
         self.names.insert(*name, num)
     }
@@ -61,12 +100,15 @@ impl<F: Drop> Held<F> {
     }
 
     // Holds the file of a name that was entered, in the room that was made. This takes no memory.
-    pub(crate) fn add(&mut self, name: &Name, num: Num, file: F)
-        requires room { 0 < spare self.old.files.rows }
+    pub(crate) fn add(&mut self, name: &Name, num: Num, opened: Opened)
+        requires files { 0 < table.spare self.old.files.rows }
+        requires inodes { 0 < set.spare self.old.inodes }
     {
+        let noted = self.inodes.insert(opened.inode);
+        prove!(noted.is_ok());
         let entry = Entry {
             name: Some(*name),
-            file,
+            opened,
         };
         self.files.add(num, entry);
     }
@@ -97,6 +139,7 @@ impl<F: Drop> Held<F> {
         let Some(entry) = self.files.remove(num) else {
             return;
         };
+        self.inodes.remove(&entry.opened.inode);
         if let Some(name) = entry.name {
             self.names.remove(name);
         }

@@ -1,6 +1,7 @@
 ghost use Rattle.std.specs.Prelude.{◌≡◌};
 ghost use Rattle.std.specs.FinMap as map;
-ghost use Rattle.std.specs.HashMap.{IsEmpty};
+ghost use Rattle.std.specs.HashMap as table;
+ghost use Rattle.std.specs.HashSet as set;
 ghost use Rattle.xc_host.specs.Counting.{no_calls};
 
 mod host;
@@ -8,6 +9,7 @@ mod host;
 use crate::channels::Channels;
 use crate::counts::Counts;
 use crate::folder::Folder;
+use std::fs::File;
 use std::net::Net;
 use std::rt::Files;
 
@@ -16,13 +18,13 @@ use std::rt::Files;
 /// A file that was there before gets the number 0.k at its first lookup, with k from 0 to 65,534. Each
 /// error of the system is a fault, whatever its cause.
 #[derive(Drop)]
-pub struct RealHost<R: Files + Net + Drop> {
+pub struct RealHost<R: Files<File = File> + Net + Drop> {
     folder: Folder<R>,
     channels: Channels,
     counts: Counts,
 }
 
-impl<R: Files + Net + AllocGlobal + Drop> RealHost<R> {
+impl<R: Files<File = File> + Net + AllocGlobal + Drop> RealHost<R> {
     /// It holds nothing open. It takes no memory, and makes no call of the system.
     pub fn new(rt: R) -> RealHost<R> {
         let alloc = rt.alloc();
@@ -35,11 +37,12 @@ impl<R: Files + Net + AllocGlobal + Drop> RealHost<R> {
 
     // Nothing is held open any more. The calls are counted anew, and the faults on.
     fn begin_anew(&mut self)
-        ensures files { IsEmpty self.new.folder.files.files.rows }
+        ensures files { table.IsEmpty self.new.folder.files.files.rows }
         ensures names { self.new.folder.files.names ≡ map.empty }
+        ensures inodes { set.IsEmpty self.new.folder.files.inodes }
         ensures found { self.new.folder.found ≡ 0 }
-        ensures pipes { IsEmpty self.new.channels.pipes.rows }
-        ensures pairs { IsEmpty self.new.channels.pairs.rows }
+        ensures pipes { table.IsEmpty self.new.channels.pipes.rows }
+        ensures pairs { table.IsEmpty self.new.channels.pairs.rows }
         ensures calls { self.new.counts.calls ≡ no_calls }
         ensures faults { self.new.counts.faults ≡ self.old.counts.faults }
     {

@@ -1,7 +1,10 @@
-# Nothing can be opened for writing, made or named.
+# A file can be read. None can be written, made or named.
 job main
 tx
-x_open a
+x_open a -> f
+x_write_ovr f "HE"
+x_read f 9
+x_write_seq f "!"
 x_create b
 x_rename a b
 x_unlink a

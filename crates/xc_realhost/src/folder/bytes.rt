@@ -1,9 +1,11 @@
-ghost use Rattle.std.specs.Prelude.{◌<◌, ◌≤◌, length, IfOk};
+ghost use Rattle.std.specs.Prelude.{◌≡◌, ◌<◌, ◌≤◌, length, IfOk, Ok};
 
 use super::Folder;
 use crate::errors::{or_fault, or_host_fault};
-use std::fs::{File, OpenFile};
-use std::io::{Read, Seek, SeekFrom, Write};
+use std::fs::File;
+use std::io;
+use std::io::Write;
+use std::os::unix::fs::FileExt;
 use std::rt::Files;
 use xc_data::{Chunk, Num};
 use xc_host::{Fault, HostErr};
@@ -11,40 +13,46 @@ use xc_host::{Fault, HostErr};
 // The most bytes of one read.
 const MOST: usize = 1024;
 
-// Writes a front of the bytes from the file's place on.
-fn write_front<F: Write>(file: &mut F, bytes: &[u8]) -> Result<u32, Fault>
-    requires some { 0 < length bytes.now }
-    ensures bound { IfOk result (λ n. (0 < n) × (n ≤ length bytes.now)) }
+// How many of the bytes were written: none is a fault.
+fn some_of(written: io::Result<usize>) -> Result<u32, Fault>
+    ensures bound { IfOk result (λ n. (0 < n) × (written ≡ Ok n)) }
 {
-    match file.write(bytes) {
-        Ok(0) => Err(Fault),
-        Ok(n) => u32::try_from(n).map_err(|_| Fault),
-        Err(_) => Err(Fault),
+    match or_fault(written)? {
+        0 => Err(Fault),
+        n => u32::try_from(n).map_err(|_| Fault),
     }
 }
 
-impl<R: Files + Drop> Folder<R> {
+// Writes a front of the bytes behind the file's last byte.
+fn append_to(mut tail: &File, bytes: &[u8]) -> Result<u32, Fault>
+    requires some { 0 < length bytes.now }
+    ensures bound { IfOk result (λ n. (0 < n) × (n ≤ length bytes.now)) }
+{
+    some_of(tail.write(bytes))
+}
+
+// Writes a front of the bytes from a place on.
+fn write_from(file: &File, at: u64, bytes: &[u8]) -> Result<u32, Fault>
+    requires some { 0 < length bytes.now }
+    ensures bound { IfOk result (λ n. (0 < n) × (n ≤ length bytes.now)) }
+{
+    some_of(file.write_at(bytes, at))
+}
+
+impl<R: Files<File = File> + Drop> Folder<R> {
     pub(crate) fn len(&mut self, file: Num) -> Result<u32, Fault> {
         let found = or_fault(self.file(file)?.metadata())?;
         u32::try_from(found.len()).map_err(|_| Fault)
     }
 
-    // Reads a front of the bytes from a place on.
-    fn read(&mut self, file: Num, at: u32, into: &mut [u8]) -> Result<usize, Fault>
-        ensures bound { IfOk result (λ n. n ≤ length into.new) }
-    {
-        let file = self.file(file)?;
-        or_fault(file.seek(SeekFrom::Start(u64::from(at))))?;
-        or_fault(file.read(into))
-    }
-
     pub(crate) fn read_at(&mut self, file: Num, at: u32, n: u32) -> Result<Chunk, HostErr>
         ensures bound { IfOk result (λ front. length front ≤ n) }
     {
+        let alloc = self.alloc;
         let mut buffer = [0u8; MOST];
         let most = MOST.min(n as usize);
-        let alloc = self.alloc;
-        let got = or_host_fault(self.read(file, at, &mut buffer[..most]))?;
+        let file = or_host_fault(self.file(file))?;
+        let got = or_host_fault(or_fault(file.read_at(&mut buffer[..most], u64::from(at))))?;
         Ok(Chunk::new(alloc, &buffer[..got])?)
     }
 
@@ -57,18 +65,38 @@ impl<R: Files + Drop> Folder<R> {
         if at > len || bytes.len() > (len - at) as usize {
             return Err(Fault);
         }
-        let file = self.file(file)?;
-        or_fault(file.seek(SeekFrom::Start(u64::from(at))))?;
-        write_front(file, bytes)
+        write_from(self.file(file)?, u64::from(at), bytes)
     }
 
-    pub(crate) fn append(&mut self, file: Num, bytes: &[u8]) -> Result<u32, Fault>
+    // The system finds the end if the file can be opened for appending, so that nothing is written over what another process
+    // appended meanwhile. One that has no name any more, or for which there is no descriptor left, is written from its end on.
+    pub(crate) fn append(&mut self, num: Num, bytes: &[u8]) -> Result<u32, Fault>
         requires some { 0 < length bytes.now }
         ensures bound { IfOk result (λ n. (0 < n) × (n ≤ length bytes.now)) }
     {
-        let file = self.file(file)?;
-        or_fault(file.seek(SeekFrom::End(0)))?;
-        write_front(file, bytes)
+        self.find_tail(num)?;
+        if let Some(tail) = &self.tail {
+            return append_to(&tail.file, bytes);
+        }
+        let file = self.file(num)?;
+        let end = or_fault(file.metadata())?.len();
+        write_from(file, end, bytes)
+    }
+
+    // Opens a file for appending too, if that can be done. The file of an append before it isn't open so any more. A fault
+    // where the file may only be read.
+    fn find_tail(&mut self, num: Num) -> Result<(), Fault> {
+        self.fresh = None;
+        if self.has_tail(num) {
+            return Ok(());
+        }
+        self.tail = None;
+        let entry = self.files.get(num).ok_or(Fault)?;
+        if !entry.opened.is_writable {
+            return Err(Fault);
+        }
+        self.tail = self.open_tail(num, entry).ok();
+        Ok(())
     }
 
     // A file is never lengthened so.

@@ -1,13 +1,15 @@
-use super::{Folder, is_same, path};
+use super::{Folder, path};
 use crate::errors::{or_fault, or_host_fault};
+use crate::held::Inode;
 use std::fs;
-use std::fs::{File, Metadata, OpenFile, OpenOptions};
+use std::fs::{File, Metadata};
 use std::rt::Files;
 use xc_data::{Name, Num};
 use xc_host::{Fault, HostErr};
 
-impl<R: Files + Drop> Folder<R> {
+impl<R: Files<File = File> + Drop> Folder<R> {
     pub(crate) fn lookup(&mut self, name: &Name) -> Result<Option<Num>, HostErr> {
+        self.fresh = None;
         if let Some(num) = self.files.named(name) {
             return Ok(Some(num));
         }
@@ -17,9 +19,10 @@ impl<R: Files + Drop> Folder<R> {
         }
     }
 
-    // Holds a file that was there before, and gives it the next number.
+    // Holds a file that was there before, and gives it the next number. Another name of a file that is held is a fault: the
+    // file would have two numbers.
     fn find(&mut self, name: &Name, there: &Metadata) -> Result<Num, HostErr> {
-        if self.found == u16::MAX {
+        if self.found == u16::MAX || self.files.has(Inode::of(there)) {
             return Err(HostErr::Fault);
         }
         let num = Num {
@@ -28,9 +31,10 @@ impl<R: Files + Drop> Folder<R> {
         };
         self.files.enter(name, num)?;
         match self.open(name, there) {
-            Ok(file) => {
-                self.files.add(name, num, file);
+            Ok(opened) => {
+                self.files.add(name, num, opened);
                 self.found += 1;
+                self.fresh = Some(num);
                 Ok(num)
             }
             Err(Fault) => {
@@ -40,32 +44,14 @@ impl<R: Files + Drop> Folder<R> {
         }
     }
 
-    // Opens a regular file. A link that took its place since is opened and closed again, and nothing
-    // is read or written through it.
-    fn open(&self, name: &Name, there: &Metadata) -> Result<R::File, Fault> {
-        if !there.is_file() {
-            return Err(Fault);
-        }
-        let mut options = OpenOptions::new();
-        options.read(true).write(true);
-        let file = or_fault(options.open(&self.rt, path(name)?))?;
-        let opened = or_fault(file.metadata())?;
-        if is_same(there, &opened) {
-            Ok(file)
-        } else {
-            Err(Fault)
-        }
-    }
-
-    // What is there already isn't opened, be it a link or anything else.
     pub(crate) fn create(&mut self, name: &Name, num: Num) -> Result<(), HostErr> {
         if self.files.named(name).is_some() {
             return Err(HostErr::Fault);
         }
         self.files.enter(name, num)?;
         match self.make(name) {
-            Ok(file) => {
-                self.files.add(name, num, file);
+            Ok(opened) => {
+                self.files.add(name, num, opened);
                 Ok(())
             }
             Err(Fault) => {
@@ -73,10 +59,6 @@ impl<R: Files + Drop> Folder<R> {
                 Err(HostErr::Fault)
             }
         }
-    }
-
-    fn make(&self, name: &Name) -> Result<R::File, Fault> {
-        or_fault(File::create_new(&self.rt, path(name)?))
     }
 
     // The new name is made first, as a link to the file: that refuses a name that is there. If the old
@@ -93,10 +75,15 @@ impl<R: Files + Drop> Folder<R> {
         Ok(())
     }
 
+    // The file stays open for who has it open. If the look-up for this very call found it, nobody has.
     pub(crate) fn unlink(&mut self, name: &Name) -> Result<(), Fault> {
-        self.held(name)?;
+        let num = self.held(name)?;
         or_fault(fs::remove_file(&self.rt, path(name)?))?;
-        self.files.unname(name);
+        if self.fresh == Some(num) {
+            self.close(num);
+        } else {
+            self.files.unname(name);
+        }
         Ok(())
     }
 
@@ -105,7 +92,7 @@ impl<R: Files + Drop> Folder<R> {
             return Err(Fault);
         }
         or_fault(fs::remove_file(&self.rt, path(name)?))?;
-        self.files.remove(num);
+        self.close(num);
         Ok(())
     }
 }

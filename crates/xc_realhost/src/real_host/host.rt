@@ -4,12 +4,13 @@ ghost use Rattle.xc_host.specs.Counting.{calls_of};
 
 use super::RealHost;
 use crate::errors::or_host_fault;
+use std::fs::File;
 use std::net::Net;
 use std::rt::Files;
 use xc_data::{Chunk, Kind, Name, Num, Object, Prologue};
 use xc_host::{Fault, Host, HostErr, HostState, OpenErr, Took};
 
-impl<R: Files + Net + AllocGlobal + Drop> Host for RealHost<R> {
+impl<R: Files<File = File> + Net + AllocGlobal + Drop> Host for RealHost<R> {
     ghost model = { record {
       tells = false;
       takes_scripts = false;
