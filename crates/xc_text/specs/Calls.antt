@@ -1,6 +1,5 @@
 -- Lines that are calls: the word that one begins with, and the shape of what stands after it.
-use Rattle.std.specs.Prelude.{ℕ, List, map, Option, Some, None, Result, Err}
-use Rattle.xc_text.specs.declared.calls.TheConstants.{CALL_KINDS}
+use Rattle.std.specs.Prelude.{ℕ, List, [], ◌∷◌, codes, Option, Some, None, Result, Err}
 use Rattle.xc_text.specs.declared.calls.CallKind.{CallKind}
 use Rattle.xc_text.specs.declared.calls.CallKind.TheVariants.{Word, Name, Handle, Pipe, Pair, Thread}
 use Rattle.xc_text.specs.declared.calls.WordCall.{WordCall}
@@ -26,9 +25,31 @@ use Rattle.xc_tokens.specs.ByWord.{Entry}
 use Rattle.xc_tokens.specs.Tokens.{Lexeme}
 use Rattle.xc_tokens.specs.Words.{ident, name}
 
--- the words of all calls: the reader's own table
-abbrev pub call_kinds : List (Entry CallKind)
-call_kinds = map (λ entry. (entry.0.now, entry.1)) CALL_KINDS
+-- the words of all calls
+unfoldable pub call_kinds : List (Entry CallKind)
+call_kinds =
+    (codes "load", Word word.Load)
+    ∷ (codes "store", Word word.Store)
+    ∷ (codes "x_open", Name named.Open)
+    ∷ (codes "x_create", Name named.Create)
+    ∷ (codes "x_rename", Name named.Rename)
+    ∷ (codes "x_unlink", Name named.Unlink)
+    ∷ (codes "x_read", Handle handled.Read)
+    ∷ (codes "x_write_ovr", Handle handled.Overwrite)
+    ∷ (codes "x_write_seq", Handle handled.Append)
+    ∷ (codes "x_seek", Handle handled.Seek)
+    ∷ (codes "x_len", Handle handled.Length)
+    ∷ (codes "x_close", Handle handled.Close)
+    ∷ (codes "x_sync", Handle handled.Sync)
+    ∷ (codes "x_pipe", Pipe piped.Make)
+    ∷ (codes "x_read_pipe", Pipe piped.Read)
+    ∷ (codes "x_write_pipe", Pipe piped.Write)
+    ∷ (codes "x_shutdown", Pipe piped.Shutdown)
+    ∷ (codes "x_pair", Pair paired.Make)
+    ∷ (codes "x_recvmsg", Pair paired.Receive)
+    ∷ (codes "x_sendmsg", Pair paired.Send)
+    ∷ (codes "x_thread_create", Thread)
+    ∷ []
 
 -- a name, a handle or a block, and nothing or a variable or a slot
 abbrev pub NameAnd : Type 0

@@ -1,9 +1,9 @@
 -- Terms, tests and expressions in a line.
-use Rattle.std.specs.Prelude.{ℕ, ◌==◌, List, [], ◌∷◌, map, codes, ok_or, Result, Err, if◌then◌else◌}
+use Rattle.std.specs.Prelude.{ℕ, ◌==◌, List, [], ◌∷◌, codes, ok_or, Result, Err, if◌then◌else◌}
 use Rattle.xc_text.specs.declared.script.Term.TheVariants.{Number, Variable, Slot}
 use Rattle.xc_text.specs.declared.script.Expression.TheVariants.{Term as OneTerm, Sum, Difference}
 use Rattle.xc_text.specs.declared.script.Test.{Test}
-use Rattle.xc_text.specs.declared.term.TheConstants.{SIGNS}
+use Rattle.xc_text.specs.declared.script.Test.TheVariants as compares
 use Rattle.xc_text.specs.Named.{Term, Expression}
 use Rattle.xc_tokens.specs.declared.why.Why.{Why}
 use Rattle.xc_tokens.specs.declared.why.Why.TheVariants.{BadForm}
@@ -27,9 +27,16 @@ abbrev pub term : Lexeme → Result Term Why
 term (Word word) = term_in word
 term (Literal meant times) = Err BadForm
 
--- the signs of tests: the reader's own table
-abbrev pub signs : List (Entry Test)
-signs = map (λ entry. (entry.0.now, entry.1)) SIGNS
+-- the signs of tests
+unfoldable pub signs : List (Entry Test)
+signs =
+    (codes "=", compares.Equal)
+    ∷ (codes "!=", compares.NotEqual)
+    ∷ (codes "<", compares.Less)
+    ∷ (codes "<=", compares.AtMost)
+    ∷ (codes ">", compares.Greater)
+    ∷ (codes ">=", compares.AtLeast)
+    ∷ []
 
 -- the test that a word spells
 abbrev pub test_in : List ℕ → Result Test Why

@@ -89,6 +89,7 @@ const CALL_KINDS: [(&[u8], CallKind); 21] = [
 ];
 
 /// The kind of call that a word begins.
+#[tactic(auto, unfolding(crate::specs::Calls::call_kinds))]
 pub fn call_kind(word: &[u8]) -> Option<CallKind>
     ensures { result ≡ found_by call_kinds word.now }
 {

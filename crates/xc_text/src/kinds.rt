@@ -34,6 +34,7 @@ const KINDS: [(&[u8], Kind); 25] = [
     (b"any", Kind::Any),
 ];
 
+#[tactic(auto, unfolding(crate::specs::Kinds::spellings))]
 fn kind_word(word: &[u8]) -> Result<Kind, Why>
     ensures { result ≡ kind_in word.now }
 {

@@ -41,6 +41,7 @@ const SIGNS: [(&[u8], Test); 6] = [
     (b">=", Test::AtLeast),
 ];
 
+#[tactic(auto, unfolding(crate::specs::Terms::signs))]
 fn test_word(word: &[u8]) -> Result<Test, Why>
     ensures { result ≡ test_in word.now }
 {
