@@ -17,6 +17,17 @@ no_ends variables [] ends none = refl
 no_ends variables (c ∷ calls) [] none = refl
 no_ends variables (c ∷ calls) (end ∷ ends) none = absurd (omega (arith, none))
 
+-- where no call is left, none is kept
+pub no_calls : (dropped : Bool) (calls : List Call) (replies : List Reply) → length calls < 1 → kept_behind dropped calls replies ≡ []
+no_calls dropped [] replies none = refl
+no_calls dropped (c ∷ calls) replies none = absurd (omega (arith, none))
+
+-- nor where no reply is left
+pub no_replies : (dropped : Bool) (calls : List Call) (replies : List Reply) → length replies < 1 → kept_behind dropped calls replies ≡ []
+no_replies dropped [] replies none = refl
+no_replies dropped (c ∷ calls) [] none = refl
+no_replies dropped (c ∷ calls) (reply ∷ replies) none = absurd (omega (arith, none))
+
 -- the kept calls so far, or those at the save where the open block goes back, and then those behind
 abbrev kept_in_all : List Call → Option (List Call) → List Call → List Reply → List Call
 kept_in_all kept None calls replies = kept ++ kept_behind false calls replies

@@ -283,6 +283,7 @@ impl JobState {
     }
 
     // What was kept for a back is dropped, and its list stays.
+    #[inline(always)]
     fn forget_save(&mut self)
         ensures { self.new ≡ record self.old { saved = None } }
     {

@@ -112,6 +112,7 @@ impl Variables {
     }
 
     /// Puts what the variables hold into a list. Their bytes are shared.
+    #[inline(always)]
     pub fn keep_values(&self, kept: &mut Values) -> Result<(), NoMemory>
         ensures { OnOk result (kept.new ≡ self.now.values) }
     {
