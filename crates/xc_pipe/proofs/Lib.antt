@@ -4,3 +4,4 @@ pub mod ReadSteps
 pub mod ReadCalls
 pub mod TakeRuns
 pub mod KeptData
+pub mod Behind

@@ -18,6 +18,7 @@ ghost use Rattle.xc_world.specs.Act.Step.{storing_reply};
 ghost use Rattle.xc_world.specs.After.{bytes_in};
 ghost use Rattle.xc_pipe.specs.Checks.{refusal_at};
 ghost use Rattle.xc_pipe.specs.Reading.{Finds, IsPipeIn, IsReadReply, Leads, Notes, NotesOf, Reads, ReadsBy, TakenBy, TakesUntil, found_of};
+ghost use Rattle.xc_pipe.specs.Taking.{HasTaken, ReadsKeptOf, TakesAfter, TakesKept};
 
 use crate::checks::open_pipe;
 use crate::holding::{join, take_kept};
@@ -62,6 +63,8 @@ fn take_rest<H: Host>(
       new = record { contents = H.model.contents host.new; items = kept.new.items };
     })) }
     ensures kept { OnOk result (kept.new ≡ kept.old) }
+    ensures short { OnErr result (length kept_front < n) }
+    ensures after { TakesAfter pipe kept_front (record { old = kept.old.items; new = kept.new.items }) result }
     ensures spare { kept.old.spare ≤ kept.new.spare + 2 }
     ensures uses { Uses H.model (record { old = host.old; new = host.new }) (TakesUntil n (length kept_front) result) }
     ensures keeps { IsTrue H.model.tells → KeepsData (H.model.contents host.old) (H.model.contents host.new) }
@@ -106,6 +109,7 @@ fn take_all<H: Host>(
       old = record { contents = H.model.contents host.old; items = kept.old.items };
       new = record { contents = H.model.contents host.new; items = kept.new.items };
     })) }
+    ensures kept { TakesKept pipe n (record { old = kept.old.items; new = kept.new.items }) result }
     ensures room { OnOk result (kept.old.spare ≤ kept.new.spare) }
     ensures spare { kept.old.spare ≤ kept.new.spare + 2 }
     ensures uses { Uses H.model (record { old = host.old; new = host.new }) (TakenBy n result) }
@@ -142,6 +146,7 @@ fn read_next<H: Host>(
     })) }
     ensures reply { IfOk result (IsReadReply n) }
     ensures notes { NotesOf pipe taken.old.items taken.new.items result }
+    ensures kept { ReadsKeptOf pipe n (record { old = kept.old.items; new = kept.new.items }) result }
     ensures room { IfOk result (λ reply. is_fault_reply reply ≡ false → kept.old.spare ≤ kept.new.spare) }
     ensures spare { kept.old.spare ≤ kept.new.spare + 2 }
     ensures uses { Uses H.model (record { old = host.old; new = host.new }) (ReadsBy n result) }
@@ -205,6 +210,7 @@ fn read_open<H: Host>(
       new = record { contents = H.model.contents host.new; items = kept.new.items };
     })) }
     ensures notes { NotesOf pipe taken.old.items taken.new.items result }
+    ensures kept { ReadsKeptOf pipe n (record { old = kept.old.items; new = kept.new.items }) result }
     ensures room { IfOk result (λ reply. is_fault_reply reply ≡ false → kept.old.spare ≤ kept.new.spare) }
     ensures spare { kept.old.spare ≤ kept.new.spare + 2 }
     ensures stored { me.new.stored ≤ 16384 }
@@ -241,6 +247,7 @@ pub fn x_read_pipe<H: Host>(
     ensures err { IsTrue H.model.tells → OnErr result
         (with_kept (H.model.contents host.new) kept.new.items ≡ with_kept (H.model.contents host.old) kept.old.items) }
     ensures notes { Notes (XReadPipe h n) me.old (record { old = taken.old.items; new = taken.new.items }) result }
+    ensures kept { HasTaken (XReadPipe h n) me.old (record { old = kept.old.items; new = kept.new.items }) result }
     ensures room { IfOk result (λ reply. is_fault_reply reply ≡ false → kept.old.spare ≤ kept.new.spare) }
     ensures spare { kept.old.spare ≤ kept.new.spare + 2 }
     ensures stored { me.new.stored ≤ 16384 }

@@ -4,3 +4,4 @@ pub mod Made
 pub mod Receipts
 pub mod ReceiptSteps
 pub mod ReceiptCalls
+pub mod Behind

@@ -69,7 +69,8 @@ module _ (items : List KeptItem) (pair : Num) (side : ℕ) (fit : All (λ t. is_
   waits_there x = side_front x items pair side fit lt ∙ ap (λ ms. ms ++ waiting (pair_of x pair) side) none
 
   -- a message for it may be given back before or after them
-  gives_there : (x : World) (message : List ℕ) → given_back (gives x (Message pair side message)) items ≡ gives (given_back x items) (Message pair side message)
+  pub gives_there : (x : World) (message : List ℕ)
+      → given_back (gives x (Message pair side message)) items ≡ gives (given_back x items) (Message pair side message)
   gives_there x message =
       side_put x items pair side (message ∷ waiting (pair_of x pair) side) fit lt (no_message_items items pair side none)
       ∙ ap (λ ms. with_pair (given_back x items) pair (with_waiting (pair_of (given_back x items) pair) side (message ∷ ms))) (sym (waits_there x))

@@ -18,6 +18,7 @@ ghost use Rattle.xc_world.specs.Act.Step.{storing_reply};
 ghost use Rattle.xc_world.specs.After.{bytes_in};
 ghost use Rattle.xc_world.specs.Checks.{refusal_of};
 ghost use Rattle.xc_pipe.specs.Reading.{Notes};
+ghost use Rattle.xc_pipe.specs.Taking.{HasTaken, ReceivesKeptOf, TakesMessageKept};
 ghost use Rattle.xc_socket.specs.Checks.{IsPairIn};
 ghost use Rattle.xc_socket.specs.Receiving.{AskedBy, Finds, IsReceiptReply, IsSame, NotesOf, Receives, ReceivesBy};
 
@@ -39,6 +40,8 @@ fn take_next<H: Host>(host: &mut H, kept: &mut Kept, at: OpenSide) -> Result<Too
       old = record { contents = H.model.contents host.old; items = kept.old.items };
       new = record { contents = H.model.contents host.new; items = kept.new.items };
     })) }
+    ensures kept { TakesMessageKept at.pair at.side (record { old = kept.old.items; new = kept.new.items }) result }
+    ensures were { AreKept kept.old.items }
     ensures room { kept.old.spare ≤ kept.new.spare }
     ensures uses { Uses H.model (record { old = host.old; new = host.new }) (AskedBy result) }
     ensures keeps { IsTrue H.model.tells → KeepsData (H.model.contents host.old) (H.model.contents host.new) }
@@ -73,6 +76,7 @@ fn receive_next<H: Host>(
     })) }
     ensures reply { IfOk result IsReceiptReply }
     ensures notes { NotesOf at.pair at.side (record { old = taken.old.items; new = taken.new.items }) result }
+    ensures kept { ReceivesKeptOf at.pair at.side (record { old = kept.old.items; new = kept.new.items }) result }
     ensures room { IfOk result (λ reply. kept.old.spare ≤ kept.new.spare) }
     ensures spare { kept.old.spare ≤ kept.new.spare + 1 }
     ensures uses { Uses H.model (record { old = host.old; new = host.new }) (ReceivesBy result) }
@@ -139,6 +143,7 @@ fn receive_open<H: Host>(
       new = record { contents = H.model.contents host.new; items = kept.new.items };
     })) }
     ensures notes { NotesOf at.pair at.side (record { old = taken.old.items; new = taken.new.items }) result }
+    ensures kept { ReceivesKeptOf at.pair at.side (record { old = kept.old.items; new = kept.new.items }) result }
     ensures room { IfOk result (λ reply. kept.old.spare ≤ kept.new.spare) }
     ensures spare { kept.old.spare ≤ kept.new.spare + 1 }
     ensures stored { me.new.stored ≤ 16384 }
@@ -172,6 +177,7 @@ pub fn x_recvmsg<H: Host>(
     ensures err { IsTrue H.model.tells → OnErr result
         (with_kept (H.model.contents host.new) kept.new.items ≡ with_kept (H.model.contents host.old) kept.old.items) }
     ensures notes { Notes (XRecvmsg h) me.old (record { old = taken.old.items; new = taken.new.items }) result }
+    ensures kept { HasTaken (XRecvmsg h) me.old (record { old = kept.old.items; new = kept.new.items }) result }
     ensures room { IfOk result (λ reply. is_fault_reply reply ≡ false → kept.old.spare ≤ kept.new.spare) }
     ensures spare { kept.old.spare ≤ kept.new.spare + 2 }
     ensures stored { me.new.stored ≤ 16384 }

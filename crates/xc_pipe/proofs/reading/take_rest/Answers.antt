@@ -1,5 +1,7 @@
 use Rattle.std.proofs.Common.{◌≡◌, ◌+◌, ◌-◌, ◌++◌, [], Ok, length, IsTrue, List, ℕ, refl, ap, sym, ◌∙◌, subst, arith, length-append}
 use Rattle.xc_buffers.specs.Items.{kept_bytes}
+use Rattle.xc_data.specs.Step.{Step}
+use Rattle.xc_data.specs.declared.entry.KeptItem.{KeptItem}
 use Rattle.xc_buffers.specs.Views.{KeptView}
 use Rattle.xc_host.specs.Pipes.{IsSomeOf, IsTakenOf, after_take, pipe_in}
 use Rattle.xc_host.specs.Uses.{Uses}
@@ -9,10 +11,12 @@ use Rattle.xc_host.specs.declared.pipes.Took.TheVariants.{Empty, End}
 use Rattle.xc_host.specs.declared.pipes.Took.TheVariants as took
 use Rattle.xc_world.specs.Run.{given_back}
 use Rattle.xc_pipe.specs.Reading.{Leads, TakesUntil, back}
+use Rattle.xc_pipe.specs.Taking.{TakesAfter}
 use Rattle.xc_host.proofs.DataKept.{keeps_then}
 use Rattle.xc_pipe.proofs.KeptData.{keeps_same, keeps_take}
 use Rattle.xc_pipe.proofs.Takings.{fails_back, rest_joined, taken_there}
 use Rattle.xc_pipe.proofs.TakeRuns.{takes_end, takes_fail, takes_more}
+use Rattle.xc_pipe.proofs.Behind.{GoesOn, back_after, found_after, goes_further}
 use Rattle.xc_pipe.proofs.reading.take_rest.Goals as goal
 
 pub returns-in-Err-join-clause-err : goal.returns-in-Err-join-clause-err
@@ -59,6 +63,7 @@ loop-alloc-preserved g c =
     record {
       most = omega (arith, size, some.1, c.len-in-loop-alloc.ensures.value, was.most);
       least = omega (arith, size, was.least);
+      goes = subst (GoesOn c.args.kept_front) (sym c.in-Ok.ensures.all) (goes_further c.args.kept_front front more was.goes);
       same = c.in-Ok.ensures.kept ∙ was.same;
       there = λ t. taken_there here next pipe (length more) (did t);
       leads = λ t.
@@ -126,3 +131,33 @@ returns-in-Err-clause-keeps g c =
     let next = model.contents c.take.new.self in
     λ t. keeps_then (model.contents c.args.host.now) here next (c.loop-alloc.invariant.keeps t)
     (keeps_same here next (c.in-Err.ensures.answered.refused t))
+
+pub returns-in-Err-join-clause-after : goal.returns-in-Err-join-clause-after
+returns-in-Err-join-clause-after g c =
+    let was = c.loop-alloc.invariant in
+    let front = c.loop-alloc.front in
+    let more = c.in-Ok-Bytes.more in
+    back_after c.args.kept.now.items c.join.new.kept.items c.args.pipe c.args.kept_front (front ++ more) NoMemory
+    (goes_further c.args.kept_front front more was.goes)
+    (λ w. c.in-Err-join.ensures.err w ∙ ap (λ (k : KeptView). given_back (given_back w k.items) (back c.args.pipe (front ++ more))) was.same)
+
+pub returns-in-Ok-Empty-clause-after : goal.returns-in-Ok-Empty-clause-after
+returns-in-Ok-Empty-clause-after g c =
+    let kept : Step (List KeptItem) = record { old = c.args.kept.now.items; new = c.loop-alloc.kept.items } in
+    subst (λ (r : Took). TakesAfter c.args.pipe c.args.kept_front kept (Ok r)) (sym c.found.ensures)
+    (found_after c.args.pipe c.args.kept_front c.loop-alloc.front kept Empty c.loop-alloc.invariant.goes (λ none. none))
+
+pub returns-in-Ok-End-clause-after : goal.returns-in-Ok-End-clause-after
+returns-in-Ok-End-clause-after g c =
+    let kept : Step (List KeptItem) = record { old = c.args.kept.now.items; new = c.loop-alloc.kept.items } in
+    subst (λ (r : Took). TakesAfter c.args.pipe c.args.kept_front kept (Ok r)) (sym c.found-in-Ok-End.ensures)
+    (found_after c.args.pipe c.args.kept_front c.loop-alloc.front kept End c.loop-alloc.invariant.goes (λ none. none))
+
+pub returns-in-Err-clause-after : goal.returns-in-Err-clause-after
+returns-in-Err-clause-after g c =
+    let was = c.loop-alloc.invariant in
+    back_after c.args.kept.now.items c.give_back.new.self.items c.args.pipe c.args.kept_front c.loop-alloc.front c.in-Err.error was.goes
+    (λ w. c.give_back.ensures.world w ∙ ap (λ (k : KeptView). given_back (given_back w k.items) (back c.args.pipe c.loop-alloc.front)) was.same)
+
+pub returns-clause-after : goal.returns-clause-after
+returns-clause-after g c = c.loop-alloc.invariant.goes

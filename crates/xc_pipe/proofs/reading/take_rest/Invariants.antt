@@ -4,6 +4,7 @@ use Rattle.xc_host.specs.Kept.{KeepsData}
 use Rattle.xc_host.specs.Pipes.{has_pipe}
 use Rattle.xc_host.specs.Uses.{Uses}
 use Rattle.xc_pipe.specs.Reading.{Leads}
+use Rattle.xc_pipe.proofs.Behind.{GoesOn}
 use Rattle.xc_pipe.proofs.reading.take_rest.Given as goal
 
 -- a longer front was taken so far, and no fault came
@@ -13,6 +14,7 @@ invariant-loop-alloc g l =
     record {
       most : length l.front ≤ l.n;
       least : length l.fn.kept_front ≤ length l.front;
+      goes : GoesOn l.fn.kept_front l.front;
       same : l.kept ≡ l.fn.kept;
       there : IsTrue model.tells → has_pipe (model.contents l.host) l.pipe ≡ true;
       leads : IsTrue model.tells → Leads l.pipe l.fn.kept_front l.front (record {
