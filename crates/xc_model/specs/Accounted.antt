@@ -1,5 +1,5 @@
 -- Why each transaction ended as it did.
-use Rattle.std.specs.Prelude.{◌≡◌, ℕ, true, List, [], ◌∷◌, length, take, slice_get, IsTrue}
+use Rattle.std.specs.Prelude.{◌≡◌, ℕ, true, List, [], ◌∷◌, length, take, get_or, slice_get, IsTrue}
 use Rattle.std.specs.declared.option.Option.TheVariants.{Some}
 use Rattle.xc_data.specs.declared.call.LateAnswer.TheVariants.{Fine}
 use Rattle.xc_data.specs.declared.call.LateCall.{LateCall}
@@ -19,11 +19,13 @@ use Rattle.xc_world.specs.Ends.{Ending}
 use Rattle.xc_world.specs.Fits.{late_answer_of}
 use Rattle.xc_world.specs.Late.{late}
 use Rattle.xc_world.specs.World.{World}
+use Rattle.xc_model.specs.Asked.{lasts_of}
+use Rattle.xc_model.specs.Course.{opening_course}
 use Rattle.xc_model.specs.Grounds.{Scene, Ground, Part, Revocation, scene_of}
-use Rattle.xc_model.specs.Progress.{Progress, body_of, following_of, progress_of}
+use Rattle.xc_model.specs.Machine.{machine_part, machine_parts}
+use Rattle.xc_model.specs.Progress.{Progress, body_of, progress_of}
 use Rattle.xc_model.specs.RecordCounts.{no_records, all_records, IsStuckIn}
 use Rattle.xc_model.specs.Setting.{Setting}
-use Rattle.xc_model.specs.Truth.{asked_behind, part_of, entry_parts}
 
 -- a late call on this world ended in a fault or for lack of memory, as its end says; or else as it does where the host does its part
 abbrev pub IsLateEnd : World → LateCall → LateEnd → Type 0
@@ -57,11 +59,13 @@ module _ (a : Account) where
 
   -- its part
   abbrev pub own_part : Part
-  own_part = part_of a.setting a.before a.entry
+  own_part = machine_part a.before.state a.next a.entry
 
   -- all entries, and none that is active
   abbrev pub own_scene : Scene
-  own_scene = scene_of a.setting.tells (entry_parts a.setting a.journal) []
+  own_scene =
+      let script = a.setting.script in
+      scene_of a.setting.tells (machine_parts (opening_course script.outline) (lasts_of script a.journal) a.journal) []
 
   -- after its calls a transaction was asked an abort; or a call, which met what another one held; an older one revoked
   -- it; memory ran out; or it was asked to go back, and these records tell where that failed in its open block
@@ -89,7 +93,7 @@ progress_before s journal place = progress_of s.script (take place journal)
 abbrev pub account_of : Setting → List Entry → ℕ → Entry → Account
 account_of s journal place e =
     let before = progress_before s journal place in
-    let next = asked_behind s.script (following_of before e) e.replies in
+    let next = get_or (lasts_of s.script journal) place ask.End in
     record { setting = s; journal = journal; place = place; before = before; next = next; entry = e }
 
 -- each transaction of a journal: it committed, but where there was a cause for its abort

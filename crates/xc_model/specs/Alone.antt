@@ -6,7 +6,7 @@ use Rattle.xc_data.specs.declared.entry.JobEnd.TheVariants.{JournalFull}
 use Rattle.xc_model.specs.declared.phase.Phase.{Phase}
 use Rattle.xc_model.specs.declared.phase.Phase.TheVariants.{Undoing}
 use Rattle.xc_model.specs.Serial.{IsSerial}
-use Rattle.xc_model.specs.Truth.{is_tried_again}
+use Rattle.xc_model.specs.EntryEnds.{is_tried_again}
 use Rattle.xc_model.specs.Moment.{TxView, JobView, Ended, Moment}
 use Rattle.xc_model.specs.Movers.{IsActiveAt}
 

@@ -22,7 +22,7 @@ use Rattle.xc_world.specs.Effects.{undone_to}
 use Rattle.xc_data.specs.declared.entry.Mark.{Mark}
 use Rattle.xc_model.specs.declared.phase.Phase.{Phase}
 use Rattle.xc_model.specs.declared.phase.Phase.TheVariants.{Running, Undoing, Backing}
-use Rattle.xc_model.specs.Moment.{TxView, SavedView, Moment, Touches, with_job}
+use Rattle.xc_model.specs.Moment.{TxView, SavedView, Moment, GivesBack, Touches, kept_between, with_job}
 use Rattle.xc_data.specs.declared.call.LateCall.{LateCall}
 use Rattle.xc_script.specs.declared.ask.Ask.TheVariants as ask
 use Rattle.xc_model.specs.Movers.{asked_at, with_tx, Mover, HasCalled, IsSameBegin}
@@ -78,7 +78,9 @@ module _ (m : Mover) (tx : TxView) where
     -- the late calls of the block are cut off
     pub more : List LateCall
     pub cut : tx.late ≡ kept.late ++ more
-    pub behind : new ≡ record (with_job m.old m.at (with_tx m.job place (backed tx kept))) { contents = new.contents }
+    pub behind : new ≡ record (with_job m.old m.at (with_tx m.job place (backed tx kept))) { contents = new.contents; kept = new.kept }
+    -- over every host, in front of what was kept
+    pub given : GivesBack (drop (length kept.taken) tx.taken) (kept_between m.old new)
     pub returned : IsTrue m.setting.tells → new.contents ≡ with_kept m.old.contents (drop (length kept.taken) tx.taken)
 
   -- by whether a record of the block has no end yet

@@ -1,41 +1,24 @@
 -- The rows of a committing transaction: its late calls, one a turn, and its entry.
-use Rattle.std.specs.Prelude.{◌≡◌, ℕ, ◌<◌, ◌≤◌, Bool, true, false, List, [], ◌∷◌, ◌++◌, length}
+use Rattle.std.specs.Prelude.{◌≡◌, ℕ, ◌≤◌, List, [], ◌∷◌, ◌++◌, length}
 use Rattle.std.specs.Prelude.{IsTrue}
-use Rattle.std.specs.Prelude.{nat_eq}
-use Rattle.std.specs.Cmp.Lexicographic.{pointwise}
-use Rattle.std.specs.List.{list_any}
 use Rattle.xc_data.specs.Counts.{CountsFault}
 use Rattle.xc_data.specs.Faults.{is_fault_end}
 use Rattle.xc_data.specs.declared.call.LateCall.{LateCall}
 use Rattle.xc_data.specs.declared.call.LateCall.TheVariants.{Thread}
 use Rattle.xc_data.specs.declared.call.LateEnd.{LateEnd}
-use Rattle.xc_data.specs.declared.call.LateEnd.TheVariants as late_end
 use Rattle.xc_data.specs.declared.entry.Outcome.TheVariants.{Committed}
 use Rattle.xc_data.specs.declared.entry.Turn.{Turn}
 use Rattle.xc_data.specs.declared.entry.Turn.TheVariants as turn
 use Rattle.xc_deferred.specs.Does.{EndsAsPlain}
 use Rattle.xc_host.specs.Uses.{LatesFor}
-use Rattle.xc_text.specs.declared.script.Script.{Script}
 use Rattle.xc_model.specs.Moment.{TxView, Moment}
 use Rattle.xc_model.specs.Moment.{late_left, with_job, entering, joined}
 use Rattle.xc_model.specs.Moment.{Touches}
 use Rattle.xc_model.specs.Movers.{with_tx, Mover, HasCalled}
 use Rattle.xc_model.specs.Entering.{entry_of, behind_commit, started_jobs}
+use Rattle.xc_model.specs.Starts.{IsStart}
 
 -- ---- late calls
--- the script has this block
-abbrev pub is_block_in : Script → List ℕ → Bool
-is_block_in script block = list_any (λ name. pointwise nat_eq name block) (script.outline.jobs ++ script.outline.bodies)
-
--- how a call ends that starts a job of this block: from these blocks of started jobs to those
-abbrev pub IsStart : Script → List (List ℕ) → List ℕ → LateEnd → List (List ℕ) → Type 0
-IsStart script was block late_end.Done is = (is_block_in script block ≡ true) × (length was < 1000) × (is ≡ was ++ block ∷ [])
-IsStart script was block late_end.NoScript is = (is_block_in script block ≡ false) × (is ≡ was)
-IsStart script was block (late_end.Full n) is = (is_block_in script block ≡ true) × (1000 ≤ length was) × (n ≡ 0) × (is ≡ was)
-IsStart script was block (late_end.NoMemory n) is = (n ≡ 0) × (is ≡ was)
--- it has no other end
-IsStart script was block _ is = ⊥
-
 module _ (m : Mover) (tx : TxView) where
   -- the next late call is done, in the order in which they were made, under the claims of its transaction
   pub record EndsLate (call : LateCall) (new : Moment) : Type 0 where

@@ -26,7 +26,7 @@ pub record IsConsistent (s : Setting) (faults : ℕ) (now : Moment) : Type 0 whe
   pub spoken : WordsAgree (progress_of s.script now.journal).words now.words now.jobs
   pub apart : AreApart now.jobs
   pub counted : AreCounted faults now
-  pub started : AreStarted now
+  pub started : AreStarted s.script now
 
 -- ---- jobs that have ended
 

@@ -18,7 +18,8 @@ use Rattle.xc_script.specs.Ask.{next_body, transactions_at}
 use Rattle.xc_world.specs.World.{State}
 use Rattle.xc_model.specs.Setting.{Setting}
 use Rattle.xc_model.specs.Progress.{Following, Progress, opening_progress, after_entry, following_of, progress_of}
-use Rattle.xc_model.specs.Truth.{IsTrueJournal, is_tried_again}
+use Rattle.xc_model.specs.EntryEnds.{is_tried_again}
+use Rattle.xc_model.specs.Truth.{IsTrueJournal}
 use Rattle.xc_model.specs.Serial.{is_final, is_asked}
 
 -- as often as the rules allow an attempt at its next transaction ended in a conflict, the last one by this cause

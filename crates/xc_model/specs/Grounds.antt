@@ -5,7 +5,7 @@ use Rattle.xc_data.specs.Claims.{Clash}
 use Rattle.xc_data.specs.declared.object.Object.{Object}
 use Rattle.xc_data.specs.declared.claim.Claim.{Claim}
 use Rattle.xc_data.specs.declared.entry.Cause.{Cause}
-use Rattle.xc_data.specs.declared.entry.Cause.TheVariants.{Conflict, Revoked}
+use Rattle.xc_data.specs.declared.entry.Cause.TheVariants.{Asked, Conflict, NoMemory, Revoked, Stuck}
 
 -- what a conflict or a revocation is judged by: an entry, or an active transaction
 pub record Part : Type 0 where
@@ -82,7 +82,11 @@ abbrev pub IsGrounded : Scene → ℕ → Part → Option Cause → Type 0
 IsGrounded scene place e (Some (Conflict object holder at)) =
     Ground scene place e (record { object = object; number = holder; at = at })
 IsGrounded scene place e (Some (Revoked object by at)) = Revocation scene place e (record { object = object; number = by; at = at })
-IsGrounded scene place e _ = Unit {0}
+-- no other cause names a holder
+IsGrounded scene place e (Some Asked) = Unit {0}
+IsGrounded scene place e (Some NoMemory) = Unit {0}
+IsGrounded scene place e (Some (Stuck failed)) = Unit {0}
+IsGrounded scene place e None = Unit {0}
 
 -- of all, those in the journal and the active ones, by job
 pub record AreGrounded (scene : Scene) : Type 0 where

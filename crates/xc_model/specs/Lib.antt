@@ -24,8 +24,14 @@ pub mod RunningRows
 pub mod Serial
 pub mod Setting
 pub mod Started
+pub mod Starts
 pub mod Stories
 pub mod Truth
+pub mod Joint
+pub mod Machine
+pub mod Asked
+pub mod Course
+pub mod EntryEnds
 pub mod UndoingRows
 pub mod BackingRows
 pub mod Waiting

@@ -1,7 +1,8 @@
 -- A station between two turns, as plain data.
-use Rattle.std.specs.Prelude.{◌≡◌, ℕ, ◌+◌, List, [], ◌∷◌, ◌++◌, length, nat_eq, slice_set, Option, if◌then◌else◌}
+use Rattle.std.specs.Prelude.{◌≡◌, ◌⊎◌, ℕ, ◌+◌, List, [], ◌∷◌, ◌++◌, length, nat_eq, slice_set, Contains, Option, if◌then◌else◌}
 use Rattle.std.specs.List.{filter_map}
 use Rattle.std.specs.declared.option.Option.TheVariants.{None, Some}
+use Rattle.xc_data.specs.Step.{Step}
 use Rattle.xc_data.specs.declared.call.Call.{Call}
 use Rattle.xc_data.specs.declared.call.Reply.{Reply}
 use Rattle.xc_data.specs.declared.call.LateCall.{LateCall}
@@ -19,6 +20,8 @@ use Rattle.xc_compensate.specs.Records.{Records}
 use Rattle.xc_deferred.specs.Queue.{Queue, left}
 use Rattle.xc_host.specs.Contents.{Contents}
 use Rattle.xc_script.specs.Position.{Position}
+use Rattle.xc_world.specs.Run.{given_back}
+use Rattle.xc_world.specs.World.{World}
 use Rattle.xc_model.specs.declared.phase.Attempts.{Attempts}
 use Rattle.xc_data.specs.declared.entry.Mark.{Mark}
 use Rattle.xc_data.specs.declared.private.Place.{Place}
@@ -78,13 +81,15 @@ pub record JobView : Type 0 where
   pub doing : Doing
 
 -- a station: its words, what the host tells with the kept data in front of it, how often the host has failed and how often it
--- was called by kind, the journal, the jobs from number 1 on that are live or have ended, the blocks of all that were started,
--- those not yet live after, and the marks of transactions that are to be revoked, by their numbers
+-- was called by kind, the kept data itself (what aborted transactions gave back to pipes and pairs), the journal, the jobs from
+-- number 1 on that are live or have ended, the blocks of all that were started, those not yet live after, and the marks of
+-- transactions that are to be revoked, by their numbers
 pub record Moment : Type 0 where
   pub words : List ℕ
   pub contents : Contents
   pub faults : ℕ
   pub calls : Kind → ℕ
+  pub kept : List KeptItem
   pub journal : List Entry
   pub jobs : List JobView
   pub started : List (List ℕ)
@@ -139,6 +144,20 @@ with_job now at job = record now { jobs = slice_set now.jobs at job }
 -- says
 abbrev pub Touches : Moment → ℕ → JobView → Moment → Type 0
 Touches old at job new = new ≡ record (with_job old at job) { contents = new.contents; faults = new.faults; calls = new.calls }
+
+-- the same where data may be taken too: what is kept is as it says
+abbrev pub TouchesData : Moment → ℕ → JobView → Moment → Type 0
+TouchesData old at job new =
+    new ≡ record (with_job old at job) { contents = new.contents; faults = new.faults; calls = new.calls; kept = new.kept }
+
+-- what is kept, before and after
+abbrev pub kept_between : Moment → Moment → Step (List KeptItem)
+kept_between old new = record { old = old.kept; new = new.kept }
+
+-- these are given back in front of what was kept, in every world; and each item that is kept was one of these, or kept before
+pub record GivesBack (taken : List KeptItem) (kept : Step (List KeptItem)) : Type 0 where
+  pub given : (w : World) → given_back w kept.new ≡ given_back (given_back w kept.old) taken
+  pub among : (item : KeptItem) → Contains kept.new item → Contains taken item ⊎ Contains kept.old item
 
 -- the cause of a marked one's abort
 abbrev pub revoked : Mark → Cause

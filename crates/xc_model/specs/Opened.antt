@@ -21,11 +21,12 @@ opened_job script block =
       doing = Idle;
     }
 
--- the script's words, an empty journal, its jobs before their first transactions, which alone are started, no mark, and no call
--- of the host after its opening
+-- the script's words, an empty journal, nothing kept, its jobs before their first transactions, which alone are started, no mark,
+-- and no call of the host after its opening
 pub record IsOpening (script : Script) (now : Moment) : Type 0 where
   pub words : now.words ≡ script.outline.words
   pub journal : now.journal ≡ []
+  pub kept : now.kept ≡ []
   pub jobs : now.jobs ≡ map (opened_job script) script.outline.jobs
   pub started : now.started ≡ script.outline.jobs
   pub marks : (n : ℕ) → now.marks n ≡ None

@@ -12,7 +12,7 @@ use Rattle.xc_model.specs.declared.phase.Phase.{Phase}
 use Rattle.xc_model.specs.declared.phase.Phase.TheVariants.{Undoing}
 use Rattle.xc_model.specs.Setting.{Setting}
 use Rattle.xc_model.specs.Progress.{Progress, private_of}
-use Rattle.xc_model.specs.Truth.{IsHeldAt, AreRecords}
+use Rattle.xc_model.specs.EntryEnds.{IsHeldAt, AreRecords}
 use Rattle.xc_model.specs.Stories.{asked_of_tx}
 use Rattle.xc_model.specs.Moment.{TxView}
 

@@ -1,7 +1,7 @@
 -- The rows of a running transaction: it makes its call, waits, meets a conflict, is revoked, is out of memory, or turns to its end.
 use Rattle.std.specs.Prelude.{◌≡◌, ◌⊎◌, ℕ, ◌<◌, ◌≤◌, List, [], ◌++◌, length}
 use Rattle.std.specs.Prelude.{All, IsTrue, IsSome, Bool, true, false}
-use Rattle.std.specs.Prelude.{Option, nat_eq, if◌then◌else◌}
+use Rattle.std.specs.Prelude.{Option, Ok, Err, nat_eq, if◌then◌else◌}
 use Rattle.std.specs.declared.option.Option.TheVariants.{None, Some}
 use Rattle.xc_data.specs.Claims.{holding}
 use Rattle.xc_data.specs.Counts.{CountsFault}
@@ -16,8 +16,11 @@ use Rattle.xc_data.specs.declared.object.Object.{Object}
 use Rattle.xc_data.specs.declared.entry.Cause.TheVariants as cause
 use Rattle.xc_data.specs.declared.entry.Turn.{Turn}
 use Rattle.xc_data.specs.declared.entry.Turn.TheVariants as turn
+use Rattle.xc_data.specs.Step.{Step}
+use Rattle.xc_data.specs.declared.entry.KeptItem.{KeptItem}
 use Rattle.xc_data.specs.declared.undo.Undo.{Undo}
 use Rattle.xc_host.specs.Uses.{CallsOf}
+use Rattle.xc_pipe.specs.Taking.{HasTaken}
 use Rattle.xc_script.specs.declared.ask.Ask.{Ask}
 use Rattle.xc_script.specs.declared.ask.Ask.TheVariants as ask
 use Rattle.xc_script.specs.Answers.{answered}
@@ -33,7 +36,7 @@ use Rattle.xc_model.specs.declared.phase.Phase.TheVariants.{Running, Committing,
 use Rattle.xc_model.specs.WordCalls.{IsWordStep}
 use Rattle.xc_model.specs.Moment.{TxView, Moment}
 use Rattle.xc_model.specs.Moment.{with_job}
-use Rattle.xc_model.specs.Moment.{revoked, waiting, Touches}
+use Rattle.xc_model.specs.Moment.{revoked, waiting, kept_between, TouchesData}
 use Rattle.xc_model.specs.Movers.{asked_at, IsSameBegin, IsSamePosition, with_tx, Mover, HasCalled}
 use Rattle.xc_model.specs.Rivals.{HasNoRival, IsFirstRival}
 use Rattle.xc_model.specs.PlainSteps.{Parts, StepsAsPlainIn, tx_parts, noting, stored_by, claims_at, IsReplyInTime, StopsAt, saved_by}
@@ -78,7 +81,7 @@ module _ (m : Mover) (tx : TxView) where
     pub reply : Reply
     pub place : Position
     pub parts : Parts
-    pub behind : Touches m.old m.at (with_tx m.job place (noting tx call reply (claims_at m.old tx call) parts)) new
+    pub behind : TouchesData m.old m.at (with_tx m.job place (noting tx call reply (claims_at m.old tx call) parts)) new
     -- the job stands after the reply
     pub begin : IsSameBegin m.job.place place
     pub walk : walk_of m.setting.script place ≡ answered (walk_of m.setting.script m.job.place) reply
@@ -109,6 +112,8 @@ module _ (m : Mover) (tx : TxView) where
     pub spoken : IsWordStep (overlaid m.old.words tx.writes) (overlaid m.old.words parts.stores) call reply
     -- a fault exactly where the host's count rose
     pub cause : CountsFault (is_fault_reply reply) m.old.faults new.faults
+    -- over every host: what it took is kept no longer, or the host's; and with a fault it is kept
+    pub kept : HasTaken call tx.me (kept_between m.old new) (Ok reply)
     -- over a host that tells, all is the plain machine's
     pub does : IsTrue m.setting.tells → StepsAsPlainIn m.old.words (record { old = m.old.contents; new = new.contents })
         (record { old = tx_parts tx; new = parts }) call reply
@@ -174,6 +179,13 @@ module _ (m : Mover) (tx : TxView) where
       ⊎ (All (HasNoRival m.old.jobs m.at) (claims_at m.old tx call) × (held ≡ holding tx.held (claims_at m.old tx call)))
   HoldsWanting _ left held = (left ≡ []) × (held ≡ tx.held)
 
+  -- what is kept where memory ran out: all that was, and what the host gave to the asked call behind it
+  abbrev pub KeepsWanting : Ask → Step (List KeptItem) → Type 0
+  KeepsWanting (ask.Call call) kept = HasTaken call tx.me kept (Err (record {}))
+  KeepsWanting ask.Commit kept = kept.new ≡ kept.old
+  KeepsWanting ask.Abort kept = kept.new ≡ kept.old
+  KeepsWanting ask.End kept = kept.new ≡ kept.old
+
 module _ (m : Mover) (tx : TxView) where
   -- memory runs out: nothing is noted, and the host is as before but for what the asked call did before, which at most
   -- one record tells
@@ -185,7 +197,12 @@ module _ (m : Mover) (tx : TxView) where
     pub held : List Claim
     pub holds : HoldsWanting m tx (asked_at m.setting m.job.place) left held
     pub behind : new
-        ≡ record (with_job m.old m.at (with_tx m.job place (wanting tx left held))) { contents = new.contents; calls = new.calls }
+        ≡ record (with_job m.old m.at (with_tx m.job place (wanting tx left held))) {
+          contents = new.contents;
+          calls = new.calls;
+          kept = new.kept;
+        }
+    pub kept : KeepsWanting m tx (asked_at m.setting m.job.place) (kept_between m.old new)
     -- the host was called for no more than the asked call
     pub uses : HasCalled (StopsAt (asked_at m.setting m.job.place)) m.old new
     pub contents : IsTrue m.setting.tells → IsLeft m.old new (tx_parts tx) (asked_at m.setting m.job.place) left

@@ -8,7 +8,7 @@ use Rattle.xc_data.specs.declared.entry.Cause.TheVariants as cause
 use Rattle.xc_data.specs.declared.entry.Outcome.{Outcome}
 use Rattle.xc_data.specs.declared.entry.Outcome.TheVariants.{Committed, Aborted}
 use Rattle.xc_data.specs.declared.entry.Entry.{Entry}
-use Rattle.xc_model.specs.Truth.{is_tried_again}
+use Rattle.xc_model.specs.EntryEnds.{is_tried_again}
 
 -- ---- transactions one after another
 -- none of its attempts is to be tried again

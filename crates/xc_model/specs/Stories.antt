@@ -26,7 +26,10 @@ use Rattle.xc_model.specs.declared.phase.Phase.TheVariants.{Running, Committing,
 use Rattle.xc_model.specs.Setting.{Setting}
 use Rattle.xc_model.specs.Grounds.{Part, AreGrounded, Scene, scene_of}
 use Rattle.xc_model.specs.Progress.{Following, opening_progress, progress_of}
-use Rattle.xc_model.specs.Truth.{AsksEach, AreTrue, IsCauseOf, counting, next_of, entry_parts}
+use Rattle.xc_model.specs.Asked.{AsksEach, next_of}
+use Rattle.xc_model.specs.EntryEnds.{IsCauseOf}
+use Rattle.xc_model.specs.Joint.{AreTrue, entry_parts}
+use Rattle.xc_model.specs.Machine.{counting}
 use Rattle.xc_model.specs.Ending.{IsEnd}
 use Rattle.xc_model.specs.InTime.{AreInTime}
 use Rattle.xc_model.specs.RecordCounts.{RecordCount, no_records, all_records, AreFewFaults, HasRecords, IsStuckIn}

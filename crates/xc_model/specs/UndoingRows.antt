@@ -17,7 +17,7 @@ use Rattle.xc_world.specs.Ends.{IsLegalEnd}
 use Rattle.xc_world.specs.Effects.{undone_to}
 use Rattle.xc_model.specs.Moment.{TxView, Moment}
 use Rattle.xc_model.specs.Moment.{entering}
-use Rattle.xc_model.specs.Moment.{Touches}
+use Rattle.xc_model.specs.Moment.{GivesBack, Touches, kept_between}
 use Rattle.xc_model.specs.Movers.{with_tx, Mover, HasCalled}
 use Rattle.xc_model.specs.Entering.{entry_of, behind_abort}
 
@@ -44,7 +44,10 @@ module _ (m : Mover) (tx : TxView) where
     pub behind : new ≡ record (entering m.old m.at (behind_abort m.job tx c)
         (entry_of tx m.at (Aborted (record { cause = c; records = tx.undo.ended })))) {
           contents = new.contents;
+          kept = new.kept;
         }
+    -- over every host, it is in front of what was kept
+    pub kept : GivesBack tx.taken (kept_between m.old new)
     -- over a host that tells, it is in front of what is there
     pub returned : IsTrue m.setting.tells → new.contents ≡ with_kept m.old.contents tx.taken
 

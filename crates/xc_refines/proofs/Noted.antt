@@ -24,7 +24,7 @@ use Rattle.xc_model.specs.declared.phase.Phase.TheVariants.{Running, Committing,
 use Rattle.xc_model.specs.Setting.{Setting}
 use Rattle.xc_model.specs.Progress.{progress_of, private_of}
 use Rattle.xc_model.specs.Played.{HoldsFor, IsPlayedSoFar, RecordsFor, done_late, late_done}
-use Rattle.xc_model.specs.Truth.{AreLeft, AreLeftBy}
+use Rattle.xc_model.specs.EntryEnds.{AreLeft, AreLeftBy}
 use Rattle.xc_model.specs.Stories.{StoriesHold, asked_of_tx}
 use Rattle.xc_model.specs.Moment.{TxView, JobView, Moment, active_of}
 use Rattle.xc_flight.specs.Flight.{IsPhase}

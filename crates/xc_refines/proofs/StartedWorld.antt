@@ -24,7 +24,7 @@ use Rattle.xc_world.specs.Run.{given_back, lates, late_asked_of}
 use Rattle.xc_world.specs.Sound.{IsSound}
 use Rattle.xc_model.specs.LateCalls.{started_late, started_with}
 use Rattle.xc_data.specs.Calls.{thread_in}
-use Rattle.xc_model.specs.CommittingRows.{IsStart, is_block_in}
+use Rattle.xc_model.specs.Starts.{IsStart, is_block_in}
 use Rattle.xc_world.specs.Effects.{whole}
 use Rattle.xc_flight.specs.Active.{Tx}
 use Rattle.xc_flight.specs.Flight.{Inside, ran}

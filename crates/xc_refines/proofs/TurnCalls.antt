@@ -32,7 +32,7 @@ use Rattle.xc_model.specs.Setting.{Setting}
 use Rattle.xc_model.specs.Progress.{Progress}
 use Rattle.xc_model.specs.Played.{HoldsFor}
 use Rattle.xc_model.specs.Stories.{asked_of_tx}
-use Rattle.xc_model.specs.Truth.{AsksEach}
+use Rattle.xc_model.specs.Asked.{AsksEach}
 use Rattle.xc_model.specs.declared.phase.Phase.TheVariants.{Running}
 use Rattle.xc_model.specs.Moment.{SavedView, TxView, JobView, Active, active_in}
 use Rattle.xc_model.specs.Rivals.{HasNoRival}

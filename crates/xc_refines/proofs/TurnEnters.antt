@@ -22,7 +22,7 @@ use Rattle.xc_model.specs.Setting.{Setting}
 use Rattle.xc_model.specs.Progress.{Progress}
 use Rattle.xc_model.specs.Played.{HoldsFor}
 use Rattle.xc_model.specs.Stories.{asked_of_tx}
-use Rattle.xc_model.specs.Truth.{IsPartOf, next_claims}
+use Rattle.xc_model.specs.EntryEnds.{IsPartOf, next_claims}
 use Rattle.xc_model.specs.Moment.{TxView, JobView, Active, active_of}
 use Rattle.xc_flight.specs.Active.{Tx, Has, Own, Covers}
 use Rattle.xc_flight.specs.Active as flight

@@ -12,7 +12,7 @@ use Rattle.xc_model.specs.Setting.{Setting}
 use Rattle.xc_model.specs.Progress.{Following, Progress, progress_of}
 use Rattle.xc_model.specs.Played.{HoldsFor}
 use Rattle.xc_model.specs.Stories.{asked_of_tx, StoriesHold, StoryHolds}
-use Rattle.xc_model.specs.Truth.{next_of}
+use Rattle.xc_model.specs.Asked.{next_of}
 use Rattle.xc_model.specs.Moment.{TxView, JobView, Active, Moment, active_in, active_of, begun_count}
 use Rattle.xc_model.specs.IdleRows.{new_tx}
 use Rattle.xc_model.specs.Movers.{with_tx}

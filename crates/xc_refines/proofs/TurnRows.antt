@@ -2,6 +2,7 @@
 use Rattle.std.proofs.Common.{◌≡◌, ℕ, ◌+◌, List, [], ◌∷◌, ◌++◌, length, refl, ap, sym, ◌∙◌, subst, arith, IsTrue, Option, Some, None}
 use Rattle.std.proofs.Common.{length-append, length-drop}
 use Rattle.std.specs.Prelude.{slice_get, slice_set, nat_lt, ◌≤◌, false}
+use Rattle.xc_data.specs.declared.entry.KeptItem.{KeptItem}
 use Rattle.xc_data.specs.declared.call.Call.{Call}
 use Rattle.xc_data.specs.declared.call.LateCall.{LateCall}
 use Rattle.xc_data.specs.declared.entry.Cause.{Cause}
@@ -300,12 +301,12 @@ module _ (s : Setting) (old : Moment) (at : ℕ) (job : JobView) (there : slice_
         (subst (λ cs. Flying s before (airfield old.words cs new.started jobs next)) (sym (ap (λ (n : Moment). n.contents) row.behind)) flown))
 
     -- ---- an entry
-    entered_so : (job' : JobView) (e : Entry) (contents : Contents) (more : List JobView) → active_of job' ≡ None
+    entered_so : (job' : JobView) (e : Entry) (contents : Contents) (kept : List KeptItem) (more : List JobView) → active_of job' ≡ None
         → actives (slice_set old.jobs at job' ++ more) ≡ actives (slice_set old.jobs at job')
         → Flying s (after_entry s.script before e) (airfield old.words contents old.started (slice_set old.jobs at job' ++ more) (begun_count old + 1))
-        → AreInFlight s (joined (record (entering old at job' e) { contents = contents }) more)
-    entered_so job' e contents more none same flown =
-        let new : Moment = joined (record (entering old at job' e) { contents = contents }) more in
+        → AreInFlight s (joined (record (entering old at job' e) { contents = contents; kept = kept }) more)
+    entered_so job' e contents kept more none same flown =
+        let new : Moment = joined (record (entering old at job' e) { contents = contents; kept = kept }) more in
         let count = count_put old.jobs at job job' there in
         let none_now : ones (active_of job') ≡ 0 = ap ones none in
         let was = one in
@@ -329,7 +330,7 @@ module _ (s : Setting) (old : Moment) (at : ℕ) (job : JobView) (there : slice_
         let more = started_jobs s.script job tx in
         let me = (f.flies.flights at (flown job.me (f.unnoted at) tx) (flown_there f.unnoted old.jobs at job tx there doing)).inside.me in
         let many = told.count in
-        entered_so job' e old.contents more refl (idle_actives job'.me.places (slice_set old.jobs at job') more (started_new s.script job' blocks))
+        entered_so job' e old.contents old.kept more refl (idle_actives job'.me.places (slice_set old.jobs at job') more (started_new s.script job' blocks))
         (enters s before (after_entry s.script before e) old.words old.contents old.contents old.started old.jobs more next at job job' there refl f
         (commit_leads s before old.words old.contents old.started old.jobs next at job tx there doing f (after_entry s.script before e) job' more commits done
         (commit_world s.script before g old.jobs at job tx there follows.at_place fresh f.handles (f.unnoted at))
@@ -348,11 +349,11 @@ module _ (s : Setting) (old : Moment) (at : ℕ) (job : JobView) (there : slice_
         let job' = behind_abort job tx c in
         let back = abort_left job tx c in
         let kept_jobs : Moment → List JobView → Moment = λ n js. record n { jobs = js } in
-        let there_now = record (entering old at job' e) { contents = with_kept old.contents tx.taken } in
+        let there_now = record (entering old at job' e) { contents = with_kept old.contents tx.taken; kept = new.kept } in
         let nil = append-nil (slice_set old.jobs at job') in
         subst (AreInFlight s) (ap (kept_jobs there_now) nil
-        ∙ sym (row.behind ∙ ap (λ contents. record (entering old at job' e) { contents = contents }) (row.returned tells)))
-        (entered_so job' e (with_kept old.contents tx.taken) [] back.none (ap actives nil)
+        ∙ sym (row.behind ∙ ap (λ contents. record (entering old at job' e) { contents = contents; kept = new.kept }) (row.returned tells)))
+        (entered_so job' e (with_kept old.contents tx.taken) new.kept [] back.none (ap actives nil)
         (enters s before (after_entry s.script before e) old.words old.contents (with_kept old.contents tx.taken) old.started old.jobs [] next at job job'
         there back.none f
         (abort_leads s before old.words old.contents old.started old.jobs next at job tx c there doing undoes none f (after_entry s.script before e) job'

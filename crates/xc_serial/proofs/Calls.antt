@@ -20,7 +20,7 @@ use Rattle.xc_script.specs.Answers.{behind_ask, bound, target_of, refuses}
 use Rattle.xc_script.specs.Blocks.{BlockWalk, is_keep, behind_keep, after_call, after_ask, replied, all_replied}
 use Rattle.xc_script.specs.declared.ask.Ask.{Ask}
 use Rattle.xc_script.specs.declared.ask.Ask.TheVariants as ask
-use Rattle.xc_model.specs.Truth.{AsksEach}
+use Rattle.xc_model.specs.Asked.{AsksEach}
 use Rattle.xc_text.specs.Stated.{Statement}
 use Rattle.xc_world.specs.Act.{act}
 use Rattle.xc_data.specs.Calls.{bytes_of}

@@ -27,7 +27,9 @@ use Rattle.xc_model.specs.Ending.{has_memory_end, is_memory_end}
 use Rattle.xc_model.specs.Progress.{Following, Progress, private_of, body_of, run_of}
 use Rattle.xc_model.specs.Setting.{Setting}
 use Rattle.xc_model.specs.RecordCounts.{RecordCount, no_records, all_records, IsStuckIn}
-use Rattle.xc_model.specs.Truth.{IsEntry, IsAskedFor, IsReport, IsHeld, IsHeldAt, IsPlayedOutcome, IsCauseOf, AreRecords, next_of}
+use Rattle.xc_model.specs.Asked.{next_of}
+use Rattle.xc_model.specs.EntryEnds.{IsReport, IsHeld, IsHeldAt, IsCauseOf, AreRecords}
+use Rattle.xc_model.specs.Joint.{IsEntry, IsAskedFor, IsPlayedOutcome}
 use Rattle.xc_model.specs.Serial.{is_asked, is_final}
 use Rattle.xc_world.specs.Ends.{Ending, AreLegal, blocker, is_undone}
 use Rattle.xc_world.specs.Fits.{late_answer_of}
@@ -38,7 +40,7 @@ use Rattle.xc_serial.proofs.Calls.{replies_of_pairs}
 
 -- ---- the compensations of an aborted transaction
 -- records, each undone without a fault
-abbrev undone : List Undo → List Ending
+abbrev pub undone : List Undo → List Ending
 undone us = map (λ (undo : Undo). (undo, Undone 0)) us
 
 none_blocks : (from : ℕ) (u : Undo) (us : List Undo) → blocker from u (undone us) ≡ None
@@ -46,7 +48,7 @@ none_blocks from u [] = refl
 none_blocks from u (v ∷ us) = none_blocks (from + 1) u us
 
 -- legal ends without a fault undid their records
-all_undone : (tries from : ℕ) (records : List Ending) → 1 ≤ tries → AreLegal tries from records → sum_by undo_faults records ≡ 0
+pub all_undone : (tries from : ℕ) (records : List Ending) → 1 ≤ tries → AreLegal tries from records → sum_by undo_faults records ≡ 0
     → records ≡ undone (map (λ r. r.0) records)
 all_undone tries from [] some legal none = refl
 all_undone tries from ((u, Undone n) ∷ newer) some legal none =

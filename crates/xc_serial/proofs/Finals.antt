@@ -15,15 +15,18 @@ use Rattle.xc_data.specs.declared.entry.Outcome.{Outcome}
 use Rattle.xc_data.specs.declared.entry.Outcome.TheVariants.{Committed, Aborted}
 use Rattle.xc_print.specs.Text.{rendered}
 use Rattle.xc_script.specs.Ask.{fresh_job, block_place, next_body}
-use Rattle.xc_model.specs.Ending.{IsEnd, AreEnds, Final, IsTrueEnd, StopWhereFull, is_memory, is_starved, is_final_or_tried_again}
+use Rattle.xc_model.specs.Ending.{IsEnd, AreEnds, Final, IsTrueEnd, StopWhereFull, all_done, is_done, is_memory, is_starved}
+use Rattle.xc_model.specs.Ending.{is_final_or_tried_again}
 use Rattle.xc_model.specs.Ending.{some_late_starved, wanted_memory}
 use Rattle.xc_model.specs.Progress.{Following, untried, opening_progress, progress_of}
 use Rattle.xc_model.specs.Setting.{Setting}
-use Rattle.xc_model.specs.Serial.{AreInOrder, IsSerial, is_alone, is_asked, is_final, all_final}
-use Rattle.xc_model.specs.Truth.{is_tried_again}
+use Rattle.xc_model.specs.Serial.{AreInOrder, IsSerial, all_final, is_alone, is_asked, is_final}
+use Rattle.xc_model.specs.EntryEnds.{is_tried_again}
 use Rattle.xc_text.specs.declared.script.Script.{Script}
 use Rattle.xc_turns.proofs.Completions.{GoesOn, all_go}
+use Rattle.xc_turns.proofs.Ways.{joint_of_parts}
 use Rattle.xc_serial.specs.Plain.{plain_job_end, plain_journal, plain_lines, plain_text}
+use Rattle.xc_serial.specs.Undisturbed.{all_alone, is_full, is_full_end}
 use Rattle.xc_serial.proofs.Journals.{AreOver, AreOverBefore, AreUntried, are_next, rise, same_journal, untried_all}
 
 -- ---- where no attempt is tried again each entry is settled
@@ -37,13 +40,19 @@ settled_alone (Committed late) either alone = refl
 settled_alone (Aborted report) either alone = left_of_two (is_asked report.cause) (is_tried_again report.cause) either alone
 
 -- all are settled
-all_are_settled : (place : ℕ) (entries : List Entry) → AreInOrder place entries
+all_are_settled : (entries : List Entry) → all_alone entries ≡ true
     → list_all (λ (e : Entry). is_final_or_tried_again e.outcome) entries ≡ true → all_final entries ≡ true
-all_are_settled place [] order each = refl
-all_are_settled place (e ∷ entries) order each =
+all_are_settled [] alone each = refl
+all_are_settled (e ∷ entries) alone each =
     let both = and_parts (is_final_or_tried_again e.outcome) (list_all (λ (x : Entry). is_final_or_tried_again x.outcome) entries) each in
-    and_from (is_final e.outcome) (all_final entries) (settled_alone e.outcome both.0 order.2)
-    (all_are_settled (place + 1) entries order.3 both.1)
+    let parts = and_parts (is_alone e.outcome) (all_alone entries) alone in
+    and_from (is_final e.outcome) (all_final entries) (settled_alone e.outcome both.0 parts.0) (all_are_settled entries parts.1 both.1)
+
+-- where transactions came one after another none met another
+alone_in_order : (place : ℕ) (entries : List Entry) → AreInOrder place entries → all_alone entries ≡ true
+alone_in_order place [] order = refl
+alone_in_order place (e ∷ entries) order =
+    and_from (is_alone e.outcome) (all_alone entries) order.2 (alone_in_order (place + 1) entries order.3)
 
 -- ---- the jobs' ends
 -- where memory wasn't wanting no job starved
@@ -120,6 +129,26 @@ line_beside s n (f ∷ jobs) (line ∷ lines) zero g ends has =
     (line, refl, subst (λ (x : Following). IsPlainEnd s n x line.end) same ends.0.end)
 line_beside s n (f ∷ jobs) (line ∷ lines) (suc i) g ends has = line_beside s n jobs lines i g ends.1 has
 
+-- a plain end of a job that found the journal not full is that of one that was done
+plain_done : (script : Script) (f : Following) (d : JobEnd) → d ≡ plain_job_end script f → is_full_end d ≡ false → is_done d ≡ true
+plain_done script f d same room = subst (λ (x : JobEnd). is_full_end x ≡ false → is_done x ≡ true) (sym same)
+    (by_next (is_some (next_body script f.job))) room
+  where
+    by_next : (b : Bool) → is_full_end (if b then job_end.JournalFull else job_end.Done) ≡ false
+        → is_done (if b then job_end.JournalFull else job_end.Done) ≡ true
+    by_next true full = let no : true ≡ false = full in cc
+    by_next false full = refl
+
+-- so it is of all
+all_plain : (s : Setting) (n : ℕ) (jobs : List Following) (lines : List JobLine) → HavePlainEnds s n jobs lines
+    → list_any is_full lines ≡ false → all_done lines ≡ true
+all_plain s n [] lines ends room = ap all_done ends
+all_plain s n (f ∷ jobs) [] ends room = absurd ends
+all_plain s n (f ∷ jobs) (line ∷ lines) ends room =
+    let parts = or_parts (is_full line) (list_any is_full lines) room in
+    and_from (is_done line.end) (all_done lines) (plain_done s.script f line.end ends.0.end.same parts.0)
+    (all_plain s n jobs lines ends.1 parts.1)
+
 -- with a journal that isn't full none has a transaction left
 all_over : (s : Setting) (n : ℕ) (jobs : List Following) (lines : List JobLine) → HavePlainEnds s n jobs lines → n < 10000 → AreOver s.script jobs
 all_over s n jobs lines ends room i g has =
@@ -143,21 +172,21 @@ untried_opening script [] = tt
 untried_opening script (name ∷ names) = ((refl, refl), untried_opening script names)
 
 -- ---- the text
--- a run that didn't want memory, of jobs one after another
+-- a run that didn't want memory, of transactions that met no other
 record IsFed (s : Setting) (entries : List Entry) (final : Final) : Type 0 where
   settled : all_final entries ≡ true
   late : some_late_starved entries ≡ false
   ends : HavePlainEnds s (length entries) (progress_of s.script entries).jobs final.lines
 
-is_fed : (s : Setting) (entries : List Entry) (final : Final) → 1 ≤ s.rules.attempts → IsTrueEnd s entries final → IsSerial entries
-    → wanted_memory final.lines entries ≡ false → IsFed s entries final
-is_fed s entries final some whole serial fed =
-    let told = whole.journal.entries in
+is_fed : (s : Setting) (entries : List Entry) (final : Final) → 1 ≤ s.rules.attempts → IsTrueEnd s entries final
+    → all_alone entries ≡ true → wanted_memory final.lines entries ≡ false → IsFed s entries final
+is_fed s entries final some whole alone fed =
+    let told = (joint_of_parts s entries whole.journal).entries in
     let opening = opening_progress s.script in
     let parts = or_parts (list_any is_starved final.lines) (some_late_starved entries) fed in
     let jobs = (progress_of s.script entries).jobs in
     let go = all_go_on s (length entries) jobs final.lines whole.ends parts.0 in
-    let settled = all_are_settled 0 entries serial.order (all_go s opening entries told go).1 in
+    let settled = all_are_settled entries alone (all_go s opening entries told go).1 in
     let untried = untried_all s opening entries told settled (untried_opening s.script s.script.outline.jobs) in
     record { settled = settled; late = parts.1; ends = plain_are s (length entries) jobs final.lines some untried whole.ends parts.0 }
 
@@ -167,19 +196,26 @@ same_entries : (s : Setting) (entries : List Entry) (final : Final) → IsTrue s
     → entries ≡ plain_journal s.script
 same_entries s entries final tells tries whole serial stop faults fed =
     let opening = opening_progress s.script in
-    let told = whole.journal.entries in
+    let told = (joint_of_parts s entries whole.journal).entries in
     let jobs = (progress_of s.script entries).jobs in
     let next = are_next s opening 10000 entries told (rise entries serial.jobs)
     (over_before s (length entries) jobs final.lines entries fed.ends stop) (all_over s (length entries) jobs final.lines fed.ends) in
     same_journal s opening 0 10000 entries told tells tries serial.order faults fed.late fed.settled
     (untried_opening s.script s.script.outline.jobs) whole.few next
 
+-- where no attempt met another, no job found the journal full and nothing wanted memory, each job ended by its last transaction
+pub all_are_done : (s : Setting) (entries : List Entry) (final : Final) → 1 ≤ s.rules.attempts → IsTrueEnd s entries final
+    → all_alone entries ≡ true → list_any is_full final.lines ≡ false → wanted_memory final.lines entries ≡ false
+    → all_done final.lines ≡ true
+all_are_done s entries final some whole alone room fed =
+    all_plain s (length entries) (progress_of s.script entries).jobs final.lines (is_fed s entries final some whole alone fed).ends room
+
 -- the text of a run whose jobs ran one after another, where no call met a fault and nothing wanted memory, is the plain one
 pub plain_end : (s : Setting) (entries : List Entry) (final : Final) → IsTrue s.tells → 1 ≤ s.rules.attempts → 1 ≤ s.rules.undo_tries
     → IsTrueEnd s entries final → IsSerial entries → StopWhereFull final.lines entries → sum_by entry_faults entries ≡ 0
     → wanted_memory final.lines entries ≡ false → rendered entries final.lines final.words [] ≡ plain_text s.script
 plain_end s entries final tells some tries whole serial stop faults memory =
-    let fed = is_fed s entries final some whole serial memory in
+    let fed = is_fed s entries final some whole (alone_in_order 0 entries serial.order) memory in
     let same = same_entries s entries final tells tries whole serial stop faults fed in
     let lines = lines_are s (length entries) (progress_of s.script entries).jobs final.lines fed.ends in
     let text = λ (journal : List Entry).

@@ -18,7 +18,7 @@ use Rattle.xc_model.specs.Ending.{has_memory_end, some_late_starved}
 use Rattle.xc_model.specs.Progress.{Following, Progress, untried, started_blocks, started_job, committed_job}
 use Rattle.xc_model.specs.Progress.{following_abort, after_following, after_outcome, following_of, after_entry}
 use Rattle.xc_model.specs.Setting.{Setting}
-use Rattle.xc_model.specs.Truth.{AreTrue}
+use Rattle.xc_model.specs.Joint.{AreTrue}
 use Rattle.xc_model.specs.Serial.{AreInOrder, JobsRise, is_asked, is_final, all_final}
 use Rattle.xc_text.specs.declared.script.Script.{Script}
 use Rattle.xc_serial.specs.Plain.{entry_at, entry_in, journal_from, journal_with, next_place, plain_from}

@@ -3,3 +3,4 @@ pub mod Entries
 pub mod Examples
 pub mod Finals
 pub mod Journals
+pub mod Remains

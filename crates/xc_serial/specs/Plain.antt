@@ -22,7 +22,7 @@ use Rattle.xc_script.specs.Ask.{next_body}
 use Rattle.xc_script.specs.declared.ask.Ask.{Ask}
 use Rattle.xc_script.specs.declared.ask.Ask.TheVariants as ask
 use Rattle.xc_model.specs.Progress.{Following, Progress, opening_progress, private_of, after_entry, progress_of}
-use Rattle.xc_model.specs.Truth.{next_of}
+use Rattle.xc_model.specs.Asked.{next_of}
 use Rattle.xc_text.specs.declared.script.Script.{Script}
 use Rattle.xc_world.specs.Act.{act}
 use Rattle.xc_world.specs.Run.{BlockState, Run, block_step, opens, run, asked_of}

@@ -13,7 +13,9 @@ use Rattle.xc_data.specs.declared.entry.Mark.{Mark}
 use Rattle.xc_model.specs.Setting.{Setting}
 use Rattle.xc_model.specs.Grounds.{Part, IsPresent, Other, IsGrounded, AreGrounded, scene_of}
 use Rattle.xc_model.specs.Progress.{Following, progress_of}
-use Rattle.xc_model.specs.Truth.{IsTrueJournal, counting, numbers_of, entry_parts}
+use Rattle.xc_model.specs.Joint.{IsJointJournal, entry_parts}
+use Rattle.xc_model.specs.Machine.{counting, numbers_of}
+use Rattle.xc_model.specs.Truth.{IsTrueJournal}
 use Rattle.xc_model.specs.Ending.{AreEnds, IsEnd}
 use Rattle.xc_model.specs.Moment.{TxView, JobView, Doing, Idle, Active, Starved, Ended, active_in, active_of, actives}
 use Rattle.xc_model.specs.Movers.{IsActiveAt}
@@ -21,6 +23,7 @@ use Rattle.xc_model.specs.Stories.{StoriesHold, AreBegins, StoryHolds, IsDoing, 
 use Rattle.xc_model.specs.Words.{WordsAgree}
 use Rattle.xc_model.specs.Consistent.{AreLinesOf, IsLineOf}
 use Rattle.xc_turns.proofs.Jobs.{none_active}
+use Rattle.xc_turns.proofs.Ways.{parts_of_joint}
 
 -- ---- no transaction is active
 line_none : (line : JobLine) (job : JobView) (d : Doing) → IsLineOf line job d → active_in d ≡ None
@@ -123,11 +126,11 @@ all_logged tells log active none g =
     }
 
 -- ---- the journal
--- where each job has ended the journal is true
-pub journal_true : (s : Setting) (words : ℕ) (marks : ℕ → Option Mark) (journal : List Entry) (jobs : List JobView) (lines : List JobLine)
+-- where each job has ended the journal is true, both parts of an entry at once
+joint_true : (s : Setting) (words : ℕ) (marks : ℕ → Option Mark) (journal : List Entry) (jobs : List JobView) (lines : List JobLine)
     → StoriesHold s words marks journal jobs
-    → AreLinesOf jobs lines → IsTrueJournal s journal
-journal_true s words marks journal jobs lines told are =
+    → AreLinesOf jobs lines → IsJointJournal s journal
+joint_true s words marks journal jobs lines told are =
     let begins : AreBegins journal (map entry_begin journal) =
     subst (AreBegins journal) (begins_there journal jobs (none_active jobs (none_there jobs lines are))) told.begins in
     let many : length (map entry_begin journal) ≡ length journal = length-map journal entry_begin in
@@ -139,6 +142,12 @@ journal_true s words marks journal jobs lines told are =
       grounded = all_logged s.tells (entry_parts s journal) (active_parts (reading s words marks) 1 (progress_of s.script journal).jobs jobs)
           (parts_none s words marks 1 (progress_of s.script journal).jobs jobs lines are) told.grounded;
     }
+
+-- so it is true of the machine, and asked by the script
+pub journal_true : (s : Setting) (words : ℕ) (marks : ℕ → Option Mark) (journal : List Entry) (jobs : List JobView) (lines : List JobLine)
+    → StoriesHold s words marks journal jobs
+    → AreLinesOf jobs lines → IsTrueJournal s journal
+journal_true s words marks journal jobs lines told are = parts_of_joint s journal (joint_true s words marks journal jobs lines told are)
 
 -- ---- the ends
 line_ends : (s : Setting) (begun : ℕ) (f : Following) (job : JobView) (line : JobLine) (d : Doing) → IsLineOf line job d → IsDoing s begun f job d

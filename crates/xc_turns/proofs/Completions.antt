@@ -20,7 +20,8 @@ use Rattle.xc_model.specs.Setting.{Setting}
 use Rattle.xc_script.specs.Blocks.{kept_calls}
 use Rattle.xc_model.specs.Progress.{Following, Progress, untried, opening_progress, progress_of, started_blocks, started_job, following_abort, committed_job}
 use Rattle.xc_model.specs.Progress.{after_entry, after_following, after_outcome, following_of, with_job}
-use Rattle.xc_model.specs.Truth.{AreTrue, is_tried_again}
+use Rattle.xc_model.specs.EntryEnds.{is_tried_again}
+use Rattle.xc_model.specs.Joint.{AreTrue}
 use Rattle.xc_model.specs.Serial.{is_asked, is_final}
 use Rattle.xc_model.specs.Ending.{AreEnds, IsEnd, IsComplete, all_done, is_done, is_final_or_tried_again, transactions_of_jobs}
 use Rattle.xc_turns.proofs.Lists.{sum_set_place}

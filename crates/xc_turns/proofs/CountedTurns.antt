@@ -2,6 +2,7 @@
 use Rattle.std.proofs.Common.{◌≡◌, ℕ, ◌+◌, length, inl, inr, None, Some, List, [], ◌∷◌, ◌++◌, refl, ap, sym, ◌∙◌, subst, arith, cond}
 use Rattle.std.specs.Prelude.{Option, Bool, true, false, nat_lt, slice_get, slice_set, count_by, sum_by}
 use Rattle.std.proofs.lemmas.List.Sums.{sum_by-cons, sum_by_push}
+use Rattle.xc_data.specs.declared.entry.KeptItem.{KeptItem}
 use Rattle.xc_compensate.specs.Records.{Records}
 use Rattle.xc_data.specs.Counts.{RisesBy}
 use Rattle.xc_data.specs.Faults.{entry_faults, reply_faults, is_fault_reply, is_fault_end, undo_faults, end_faults}
@@ -119,10 +120,10 @@ module _ (s : Setting) (at from : ℕ) (old : Moment) (job : JobView) (new : Mom
   with_counted job' is same = still_counted job' (ap (λ (n : Moment). n.jobs) is) (ap (λ (n : Moment). n.journal) is) (ap (λ (n : Moment). n.faults) is) same
 
   -- an entry takes over what its transaction recorded
-  entered_counted : (job' : JobView) (e : Entry) (contents : Contents) (jobs : List JobView)
-      → new ≡ record (entering old at job' e) { contents = contents; jobs = jobs } → actives jobs ≡ actives (slice_set old.jobs at job') → part job' ≡ 0
-      → entry_faults e ≡ part job → AreCounted from new
-  entered_counted job' e contents jobs is put none same =
+  entered_counted : (job' : JobView) (e : Entry) (contents : Contents) (kept : List KeptItem) (jobs : List JobView)
+      → new ≡ record (entering old at job' e) { contents = contents; kept = kept; jobs = jobs }
+      → actives jobs ≡ actives (slice_set old.jobs at job') → part job' ≡ 0 → entry_faults e ≡ part job → AreCounted from new
+  entered_counted job' e contents kept jobs is put none same =
       let sums : sum_by entry_faults new.journal ≡ sum_by entry_faults old.journal + entry_faults e =
       ap (λ (n : Moment). sum_by entry_faults n.journal) is ∙ sum_by_push entry_faults old.journal e in
       more_counted job' 0 (ap (λ (n : Moment). actives n.jobs) is ∙ put) (omega (arith, sums, none, same)) (ap (λ (n : Moment). n.faults) is)
@@ -209,7 +210,7 @@ module _ (s : Setting) (at from : ℕ) (old : Moment) (job : JobView) (new : Mom
     by_late commits [] row =
         let none : sum_by undo_faults tx.undo.ended ≡ 0 = ap (sum_by undo_faults) (none_ended s at old job tx stands is commits told) in
         let was = recorded in
-        entered_counted (behind_commit job tx) (entry_of tx at (Committed tx.ends)) old.contents _ row.0
+        entered_counted (behind_commit job tx) (entry_of tx at (Committed tx.ends)) old.contents old.kept _ row.0
         (grown_actives (slice_set old.jobs at (behind_commit job tx)) (started_jobs s.script job tx)
         (started_idle s.script (behind_commit job tx) (started_late tx.late tx.ends))) refl (omega (arith, none, was))
     by_late commits (call ∷ calls) row = late_counted (next_ends s at old job tx new call row)
@@ -235,7 +236,8 @@ module _ (s : Setting) (at from : ℕ) (old : Moment) (job : JobView) (new : Mom
     by_records c undoes [] row =
         let none : count_by is_fault_end tx.ends ≡ 0 = ap (count_by is_fault_end) (none_late s at old job tx c stands is undoes told) in
         let was = recorded in
-        entered_counted (behind_abort job tx c) (entry_of tx at (Aborted (record { cause = c; records = tx.undo.ended }))) new.contents _ row.behind refl
+        entered_counted (behind_abort job tx c) (entry_of tx at (Aborted (record { cause = c; records = tx.undo.ended }))) new.contents new.kept _ row.behind
+        refl
         (ap (adds tx_faults) (behind_abort_none job tx c)) (omega (arith, none, was))
     by_records c undoes (u ∷ pending) row = tried_counted row
 

@@ -10,7 +10,7 @@ use Rattle.std.proofs.lemmas.Map.Keys.{IsDistinct-head, IsDistinct-tail, IsDisti
 use Rattle.xc_data.specs.declared.entry.Entry.{Entry}
 use Rattle.xc_data.specs.declared.entry.Mark.{Mark}
 use Rattle.xc_model.specs.Setting.{Setting}
-use Rattle.xc_model.specs.Truth.{counting}
+use Rattle.xc_model.specs.Machine.{counting}
 use Rattle.xc_model.specs.Moment.{TxView, JobView, active_of, actives}
 use Rattle.xc_model.specs.Stories.{AreBegins, StoriesHold, active_begin, begins_of, entry_begin}
 use Rattle.xc_model.specs.Movers.{IsActiveAt}

@@ -13,7 +13,7 @@ use Rattle.xc_model.specs.Movers.{IsActiveAt}
 use Rattle.xc_model.specs.Entering.{entry_of}
 use Rattle.xc_model.specs.Grounds.{Part, AreGrounded, scene_of}
 use Rattle.xc_model.specs.Progress.{Following, Progress, progress_of, following_of, after_entry}
-use Rattle.xc_model.specs.Truth.{part_of, entry_parts}
+use Rattle.xc_model.specs.Joint.{part_of, entry_parts}
 use Rattle.xc_model.specs.Played.{IsPlayedSoFar, ran_behind}
 use Rattle.xc_model.specs.Stories.{StoriesHold, active_parts, part_under_way}
 use Rattle.xc_model.specs.Stories.{asked_of_tx, wanted_by, reading, scene_at}

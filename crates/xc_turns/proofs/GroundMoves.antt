@@ -30,7 +30,8 @@ use Rattle.xc_model.specs.Rivals.{IsFirstRival, IsRival}
 use Rattle.xc_model.specs.PlainSteps.{claims_at}
 use Rattle.xc_model.specs.Grounds.{Part, Other, Holds, Ground, IsGrounded, AreGrounded, scene_of}
 use Rattle.xc_model.specs.Progress.{Following, Progress, progress_of}
-use Rattle.xc_model.specs.Truth.{next_of, entry_parts}
+use Rattle.xc_model.specs.Asked.{next_of}
+use Rattle.xc_model.specs.Joint.{entry_parts}
 use Rattle.xc_model.specs.Stories.{StoriesHold, IsDoing, IsUnderway, IsInPhase, IsRunning, IsBacking, active_begin, active_part, active_parts, part_under_way}
 use Rattle.xc_model.specs.Stories.{asked_of_tx, cause_of_phase, wanted_by, reading}
 use Rattle.xc_turns.proofs.Lists.{contains_first, get_beside, not_both}

@@ -15,7 +15,8 @@ use Rattle.xc_model.specs.Setting.{Setting}
 use Rattle.xc_model.specs.Moment.{TxView, JobView, active_of}
 use Rattle.xc_model.specs.Grounds.{Part}
 use Rattle.xc_model.specs.Progress.{Following, Progress, with_job, following_of, after_outcome, after_following, after_entry}
-use Rattle.xc_model.specs.Truth.{asked_behind, next_claims}
+use Rattle.xc_model.specs.EntryEnds.{next_claims}
+use Rattle.xc_model.specs.Joint.{asked_behind}
 use Rattle.xc_model.specs.Movers.{IsActiveAt}
 use Rattle.xc_model.specs.Stories.{active_part, active_parts, asked_of_tx, cause_of_phase, part_under_way, wanted_by, reading}
 use Rattle.xc_turns.proofs.Lists.{get_inside}

@@ -18,7 +18,7 @@ use Rattle.xc_model.specs.PlainSteps.{claims_at}
 use Rattle.xc_model.specs.RunningRows.{mark_behind, marked}
 use Rattle.xc_model.specs.Grounds.{Part, IsGrounded, AreGrounded, scene_of}
 use Rattle.xc_model.specs.Progress.{Following, Progress, progress_of}
-use Rattle.xc_model.specs.Truth.{entry_parts}
+use Rattle.xc_model.specs.Joint.{entry_parts}
 use Rattle.xc_model.specs.Stories.{StoriesHold, active_parts, part_under_way}
 use Rattle.xc_model.specs.Stories.{cause_of_phase, reading}
 use Rattle.xc_turns.proofs.Progressing.{parts_length}

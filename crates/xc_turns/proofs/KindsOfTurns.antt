@@ -15,7 +15,7 @@ use Rattle.xc_model.specs.Setting.{Setting}
 use Rattle.xc_model.specs.Moment.{TxView, JobView, Moment, active_of, begun_count}
 use Rattle.xc_model.specs.Moment.{unmarked}
 use Rattle.xc_model.specs.Stories.{cause_of_phase}
-use Rattle.xc_model.specs.Truth.{cause_in}
+use Rattle.xc_model.specs.EntryEnds.{cause_in}
 use Rattle.xc_model.specs.RunningRows.{Waits}
 use Rattle.xc_model.specs.Movers.{mover, Mover}
 use Rattle.xc_model.specs.Rivals.{HasNoRival, IsFirstRival}

@@ -10,7 +10,8 @@ use Rattle.xc_data.specs.declared.call.LateEnd.TheVariants as end
 use Rattle.xc_text.specs.declared.script.Script.{Script}
 use Rattle.xc_model.specs.Setting.{Setting}
 use Rattle.xc_model.specs.Moment.{TxView, JobView, Moment}
-use Rattle.xc_model.specs.CommittingRows.{EndsLate, IsStart, NextLate, Starts}
+use Rattle.xc_model.specs.CommittingRows.{EndsLate, NextLate, Starts}
+use Rattle.xc_model.specs.Starts.{IsStart}
 use Rattle.xc_model.specs.Movers.{with_tx, mover}
 
 -- it has one end more, and nothing else changes but what the host tells and counts, and which jobs are started

@@ -4,6 +4,7 @@ use Rattle.std.proofs.Common.{refl, ap, sym, ◌∙◌, subst, arith, inl, inr, 
 use Rattle.std.proofs.lemmas.List.{drop_all}
 use Rattle.std.specs.Prelude.{Option, slice_get, slice_set, sum_by, unwrap_or}
 use Rattle.std.specs.declared.option.Option.TheVariants.{None, Some}
+use Rattle.xc_data.specs.declared.entry.KeptItem.{KeptItem}
 use Rattle.xc_data.specs.declared.call.Call.{Call}
 use Rattle.xc_data.specs.declared.call.LateCall.{LateCall}
 use Rattle.xc_data.specs.declared.claim.Claim.{Claim}
@@ -306,10 +307,10 @@ marked_falls s at old new job tx (Some m) (turn.Busy object holder) stands is ru
 marked_falls s at old new job tx (Some m) (turn.Ended end) stands is runs h = absurd h
 
 -- ---- an entry
-enters : (s : Setting) (at : ℕ) (old new : Moment) (job next : JobView) (tx : TxView) (entry : Entry) (contents : Contents) → slice_get old.jobs at ≡ Some job
-    → job.doing ≡ Active tx → new ≡ record (entering old at next entry) { contents = contents }
+enters : (s : Setting) (at : ℕ) (old new : Moment) (job next : JobView) (tx : TxView) (entry : Entry) (contents : Contents) (kept : List KeptItem)
+    → slice_get old.jobs at ≡ Some job → job.doing ≡ Active tx → new ≡ record (entering old at next entry) { contents = contents; kept = kept }
     → job_turns s next < doing_turns s (failures job.attempts) job.place.at (bodies_at s job.place) (Active tx) → turns_left s new < turns_left s old
-enters s at old new job next tx entry contents stands is same less =
+enters s at old new job next tx entry contents kept stands is same less =
     falls_by s at old new job next stands (ap (λ (n : Moment). n.jobs) same) (below_doing s job (Active tx) (job_turns s next) is less)
 
 passes : (s : Setting) (job : JobView) (tx : TxView)
@@ -355,8 +356,8 @@ abort_less s job tx (cause.Revoked object by at) = again_falls s (failures job.a
 back_falls : (s : Setting) (at : ℕ) (old new : Moment) (job : JobView) (tx : TxView) (c : Cause) (pending : List Undo) → slice_get old.jobs at ≡ Some job
     → job.doing ≡ Active tx → tx.phase ≡ Undoing c → BackTurn (mover s at old job) tx c pending new → turns_left s new < turns_left s old
 back_falls s at old new job tx c [] stands is undoes same =
-    enters s at old new job (behind_abort job tx c) tx (entry_of tx at (Aborted (record { cause = c; records = tx.undo.ended }))) new.contents stands is
-    same.behind
+    enters s at old new job (behind_abort job tx c) tx (entry_of tx at (Aborted (record { cause = c; records = tx.undo.ended }))) new.contents new.kept stands
+    is same.behind
     (abort_less s job tx c)
 back_falls s at old new job tx c (u ∷ pending) stands is undoes t =
     let next : TxView = record tx { undo = record { pending = t.older; ended = (t.tried, t.end) ∷ tx.undo.ended } } in

@@ -15,6 +15,7 @@ pub mod GroundWaits
 pub mod GroundEntries
 pub mod Grounding
 pub mod Grown
+pub mod Halves
 pub mod HeldClaims
 pub mod Jobs
 pub mod JournalGoesOn
@@ -30,6 +31,7 @@ pub mod Progressing
 pub mod Sided
 pub mod StartedLists
 pub mod StartedTurns
+pub mod StartEnds
 pub mod StartersAlone
 pub mod StartsHeld
 pub mod StoryAsks
@@ -42,6 +44,7 @@ pub mod StoryStart
 pub mod StoryTurns
 pub mod TurnKinds
 pub mod Waits
+pub mod Ways
 pub mod WordClaims
 pub mod WordLists
 pub mod WordRows

@@ -7,6 +7,7 @@ use Rattle.std.specs.Prelude.{slice_get, slice_set, nat_eq, Bool, Option, All, i
 use Rattle.std.specs.declared.option.Option.TheVariants.{None, Some}
 use mathlib.Core.Logic.{dite}
 use native.Mathlib.Decide.{ℕ_discrete}
+use Rattle.xc_data.specs.declared.entry.KeptItem.{KeptItem}
 use Rattle.xc_data.specs.declared.entry.Entry.{Entry}
 use Rattle.xc_data.specs.declared.entry.JobEnd.TheVariants as job_end
 use Rattle.xc_host.specs.Contents.{Contents}
@@ -159,11 +160,11 @@ rests at old new was is stands jobs journal marks none own alone =
     own alone
 
 -- its transaction enters
-pub enters : (at : ℕ) (old new : Moment) (was is : JobView) (e : Entry) (contents : Contents) → slice_get old.jobs at ≡ Some was
-    → new ≡ record (entering old at is e) { contents = contents } → active_of is ≡ None
+pub enters : (at : ℕ) (old new : Moment) (was is : JobView) (e : Entry) (contents : Contents) (kept : List KeptItem)
+    → slice_get old.jobs at ≡ Some was → new ≡ record (entering old at is e) { contents = contents; kept = kept } → active_of is ≡ None
     → (e.tx ≡ length old.journal + 1) × (e.began ≡ length old.journal) × (is_alone e.outcome ≡ true) × (e.job ≡ at + 1) → length old.journal < 10000
     → (is.doing ≡ Ended job_end.JournalFull → ⊥) → AreAlone old at → AreAlone new at
-enters at old new was is e contents stands same none fits room goes alone =
+enters at old new was is e contents kept stands same none fits room goes alone =
     let jobs : new.jobs ≡ slice_set old.jobs at is = ap (λ (n : Moment). n.jobs) same in
     let journal : new.journal ≡ old.journal ++ e ∷ [] = ap (λ (n : Moment). n.journal) same in
     let P : Entry → Type 0 = λ x. x.job ≤ at + 1 in

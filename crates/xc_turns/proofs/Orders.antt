@@ -23,7 +23,7 @@ use Rattle.xc_model.specs.declared.phase.Phase.{Phase}
 use Rattle.xc_model.specs.declared.phase.Phase.TheVariants.{Running, Committing, Undoing, Backing}
 use Rattle.xc_model.specs.Setting.{Setting}
 use Rattle.xc_model.specs.Serial.{IsSerial}
-use Rattle.xc_model.specs.Truth.{is_tried_again}
+use Rattle.xc_model.specs.EntryEnds.{is_tried_again}
 use Rattle.xc_model.specs.Moment.{TxView, JobView, Doing, Idle, Active, Starved, Ended, Moment, active_in, active_of, actives, begun_count, late_left}
 use Rattle.xc_model.specs.Moment.{rank_of, entering, waiting}
 use Rattle.xc_model.specs.Rows.{IsTurn, TurnOf, ActiveTurn, StarvedTurn}
@@ -191,7 +191,8 @@ late_row s at old new job tx [] stands is same alone =
     subst (λ n. AreAlone n at) (sym same.0)
     (alone_joined at mid more (started_idle s.script (behind_commit job tx) (started_late tx.late tx.ends))
     (idle_unfull mid.journal (started_job s.script (behind_commit job tx)) (λ block. refl) (started_late tx.late tx.ends))
-    (enters at old mid job (behind_commit job tx) (entry_of tx at (Committed tx.ends)) old.contents stands refl refl (next.0, next.1, refl, refl) next.3
+    (enters at old mid job (behind_commit job tx) (entry_of tx at (Committed tx.ends)) old.contents old.kept stands refl refl (next.0, next.1, refl, refl)
+    next.3
     (λ e. cc) alone))
 late_row s at old new job tx (call ∷ calls) stands is row alone =
     let t = next_ends s at old job tx new call row in
@@ -219,8 +220,8 @@ back_row : (s : Setting) (at : ℕ) (old new : Moment) (job : JobView) (tx : TxV
 back_row s at old new job tx c [] stands is undoes same alone =
     let next = next_of at old job tx stands is alone in
     let lone : is_tried_again c ≡ false = subst MeetsNobody undoes next.2 in
-    enters at old new job (behind_abort job tx c) (entry_of tx at (Aborted (record { cause = c; records = tx.undo.ended }))) new.contents stands same.behind
-    (behind_abort_none job tx c) (next.0, next.1, ap not lone, refl) next.3 (back_goes job tx c) alone
+    enters at old new job (behind_abort job tx c) (entry_of tx at (Aborted (record { cause = c; records = tx.undo.ended }))) new.contents new.kept stands
+    same.behind (behind_abort_none job tx c) (next.0, next.1, ap not lone, refl) next.3 (back_goes job tx c) alone
 back_row s at old new job tx c (u ∷ pending) stands is undoes t alone =
     let next = next_of at old job tx stands is alone in
     let tx' : TxView = record tx { undo = record { pending = t.older; ended = (t.tried, t.end) ∷ tx.undo.ended } } in

@@ -7,7 +7,7 @@ use Rattle.xc_text.specs.declared.script.Script.{Script}
 use Rattle.xc_model.specs.Setting.{Setting}
 use Rattle.xc_model.specs.Grounds.{Part}
 use Rattle.xc_model.specs.Progress.{Progress, after_entry, opening_progress, progress_of}
-use Rattle.xc_model.specs.Truth.{AreTrue, IsTrueEntry, part_of, parts_from, entry_parts}
+use Rattle.xc_model.specs.Joint.{AreTrue, IsTrueEntry, part_of, parts_from, entry_parts}
 
 -- the entry leads on from where the journal led
 pub progress-more : (script : Script) (journal : List Entry) (e : Entry)

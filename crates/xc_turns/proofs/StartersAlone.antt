@@ -8,6 +8,7 @@ use Rattle.xc_data.specs.declared.call.LateCall.TheVariants.{Thread}
 use Rattle.xc_data.specs.declared.call.LateEnd.{LateEnd}
 use Rattle.xc_data.specs.declared.object.Object.TheVariants as object
 use Rattle.xc_data.specs.Claims.{owned}
+use Rattle.xc_text.specs.declared.script.Script.{Script}
 use Rattle.xc_model.specs.Holding.{AreApart}
 use Rattle.xc_model.specs.Movers.{IsActiveAt}
 use Rattle.xc_model.specs.Moment.{TxView, Moment, late_left}
@@ -17,7 +18,7 @@ use Rattle.xc_turns.proofs.StartsHeld.{others_keep_none}
 
 -- ---- one that owns the jobs
 -- what it has started is after the jobs, and nothing else
-pub owner_alone : (now : Moment) (at : ℕ) (tx : TxView) → AreStarted now → AreApart now.jobs → IsActiveAt now.jobs at tx
+pub owner_alone : {script : Script} (now : Moment) (at : ℕ) (tx : TxView) → AreStarted script now → AreApart now.jobs → IsActiveAt now.jobs at tx
     → Contains (owned tx.held) object.Jobs → now.started ≡ blocks now.jobs ++ started_by tx
 owner_alone now at tx h apart (job, there, has) owns =
     h.order
@@ -26,8 +27,8 @@ owner_alone now at tx h apart (job, there, has) owns =
     ∙ ap started_in has)
 
 -- and so where it keeps a start
-pub starter_alone : (now : Moment) (at : ℕ) (tx : TxView) → AreStarted now → AreApart now.jobs → IsActiveAt now.jobs at tx → keeps_start tx ≡ true
-    → now.started ≡ blocks now.jobs ++ started_by tx
+pub starter_alone : {script : Script} (now : Moment) (at : ℕ) (tx : TxView) → AreStarted script now → AreApart now.jobs → IsActiveAt now.jobs at tx
+    → keeps_start tx ≡ true → now.started ≡ blocks now.jobs ++ started_by tx
 starter_alone now at tx h apart a keeps = owner_alone now at tx h apart a (h.holds at tx a keeps)
 
 left_start : (late : List LateCall) (ends : List LateEnd) (block : List ℕ) (rest : List LateCall) → drop (length ends) late ≡ Thread block ∷ rest
@@ -44,6 +45,6 @@ left_keeps tx block rest left = left_start tx.late tx.ends block rest left
 
 -- ---- nobody
 -- where none has started any, all are live or have ended
-pub none_waits : (now : Moment) → AreStarted now → ((at : ℕ) (tx : TxView) → IsActiveAt now.jobs at tx → started_by tx ≡ [])
+pub none_waits : {script : Script} (now : Moment) → AreStarted script now → ((at : ℕ) (tx : TxView) → IsActiveAt now.jobs at tx → started_by tx ≡ [])
     → now.started ≡ blocks now.jobs
 none_waits now h none = h.order ∙ ap (λ bs. blocks now.jobs ++ bs) (nobody_started now.jobs none) ∙ append-nil (blocks now.jobs)

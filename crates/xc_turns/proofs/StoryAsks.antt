@@ -6,7 +6,7 @@ use Rattle.xc_script.specs.declared.ask.Ask.TheVariants as ask
 use Rattle.xc_script.specs.Blocks.{BlockWalk, replied, all_replied}
 use Rattle.xc_script.specs.Asking.{asks}
 use Rattle.xc_model.specs.InTime.{AreInTime, RepliesInTime}
-use Rattle.xc_model.specs.Truth.{AsksEach}
+use Rattle.xc_model.specs.Asked.{AsksEach}
 
 -- one more reply is answered last
 pub answered-more : (walk : BlockWalk) (replies : List Reply) (r : Reply) → all_replied walk (replies ++ r ∷ []) ≡ replied (all_replied walk replies) r

@@ -11,7 +11,7 @@ use Rattle.std.proofs.lemmas.List.Sorted.{IsPermutation-map}
 use Rattle.std.proofs.lemmas.List.Sorted.{IsPermutation-to_front, length_permutation, Contains-permutation}
 use Rattle.std.proofs.Math.ListN.{length-map, length-append}
 use Rattle.xc_data.specs.declared.entry.Entry.{Entry}
-use Rattle.xc_model.specs.Truth.{counting}
+use Rattle.xc_model.specs.Machine.{counting}
 use Rattle.xc_model.specs.Moment.{TxView, JobView, active_of, actives}
 use Rattle.xc_model.specs.Stories.{AreBegins, entry_begin, active_begin, begins_of}
 use Rattle.xc_model.specs.Movers.{IsActiveAt}

@@ -24,13 +24,17 @@ use Rattle.xc_model.specs.WordCalls.{AreWordReplies}
 use Rattle.xc_model.specs.Progress.{Following, Progress, after_entry, after_following, following_abort, following_of}
 use Rattle.xc_model.specs.Progress.{committed_job, started_job, untried}
 use Rattle.xc_model.specs.RecordCounts.{HasRecords, IsStuckIn, all_records, no_records}
-use Rattle.xc_model.specs.Truth.{AreRecords, IsHeldAt, IsPlayed, IsReport, IsTrueEntry, is_tried_again, next_of}
+use Rattle.xc_model.specs.Asked.{next_of}
+use Rattle.xc_model.specs.EntryEnds.{AreRecords, IsHeldAt, IsReport, is_tried_again}
+use Rattle.xc_model.specs.Joint.{IsPlayed, IsTrueEntry}
 use Rattle.xc_model.specs.Moment.{TxView, late_left}
 use Rattle.xc_model.specs.LateCalls.{started_late}
 use Rattle.xc_data.specs.Calls.{thread_asked, thread_in}
 use Rattle.xc_model.specs.Entering.{entry_of}
 use Rattle.xc_model.specs.Stories.{HasRecordsIn, IsCommitting, IsInPhase, IsUndoing, IsUnderway, asked_of_tx}
 use Rattle.xc_model.specs.Played.{HoldsFor, IsPlayedSoFar, RecordsFor, ran_behind}
+use Rattle.xc_model.specs.Started.{HasStarts}
+use Rattle.xc_model.specs.Starts.{AreStarts}
 use Rattle.xc_model.proofs.StartedCalls.{started_same}
 use Rattle.xc_turns.proofs.LateCounts.{as_many, left_none, take_all}
 
@@ -63,8 +67,9 @@ commit_played s words p at tx next commits all so =
 -- the entry of a commit is true after a true journal
 pub commit_true : (s : Setting) (words : ℕ) (p : Progress) (f : Following) (at : ℕ) (place : Position) (tx : TxView) → slice_get p.jobs at ≡ Some f
     → tx.phase ≡ Committing → late_left tx ≡ [] → IsUnderway s f place tx → tx.began ≤ p.entered → AreWordReplies p.words tx.calls tx.replies
-    → (IsTrue s.tells → IsPlayedSoFar s words p at tx) → IsTrueEntry s p (entry_of tx at (Committed tx.ends))
-commit_true s words p f at place tx got commits none under began said played =
+    → HasStarts s.script (map (λ (g : Following). g.block) p.jobs) tx → (IsTrue s.tells → IsPlayedSoFar s words p at tx)
+    → IsTrueEntry s p (entry_of tx at (Committed tx.ends))
+commit_true s words p f at place tx got commits none under began said starts played =
     let committing : IsCommitting s f place tx = subst (IsInPhase s f place tx) commits under.phase in
     let all : length tx.ends ≡ length tx.late = left_none tx.late tx.ends committing.few_ends none in
     record {
@@ -88,6 +93,7 @@ commit_true s words p f at place tx got commits none under began said played =
         };
         words = said;
         in_time = under.in_time;
+        starts = subst (λ calls. AreStarts s.script (map (λ (g : Following). g.block) p.jobs) calls tx.ends) under.kept.0 starts;
         played = λ t. commit_played s words p at tx (next_of s.script f tx.replies) commits all (played t);
       };
     }
@@ -194,6 +200,7 @@ abort_true s words p f at place tx c got undoes none under began said played =
         };
         words = said;
         in_time = under.in_time;
+        starts = tt;
         played = λ t. abort_played s words p f at tx c got undoes none (played t);
       };
     }

@@ -13,7 +13,7 @@ use Rattle.xc_data.specs.declared.entry.Mark.{Mark}
 use Rattle.xc_model.specs.Setting.{Setting}
 use Rattle.xc_model.specs.Grounds.{AreGrounded}
 use Rattle.xc_model.specs.Progress.{Following, opening_progress, progress_of}
-use Rattle.xc_model.specs.Truth.{AreTrue}
+use Rattle.xc_model.specs.Joint.{AreTrue}
 use Rattle.xc_model.specs.Ending.{IsEnd}
 use Rattle.xc_model.specs.Moment.{TxView, JobView, Doing, Idle, Active, Starved, Ended, active_of, actives}
 use Rattle.xc_model.specs.Stories.{StoriesHold, AreBegins, IsDoing, StoryHolds, active_begin, begins_of, entry_begin, reading, scene_at}

@@ -42,7 +42,8 @@ use Rattle.xc_model.specs.declared.phase.Phase.{Phase}
 use Rattle.xc_model.specs.declared.phase.Phase.TheVariants.{Running, Committing, Undoing, Backing}
 use Rattle.xc_model.specs.Setting.{Setting}
 use Rattle.xc_model.specs.Progress.{Following}
-use Rattle.xc_model.specs.Truth.{IsCauseOf, next_of}
+use Rattle.xc_model.specs.Asked.{next_of}
+use Rattle.xc_model.specs.EntryEnds.{IsCauseOf}
 use Rattle.xc_model.specs.Ending.{IsEnd}
 use Rattle.xc_model.specs.Moment.{TxView, SavedView, JobView, Doing, Idle, Active, Starved, Ended, Moment, begun_count, failures, rank_of, revoked, waiting}
 use Rattle.xc_model.specs.IdleRows.{IsEnding, IsReady, IsSpent, beginning_job}

@@ -135,6 +135,7 @@ start_kept s now few opening =
         order = start_started s.script names;
         few = few;
         holds = λ j tx active. absurd (opened_rests s.script names j tx active);
+        starts = λ j tx active. absurd (opened_rests s.script names j tx active);
       };
     } in
     subst (IsConsistent s now.faults) (sym same) kept

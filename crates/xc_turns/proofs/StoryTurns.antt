@@ -1,6 +1,6 @@
 -- Each turn goes on with the stories of all jobs.
-use Rattle.std.proofs.Common.{◌≡◌, inl, inr, ℕ, ◌+◌, ◌≤◌, IsTrue, List, [], ◌∷◌, ◌++◌, length, refl, ap, sym, ◌∙◌, subst, arith, length-append}
-use Rattle.std.specs.Prelude.{Option, slice_get, slice_set}
+use Rattle.std.proofs.Common.{◌≡◌, inl, inr, ℕ, ◌+◌, ◌≤◌, IsTrue, List, [], ◌∷◌, ◌++◌, length, suc, refl, ap, ap₂, sym, ◌∙◌, subst, arith, length-append}
+use Rattle.std.specs.Prelude.{Option, map, slice_get, slice_set}
 use Rattle.std.specs.declared.option.Option.TheVariants.{None, Some}
 use Rattle.std.specs.Option.{option_map}
 use Rattle.xc_data.specs.declared.call.Call.{Call}
@@ -51,6 +51,7 @@ use Rattle.xc_model.specs.Movers.{with_tx}
 use Rattle.xc_model.specs.Grounds.{AreGrounded}
 use Rattle.xc_model.specs.Stories.{StoriesHold, IsDoing, IsUnderway, active_begin, reading, scene_at}
 use Rattle.xc_model.specs.Played.{IsPlayedSoFar}
+use Rattle.xc_model.specs.Started.{AreStarted, HasStarts, blocks}
 use Rattle.xc_model.specs.Words.{WordsAgree}
 use Rattle.xc_turns.proofs.Lists.{get_beside}
 use Rattle.xc_turns.proofs.Jobs.{behind_abort_none}
@@ -76,12 +77,24 @@ told_as : (s : Setting) (journal journal' : List Entry) (jobs jobs' : List JobVi
 told_as s journal journal' jobs jobs' entries same told =
     subst (λ es. StoriesHoldBut s es jobs') (sym entries) (subst (StoriesHoldBut s journal) (sym same) told)
 
+-- the started jobs have the blocks that the journal tells of
+told_blocks : (told : List Following) (jobs : List JobView) → length told ≡ length jobs
+    → ((i : ℕ) (f : Following) (job : JobView) → slice_get told i ≡ Some f → slice_get jobs i ≡ Some job → f.block ≡ job.block)
+    → map (λ (f : Following). f.block) told ≡ blocks jobs
+told_blocks [] [] count each = refl
+told_blocks [] (job ∷ jobs) count each = absurd (omega (arith, count))
+told_blocks (f ∷ told) [] count each = absurd (omega (arith, count))
+told_blocks (f ∷ told) (job ∷ jobs) count each =
+    ap₂ (λ (b : List ℕ) (bs : List (List ℕ)). b ∷ bs) (each 0 f job refl refl)
+    (told_blocks told jobs (omega (arith, count)) (λ i g k got there. each (suc i) g k got there))
+
 -- what is true before a turn of the job in this place
 pub record Before (s : Setting) (at : ℕ) (old : Moment) (job : JobView) : Type 0 where
   pub there : slice_get old.jobs at ≡ Some job
   pub spoken : WordsAgree (progress_of s.script old.journal).words old.words old.jobs
   pub played : IsTrue s.tells → (tx : TxView) → IsActiveAt old.jobs at tx
       → IsPlayedSoFar s (length old.words) (progress_of s.script old.journal) at tx
+  pub started : AreStarted s.script old
   pub told : StoriesHoldBut s old.journal old.jobs
 
 module _ (s : Setting) (at : ℕ) (old new : Moment) (job : JobView) (b : Before s at old job) where
@@ -300,6 +313,13 @@ module _ (s : Setting) (at : ℕ) (old new : Moment) (job : JobView) (b : Before
   follows : (f : Following) × (slice_get (progress_of s.script old.journal).jobs at ≡ Some f)
   follows = get_beside (progress_of s.script old.journal).jobs old.jobs at job b.told.count b.there
 
+  -- its starts ended after those that the journal tells of
+  starts_told : (tx : TxView) → job.doing ≡ Active tx → HasStarts s.script (map (λ (f : Following). f.block) (progress_of s.script old.journal).jobs) tx
+  starts_told tx active =
+      subst (λ was. HasStarts s.script was tx)
+      (sym (told_blocks (progress_of s.script old.journal).jobs old.jobs b.told.count (λ i f j got there. (b.told.jobs_told i f j got there).block)))
+      (b.started.starts at tx (is_active tx active))
+
   commit_row : (tx : TxView) → job.doing ≡ Active tx → tx.phase ≡ Committing → late_left tx ≡ []
       → new.journal ≡ old.journal ++ entry_of tx at (Committed tx.ends) ∷ [] → new.jobs ≡ slice_set old.jobs at (behind_commit job tx) ++ started_jobs
       s.script job tx → After
@@ -322,7 +342,7 @@ module _ (s : Setting) (at : ℕ) (old new : Moment) (job : JobView) (b : Before
       (started_told s (begun_count old) (length old.journal) p.entered starter (behind_commit job tx) blocks (entered-all s.script old.journal) refl gone.sided
       variables)
       (commit_true s (length old.words) p f at job.place tx got commits none under (began_by_now tx active) (replies_said tx active)
-      (λ t. b.played t tx (is_active tx active)))
+      (starts_told tx active) (λ t. b.played t tx (is_active tx active)))
       gone b.told)
 
   left_row : (tx : TxView) (calls : List LateCall) → job.doing ≡ Active tx → tx.phase ≡ Committing → late_left tx ≡ calls
@@ -378,18 +398,18 @@ module _ (s : Setting) (at : ℕ) (old new : Moment) (job : JobView) (b : Before
 pub turn_told : (s : Setting) (at : ℕ) (old new : Moment) (answer : Turn) → IsTurn s at old answer new
     → WordsAgree (progress_of s.script old.journal).words old.words old.jobs
     → (IsTrue s.tells → (tx : TxView) → IsActiveAt old.jobs at tx → IsPlayedSoFar s (length old.words) (progress_of s.script old.journal) at tx)
-    → StoriesHoldBut s old.journal old.jobs → StoriesHoldBut s new.journal new.jobs
-turn_told s at old new answer turned spoken played told =
-    let b : Before s at old turned.job = record { there = turned.there; spoken = spoken; played = played; told = told } in
+    → AreStarted s.script old → StoriesHoldBut s old.journal old.jobs → StoriesHoldBut s new.journal new.jobs
+turn_told s at old new answer turned spoken played started told =
+    let b : Before s at old turned.job = record { there = turned.there; spoken = spoken; played = played; started = started; told = told } in
     doing_row s at old new turned.job b turned.job.doing answer refl turned.row
 
 -- a turn keeps the stories of all jobs, where it keeps the grounds of conflicts
 pub a_turn_keeps_the_stories_but : (s : Setting) (at : ℕ) (old new : Moment) (answer : Turn) → IsTurn s at old answer new
     → WordsAgree (progress_of s.script old.journal).words old.words old.jobs
     → (IsTrue s.tells → (tx : TxView) → IsActiveAt old.jobs at tx → IsPlayedSoFar s (length old.words) (progress_of s.script old.journal) at tx)
-    → StoriesHold s (length old.words) old.marks old.journal old.jobs
+    → AreStarted s.script old → StoriesHold s (length old.words) old.marks old.journal old.jobs
     → AreGrounded (scene_at (reading s (length new.words) new.marks) new.journal new.jobs)
     → StoriesHold s (length new.words) new.marks new.journal new.jobs
-a_turn_keeps_the_stories_but s at old new answer turned spoken played told grounded =
+a_turn_keeps_the_stories_but s at old new answer turned spoken played started told grounded =
     told_whole s (length new.words) new.marks new.journal new.jobs
-    (turn_told s at old new answer turned spoken played (told_but s (length old.words) old.marks old.journal old.jobs told)) grounded
+    (turn_told s at old new answer turned spoken played started (told_but s (length old.words) old.marks old.journal old.jobs told)) grounded

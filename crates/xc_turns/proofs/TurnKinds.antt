@@ -2,6 +2,7 @@
 use Rattle.std.proofs.Common.{◌≡◌, inl, inr, ℕ, ◌+◌, List, [], ◌∷◌, ◌++◌, length, refl, ap, sym, ◌∙◌, subst}
 use Rattle.std.specs.Prelude.{Option, slice_set}
 use Rattle.std.specs.declared.option.Option.TheVariants.{None, Some}
+use Rattle.xc_data.specs.declared.entry.KeptItem.{KeptItem}
 use Rattle.xc_data.specs.declared.call.Call.{Call}
 use Rattle.xc_data.specs.declared.call.LateCall.{LateCall}
 use Rattle.xc_data.specs.declared.claim.Claim.{Claim}
@@ -25,7 +26,7 @@ use Rattle.xc_model.specs.Setting.{Setting}
 use Rattle.xc_model.specs.Moment.{TxView, JobView, Doing, Idle, Active, Starved, Ended, Moment, active_in, active_of, entering, late_left}
 use Rattle.xc_model.specs.Moment.{revoked, waiting}
 use Rattle.xc_model.specs.Stories.{cause_of_phase}
-use Rattle.xc_model.specs.Truth.{cause_in}
+use Rattle.xc_model.specs.EntryEnds.{cause_in}
 use Rattle.xc_model.specs.Rows.{IsTurn, TurnOf, StarvedTurn, ActiveTurn}
 use Rattle.xc_model.specs.IdleRows.{IdleTurn}
 use Rattle.xc_model.specs.RunningRows.{MarkedTurn, RunningTurn, CalledTurn, AskedTurn, BeginsBack}
@@ -440,11 +441,11 @@ module _ (s : Setting) (at : ℕ) (old : Moment) (job : JobView) (new : Moment) 
           marks = ap (λ (n : Moment). n.marks) row.behind;
         })
 
-    enters_kind : (behind : JobView) (outcome : Outcome) (contents : Contents) (jobs_behind more : List JobView)
-        → new ≡ record (entering old at behind (entry_of tx at outcome)) { contents = contents; jobs = jobs_behind }
+    enters_kind : (behind : JobView) (outcome : Outcome) (contents : Contents) (kept : List KeptItem) (jobs_behind more : List JobView)
+        → new ≡ record (entering old at behind (entry_of tx at outcome)) { contents = contents; kept = kept; jobs = jobs_behind }
         → jobs_behind ≡ slice_set old.jobs at behind ++ more → AreIdle more → active_of behind ≡ None
         → cause_in outcome ≡ cause_on old tx → Kind s at old job new
-    enters_kind behind outcome contents jobs_behind more row jobs idle after why =
+    enters_kind behind outcome contents kept jobs_behind more row jobs idle after why =
         enters (record {
           behind = behind;
           more = more;
@@ -481,7 +482,7 @@ module _ (s : Setting) (at : ℕ) (old : Moment) (job : JobView) (new : Moment) 
         })
 
     left_kind : (calls : List LateCall) → LateTurn (mover s at old job) tx calls new → tx.phase ≡ Committing → Kind s at old job new
-    left_kind [] row e = enters_kind (behind_commit job tx) (Committed tx.ends) old.contents _ (started_jobs s.script job tx) row.0 refl
+    left_kind [] row e = enters_kind (behind_commit job tx) (Committed tx.ends) old.contents old.kept _ (started_jobs s.script job tx) row.0 refl
         (started_idle s.script (behind_commit job tx) (started_late tx.late tx.ends)) refl
         (sym (ap (cause_of_phase (old.marks tx.number)) e ∙ committing_is (old.marks tx.number)))
     left_kind (call ∷ calls) row e = late_kind (next_ends s at old job tx new call row)
@@ -492,7 +493,7 @@ module _ (s : Setting) (at : ℕ) (old : Moment) (job : JobView) (new : Moment) 
 
     back_kind : (c : Cause) (pending : List Undo) → BackTurn (mover s at old job) tx c pending new → tx.phase ≡ Undoing c → Kind s at old job new
     back_kind c [] row e =
-        enters_kind (behind_abort job tx c) (Aborted (record { cause = c; records = tx.undo.ended })) new.contents _ [] row.behind
+        enters_kind (behind_abort job tx c) (Aborted (record { cause = c; records = tx.undo.ended })) new.contents new.kept _ [] row.behind
         (sym (append-nil (slice_set old.jobs at (behind_abort job tx c)))) tt (behind_abort_none job tx c)
         (sym (ap (cause_of_phase (old.marks tx.number)) e ∙ undoing_is (old.marks tx.number) c))
     back_kind c (u ∷ pending) row e = compensates_kind row

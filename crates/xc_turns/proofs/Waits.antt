@@ -3,6 +3,7 @@ use Rattle.std.proofs.Common.{◌≡◌, ◌≢◌, ◌⊎◌, inl, inr, ℕ, �
 use Rattle.std.specs.Prelude.{nat_eq, is_some, Option, slice_get, slice_set, if◌then◌else◌}
 use Rattle.std.specs.declared.option.Option.TheVariants.{None, Some}
 use borrow.Author.Tests.{eqb-true}
+use Rattle.xc_data.specs.declared.entry.KeptItem.{KeptItem}
 use Rattle.xc_data.specs.declared.entry.Cause.{Cause}
 use Rattle.xc_data.specs.declared.entry.Cause.TheVariants as cause
 use Rattle.xc_data.specs.declared.entry.Entry.{Entry}
@@ -270,10 +271,10 @@ module _ (s : Setting) (at : ℕ) (old new : Moment) (job : JobView) where
     goes : (place : Position) (next : TxView) → new.jobs ≡ slice_set old.jobs at (with_tx job place next) → Changed answer
     goes place next jobs = stays_so answer (with_tx job place next) jobs refl (sym has)
 
-    enters_so : (behind : JobView) (e : Entry) (contents : Contents) (jobs more : List JobView)
-        → new ≡ record (entering old at behind e) { contents = contents; jobs = jobs } → jobs ≡ slice_set old.jobs at behind ++ more → behind.busy ≡ 0
-        → active_of behind ≡ None → Changed answer
-    enters_so behind e contents jobs more row put busy none =
+    enters_so : (behind : JobView) (e : Entry) (contents : Contents) (kept : List KeptItem) (jobs more : List JobView)
+        → new ≡ record (entering old at behind e) { contents = contents; kept = kept; jobs = jobs } → jobs ≡ slice_set old.jobs at behind ++ more
+        → behind.busy ≡ 0 → active_of behind ≡ None → Changed answer
+    enters_so behind e contents kept jobs more row put busy none =
         turns_so answer behind more (ap (λ (n : Moment). n.jobs) row ∙ put) busy (ap is_some none ∙ sym (ap not has))
 
     called_so : (c : Call) → CalledTurn (mover s at old job) tx c new → Changed answer
@@ -303,12 +304,13 @@ module _ (s : Setting) (at : ℕ) (old new : Moment) (job : JobView) where
     back_busy (cause.Revoked object by when) = refl
 
     late_so : (calls : List LateCall) → LateTurn (mover s at old job) tx calls new → Changed answer
-    late_so [] row = enters_so (behind_commit job tx) (entry_of tx at (Committed tx.ends)) old.contents _ (started_jobs s.script job tx) row.0 refl refl refl
+    late_so [] row = enters_so (behind_commit job tx) (entry_of tx at (Committed tx.ends)) old.contents old.kept _ (started_jobs s.script job tx) row.0 refl
+        refl refl
     late_so (call ∷ calls) row = goes job.place _ (next_ends s at old job tx new call row).jobs
 
     back_so : (c : Cause) (pending : List Undo) → BackTurn (mover s at old job) tx c pending new → Changed answer
     back_so c [] row =
-        enters_so (behind_abort job tx c) (entry_of tx at (Aborted (record { cause = c; records = tx.undo.ended }))) new.contents _ [] row.behind
+        enters_so (behind_abort job tx c) (entry_of tx at (Aborted (record { cause = c; records = tx.undo.ended }))) new.contents new.kept _ [] row.behind
         (sym (append-nil (slice_set old.jobs at (behind_abort job tx c)))) (back_busy c)
         (behind_abort_none job tx c)
     back_so c (u ∷ pending) row = goes job.place _ (ap (λ (n : Moment). n.jobs) row.behind)

@@ -8,6 +8,7 @@ pub mod growing;
 pub mod holding;
 pub mod measured;
 pub mod numbers;
+pub mod parts;
 pub mod spoken;
 pub mod starting;
 pub mod stories;

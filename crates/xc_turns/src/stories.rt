@@ -8,6 +8,7 @@ ghost use Rattle.xc_model.specs.Rows.{IsTurn};
 ghost use Rattle.xc_model.specs.Movers.{IsActiveAt};
 ghost use Rattle.xc_model.specs.Stories.{StoriesHold};
 ghost use Rattle.xc_model.specs.Played.{IsPlayedSoFar};
+ghost use Rattle.xc_model.specs.Started.{AreStarted};
 ghost use Rattle.xc_model.specs.Words.{WordsAgree};
 ghost use Rattle.xc_model.specs.Consistent.{IsConsistent};
 ghost use Rattle.xc_model.specs.Opened.{IsOpening};
@@ -23,7 +24,7 @@ pub fn a_turn_keeps_the_stories()
         → WordsAgree (progress_of s.script old.journal).words old.words old.jobs
         → (IsTrue s.tells → (tx : TxView) → IsActiveAt old.jobs at tx
         → IsPlayedSoFar s (length old.words) (progress_of s.script old.journal) at tx)
-        → StoriesHold s (length old.words) old.marks old.journal old.jobs
+        → AreStarted s.script old → StoriesHold s (length old.words) old.marks old.journal old.jobs
         → StoriesHold s (length new.words) new.marks new.journal new.jobs }
 {}
 

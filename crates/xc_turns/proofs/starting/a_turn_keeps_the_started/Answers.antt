@@ -6,13 +6,13 @@ pub returns-clause-turn : goal.returns-clause-turn
 returns-clause-turn c = turn_keeps_started
 
 pub returns-clause-room : goal.returns-clause-room
-returns-clause-room c = entry_room
+returns-clause-room c = λ script now at tx h active. entry_room now at tx h active
 
 pub returns-clause-count : goal.returns-clause-count
-returns-clause-count c = started_count
+returns-clause-count c = λ script now h. started_count now h
 
 pub returns-clause-alone : goal.returns-clause-alone
-returns-clause-alone c = starter_alone
+returns-clause-alone c = λ script now at tx h apart active keeps. starter_alone now at tx h apart active keeps
 
 pub returns-clause-nobody : goal.returns-clause-nobody
-returns-clause-nobody c = none_waits
+returns-clause-nobody c = λ script now h none. none_waits now h none
