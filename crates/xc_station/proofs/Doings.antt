@@ -23,6 +23,7 @@ use Rattle.xc_host.specs.Kept.{KeepsData, with_kept}
 use Rattle.xc_host.specs.Model.{HostModel}
 use Rattle.xc_host.specs.Uses.{CallsOf, Uses}
 use Rattle.xc_data.specs.declared.script.Kind.{Kind}
+use Rattle.xc_pipe.specs.Taking.{HasTaken}
 use Rattle.xc_txmem.specs.Overlay.{overlaid}
 use Rattle.xc_world.specs.World.{World}
 use Rattle.xc_world.specs.Beside.{is_on_data}
@@ -42,6 +43,7 @@ use Rattle.xc_station.specs.Lent.{IsBacked}
 use Rattle.xc_station.proofs.Backed.{keeps_called, keeps_part}
 use Rattle.xc_station.proofs.Lent.{acts_kept, part_kept, recorded_there}
 use Rattle.xc_station.proofs.Notes.{keeps_itself}
+use Rattle.xc_station.proofs.TakenAgain.{still_kept}
 use Rattle.xc_station.proofs.WordActs.{append_nil, still_words, no_stores}
 
 -- a host with a transaction at it, as calls see them
@@ -119,8 +121,9 @@ module _ {H K : Type 0} (model : HostModel H) (seen_as : HostModel K) (a b : K) 
       → CountsFault (is_fault_reply reply) (model.fault_count old.host) (model.fault_count new.host)
       → (IsTrue model.tells → IsToldCall model c (record { old = old; new = new }) k.made reply)
       → new.tx ≡ with_parts old.tx c reply (tx_parts new.tx)
-      → new.tx.writes ≡ old.tx.writes → new.tx.me.stored ≤ 16384 → IsReplyInTime old.tx.me old.tx.number c reply → HasDoneAsPlain model c old new reply
-  call_done reply k uses cause told frame writes stored in_time =
+      → new.tx.writes ≡ old.tx.writes → new.tx.me.stored ≤ 16384 → IsReplyInTime old.tx.me old.tx.number c reply
+      → HasTaken c old.tx.me (record { old = old.kept; new = new.kept }) (Ok reply) → HasDoneAsPlain model c old new reply
+  call_done reply k uses cause told frame writes stored in_time lent =
       let over = λ (w : World). record w { words = overlaid w.words old.tx.writes } in
       record {
         tx = frame;
@@ -135,6 +138,7 @@ module _ {H K : Type 0} (model : HostModel H) (seen_as : HostModel K) (a b : K) 
         in_time = in_time;
         uses = uses;
         cause = cause;
+        lent = lent;
         spoken = subst (λ ws. IsWordStep (overlaid old.words old.tx.writes) (overlaid old.words ws) c reply) (sym writes)
             (still_words (overlaid old.words old.tx.writes) c reply other);
         backed = λ tells. (told tells).backed;
@@ -205,6 +209,7 @@ module _ {H : Type 0} (model : HostModel H) (c : Call) (old new : Acting H) (oth
         tx = frame ∙ (λ i. record old.tx { me = k.memory.me i; writes = writes i; undo = k.undo i });
         uses = record { made = k.uses.made; named = inr (inl k.uses.named); used = k.uses.used };
         faults = k.cause;
+        lent = still_kept c old.tx.me (record { old = old.kept; new = new.kept }) (Err e) (off_untaken c off) kept;
         keeps = λ tells. data_left k.made (k.memory.effect tells);
         contents = λ tells. part_left k.made (k.memory.effect tells);
       }
@@ -216,6 +221,7 @@ module _ {H : Type 0} (model : HostModel H) (c : Call) (old new : Acting H) (oth
       call_done model model old.host new.host c old new other reply k k.uses k.cause (file_told reply k)
       (frame ∙ framed_now old.tx (tx_parts new.tx) c reply (off_untaken c off) now) writes stored
       (in_time_now c old.tx.me old.tx.number reply at_once now)
+      (still_kept c old.tx.me (record { old = old.kept; new = new.kept }) (Ok reply) (off_untaken c off) kept)
   file_answered (Err e) k frame writes stored at_once now = file_left e k frame writes
 
 -- so it has acted; the transaction and the words are as before but for its private state and its records

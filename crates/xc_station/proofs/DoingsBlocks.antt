@@ -1,6 +1,6 @@
 -- A call that opens or closes a block, as a row of calls says it: nothing but the block changes.
-use Rattle.std.proofs.Common.{◌≡◌, ℕ, ◌≤◌, Bool, true, false, [], ◌++◌, length, refl, ap, sym, ◌∙◌, subst, arith, IsTrue}
-use Rattle.std.specs.Prelude.{All, Option, Result, Ok, Err, IfOk, if◌then◌else◌}
+use Rattle.std.proofs.Common.{◌≡◌, ℕ, ◌≤◌, Bool, true, false, [], refl, ap, sym, subst, arith}
+use Rattle.std.specs.Prelude.{Option, Result, Ok, Err, IfOk, if◌then◌else◌}
 use Rattle.std.specs.declared.option.Option.TheVariants.{None, Some}
 use Rattle.std.proofs.lemmas.List.Elements.{All-nil}
 use Rattle.xc_data.specs.declared.call.Call.{Call}
@@ -46,6 +46,7 @@ block_done model call.Save old is stored =
       in_time = in_time_now call.Save old.tx.me old.tx.number reply.Done refl refl;
       uses = record { made = []; named = refl; used = unused model old.host };
       cause = refl;
+      lent = refl;
       spoken = record { words = refl; gives = λ word. cc word };
       backed = λ tells. All-nil (IsBacked (model.contents old.host));
       keeps = λ tells. keeps_itself (model.contents old.host);
@@ -65,6 +66,7 @@ block_done model call.Keep old is stored =
       in_time = in_time_now call.Keep old.tx.me old.tx.number reply.Done refl refl;
       uses = record { made = []; named = refl; used = unused model old.host };
       cause = refl;
+      lent = refl;
       spoken = record { words = refl; gives = λ word. cc word };
       backed = λ tells. All-nil (IsBacked (model.contents old.host));
       keeps = λ tells. keeps_itself (model.contents old.host);

@@ -22,6 +22,7 @@ use Rattle.xc_model.specs.WordCalls.{is_word_call}
 use Rattle.xc_station.specs.Acting.{Acting, HasActedAsPlain, HasDoneAsPlain, told_of}
 use Rattle.xc_station.specs.Lent.{IsBacked}
 use Rattle.xc_station.proofs.Notes.{keeps_itself}
+use Rattle.xc_station.proofs.TakenAgain.{still_kept}
 use Rattle.xc_station.proofs.WordActs.{append_nil}
 use Rattle.xc_station.proofs.Doings.{call_done, calling, none_taken, none_noted, IsToldCall}
 
@@ -65,7 +66,8 @@ stored_acted model c d old me queue (Ok reply) is other untaken waiting kept err
     refl stored (record {
       kept = λ _ w. ap (λ (s : Stepped). s.reply) (sym (kept.alone.step w old.tx.number));
       now = λ at_once. absurd (cc (at_once, waiting));
-    }))
+    })
+    (still_kept d old.tx.me (record { old = old.kept; new = old.kept }) (Ok reply) untaken refl))
 stored_acted model c d old me queue (Err e) is other untaken waiting kept err stored =
     record {
       left = [];
@@ -73,6 +75,7 @@ stored_acted model c d old me queue (Err e) is other untaken waiting kept err st
       tx = λ i. record (queueing old (err.1 i) (err.0 i)).tx { undo = record old.tx.undo { pending = sym (append_nil old.tx.undo.pending) i } };
       uses = record { made = []; named = inl refl; used = unused model old.host };
       faults = refl;
+      lent = still_kept c old.tx.me (record { old = old.kept; new = old.kept }) (Err e) (ap takes_data is ∙ untaken) refl;
       keeps = λ tells. keeps_itself (model.contents old.host);
       contents = λ tells. inl (refl, refl);
     }

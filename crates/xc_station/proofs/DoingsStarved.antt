@@ -1,7 +1,7 @@
 -- A call that is out of memory for the variable that takes its reply leaves its part.
 use Rattle.std.proofs.Common.{◌≡◌, inl, inr, ℕ, true, false, List, [], ◌∷◌, ◌++◌, length, refl, ap, sym, ◌∙◌, subst, IsTrue, arith}
 use Rattle.std.proofs.lemmas.List.{append_cancel_left}
-use Rattle.std.specs.Prelude.{Option, Result, Ok, Err, IsErr, IsOk, is_err}
+use Rattle.std.specs.Prelude.{All, Option, Result, Ok, Err, IsErr, IsOk, is_err}
 use Rattle.std.specs.declared.option.Option.TheVariants.{None, Some}
 use Rattle.xc_data.specs.Counts.{CountsFault}
 use Rattle.xc_data.specs.Faults.{is_fault_reply}
@@ -12,6 +12,7 @@ use Rattle.xc_data.specs.declared.call.Reply.TheVariants as reply
 use Rattle.xc_data.specs.declared.entry.KeptItem.{KeptItem}
 use Rattle.xc_data.specs.declared.memory.NoMemory.{NoMemory}
 use Rattle.xc_data.specs.declared.private.Private.{Private}
+use Rattle.xc_buffers.specs.Items.{is_fit}
 use Rattle.xc_compensate.specs.Records.{Records}
 use Rattle.xc_host.specs.Contents.{contents_of, world_of}
 use Rattle.xc_host.specs.Model.{HostModel}
@@ -34,6 +35,7 @@ use Rattle.xc_model.specs.Moment.{TxView}
 use Rattle.xc_model.specs.WordCalls.{is_word_call}
 use Rattle.xc_station.specs.Acting.{Acting, HasActedAsPlain, HasDoneAsPlain, IsLentFor, IsSidedFor, LeavesOff, leaving, told_of}
 use Rattle.xc_station.proofs.Lent.{kept_again, kept_of}
+use Rattle.xc_station.proofs.TakenAgain.{same_kept, still_kept, taken_again}
 use Rattle.xc_station.proofs.Takings.{IsTakingStep, Taking, taking_returns}
 use Rattle.xc_station.proofs.WordActs.{append_nil, no_stores, no_value}
 use Rattle.xc_station.proofs.Doings.{none_behind, framed_now}
@@ -80,6 +82,8 @@ unanswered model c old new behind reply d untaken ahead is brings =
         used = d.uses.used;
       };
       faults = subst (λ b. CountsFault b (model.fault_count old.host) (model.fault_count new.host)) quiet d.cause;
+      lent = still_kept c old.tx.me (record { old = old.kept; new = new.kept }) (Err (record {})) untaken
+          (same_kept c old.tx.me (record { old = old.kept; new = new.kept }) (Ok reply) untaken d.lent);
       keeps = d.keeps;
       contents = λ tells. inr (
         answer_of reply,
@@ -139,10 +143,12 @@ takes_unrecorded w me tx d r takes = cc takes
 pub taking_undone : {H : Type 0} (model : HostModel H) (d : Call) (old new behind : Acting H) (kept : List KeptItem) (reply : Reply)
     → takes_data d ≡ true → HasDoneAsPlain model d old new reply
     → (IsTrue model.tells → IsLentFor old.tx.me old.tx.number d (model.contents old.host) old.kept) → IsSidedFor old.tx.me d
+    → All (λ t. is_fit t ≡ true) old.kept
     → ((w : World) → given_back w kept ≡ given_back (given_back w new.kept) (taken_by d old.tx.me reply))
+    → (taken_by d old.tx.me reply ≡ [] → kept ≡ new.kept)
     → behind ≡ record new { kept = kept; tx = record new.tx { me = old.tx.me; taken = old.tx.taken } } → (value_in reply ≡ None → ⊥)
     → LeavesOff model d old behind
-taking_undone model d old new behind kept reply takes done lent sided given is brings =
+taking_undone model d old new behind kept reply takes done lent sided fit given nothing is brings =
     let w₀ = world_of (told_of model old) in
     let none : done.made ≡ [] = no_items done.made (done.count w₀ ∙ takes_unrecorded w₀ old.tx.me old.tx.number d reply takes) in
     let undo : new.tx.undo ≡ record old.tx.undo { pending = old.tx.undo.pending ++ [] } =
@@ -167,6 +173,7 @@ taking_undone model d old new behind kept reply takes done lent sided given is b
         used = done.uses.used;
       };
       faults = subst (λ b. CountsFault b (model.fault_count old.host) (model.fault_count new.host)) (unfaulty reply brings) done.cause;
+      lent = taken_again old.kept new.kept kept d old.tx.me reply (record {}) takes fit sided done.lent given nothing;
       keeps = done.keeps;
       contents = λ tells. inl (
         refl,

@@ -26,6 +26,7 @@ use Rattle.xc_station.specs.Acting.{Acting, HasActedAsPlain, HasDoneAsPlain, Lea
 use Rattle.xc_station.specs.Lent.{IsBacked}
 use Rattle.xc_station.proofs.Notes.{keeps_itself}
 use Rattle.xc_station.proofs.WordActs.{append_nil, word-act, word-after, word-checked, word-fine, word-quiet}
+use Rattle.xc_station.proofs.TakenAgain.{none_given, still_kept}
 use Rattle.xc_station.proofs.WordActs.{word-trail, word-uses}
 use Rattle.xc_station.proofs.Doings.{in_time_now, none_taken, framed_now}
 
@@ -87,6 +88,7 @@ module _ {H : Type 0} (model : HostModel H) (c : Call) (old : Acting H) (writes 
         in_time = in_time_now c old.tx.me old.tx.number reply at_once now;
         uses = record { made = []; named = word-uses old.tx.me c reply is; used = unused model old.host };
         cause = subst (λ b. CountsFault b (model.fault_count old.host) (model.fault_count old.host)) (sym quiet) refl;
+        lent = still_kept c old.tx.me (record { old = old.kept; new = old.kept }) (Ok reply) (word_untaken c is) refl;
         spoken = record { words = after; gives = λ _. gives };
         backed = λ tells. subst (All (IsBacked (model.contents old.host))) (sym (none_taken c old.tx.me reply (word_untaken c is)))
             (All-nil (IsBacked (model.contents old.host)));
@@ -103,6 +105,7 @@ nothing_left model c old =
       tx = ap (λ us. record old.tx { undo = record old.tx.undo { pending = us } }) (sym (append_nil old.tx.undo.pending));
       uses = record { made = []; named = inl refl; used = unused model old.host };
       faults = refl;
+      lent = none_given c old.tx.me old.kept (record {});
       keeps = λ tells. keeps_itself (model.contents old.host);
       contents = λ tells. inl (refl, refl);
     }

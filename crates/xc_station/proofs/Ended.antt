@@ -60,7 +60,7 @@ true_end s faults now lines steady over =
       words = words_left _ now.words now.jobs lines steady.kept.spoken over;
       state = λ tells. at_rest s now lines (steady.flying tells) over;
       ends = ends;
-      complete = λ done. complete s now.journal lines journal.entries ends done;
+      complete = λ done. complete s now.journal lines told.entries ends done;
     }
 
 -- the host's count rose by the faults of the entries alone

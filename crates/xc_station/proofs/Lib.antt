@@ -47,3 +47,4 @@ pub mod Waiting
 pub mod WaitsKept
 pub mod WaysBack
 pub mod WordActs
+pub mod TakenAgain

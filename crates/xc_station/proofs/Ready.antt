@@ -231,6 +231,7 @@ module _ {H : Type 0} (model : HostModel H) (shared : Shared H) (journal : List 
         contents = refl;
         faults = refl;
         calls = refl;
+        kept = refl;
         there = get_map job_view jobs at was is.there;
         marks = refl;
         table = rooms.claims;

@@ -1,6 +1,6 @@
 -- Rows of the turn of a job whose transaction's block goes back.
-use Rattle.std.proofs.Common.{◌≡◌, ◌≢◌, ℕ, ◌+◌, ◌<◌, Bool, true, false, List, ◌++◌, length, ap, sym, ◌∙◌, subst, IsTrue}
-use Rattle.std.specs.Prelude.{Option, drop, nat_lt, slice_set}
+use Rattle.std.proofs.Common.{◌≡◌, ◌≢◌, ◌⊎◌, ℕ, ◌+◌, ◌<◌, Bool, true, false, List, ◌++◌, length, ap, sym, ◌∙◌, subst, IsTrue}
+use Rattle.std.specs.Prelude.{Contains, Option, drop, nat_lt, slice_set}
 use Rattle.std.specs.declared.option.Option.TheVariants.{None, Some}
 use Rattle.xc_data.specs.Counts.{RisesBy}
 use Rattle.xc_data.specs.Faults.{end_faults}
@@ -8,6 +8,7 @@ use Rattle.xc_data.specs.Remaining.{objects_of}
 use Rattle.xc_data.specs.declared.call.Call.TheVariants as call
 use Rattle.xc_data.specs.declared.call.LateCall.{LateCall}
 use Rattle.xc_data.specs.declared.claim.Claim.{Claim}
+use Rattle.xc_data.specs.declared.entry.KeptItem.{KeptItem}
 use Rattle.xc_data.specs.declared.entry.Mark.{Mark}
 use Rattle.xc_data.specs.declared.entry.Turn.TheVariants as turn
 use Rattle.xc_data.specs.declared.script.Kind.{Kind}
@@ -28,10 +29,11 @@ use Rattle.xc_world.specs.Run.{given_back}
 use Rattle.xc_world.specs.World.{World}
 use Rattle.xc_model.specs.BackingRows.{BackingRow, BacksOne, EndsBack, MarkedBack, OpenRow, backed, phase_after}
 use Rattle.xc_model.specs.Setting.{Setting}
-use Rattle.xc_model.specs.Moment.{Active, JobView, Moment, SavedView, TxView, active_in}
+use Rattle.xc_model.specs.Moment.{Active, GivesBack, JobView, Moment, SavedView, TxView, active_in}
 use Rattle.xc_model.specs.Movers.{IsActiveAt, IsSameBegin, Mover, asked_at, mover, with_tx}
 use Rattle.xc_model.specs.RunningRows.{MarkedTurn}
 use Rattle.xc_station.specs.Backs.{IsBackRow}
+use Rattle.xc_station.specs.Lent.{Lent}
 use Rattle.xc_station.specs.Moments.{IsAt, IsRunningRow, front_of, marks_of, moved, runs, seated_as, told_front}
 use Rattle.xc_station.specs.Returning.{IsOpenRow}
 use Rattle.xc_station.specs.declared.calls.Shared.{Shared}
@@ -103,6 +105,7 @@ module _ {H : Type 0} (model : HostModel H) (s : Setting) (shared : Shared H) (n
             contents = new.contents;
             faults = new.faults;
             calls = new.calls;
+            kept = (ap (λ (l : Lent). l.kept) lent ∙ sym here.kept) i;
             jobs = slice_set now.jobs at (behind i);
             marks = (ap (λ (t : Sentinels). marks_of t.seats) sentinels ∙ sym here.marks) i;
           };
@@ -114,8 +117,10 @@ module _ {H : Type 0} (model : HostModel H) (s : Setting) (shared : Shared H) (n
         → IsSameBegin job.place place → walk_of s.script place ≡ back_to (walk_of s.script job.place) job.place.saved → place.saved ≡ None
         → job.place.at < place.at → asked_at s job.place ≡ ask.Call call.Back → tx.late ≡ kept.late ++ more → job' ≡ with_tx job place (backed tx kept)
         → ((w : World) → given_back w shared'.buffers.kept ≡ given_back (given_back w shared.buffers.kept) (drop (length kept.taken) tx.taken))
+        → ((item : KeptItem) → Contains shared'.buffers.kept item
+        → Contains (drop (length kept.taken) tx.taken) item ⊎ Contains shared.buffers.kept item)
         → shared'.host ≡ shared.host → IsOpenRow (mover s at now job) (moved model shared' job' now at)
-    ended_row place more test begin walk closed nearer asked cut is given host =
+    ended_row place more test begin walk closed nearer asked cut is given among host =
         let new = moved model shared' job' now at in
         let row : EndsBack (mover s at now job) tx kept new = record {
           place = place;
@@ -131,9 +136,12 @@ module _ {H : Type 0} (model : HostModel H) (s : Setting) (shared : Shared H) (n
             contents = new.contents;
             faults = (ap model.fault_count host ∙ sym here.faults) i;
             calls = (ap model.calls host ∙ sym here.calls) i;
+            kept = new.kept;
             jobs = slice_set now.jobs at (is i);
             marks = (ap (λ (t : Sentinels). marks_of t.seats) sentinels ∙ sym here.marks) i;
           };
+          given = subst (λ items. GivesBack (drop (length kept.taken) tx.taken) (record { old = items; new = shared'.buffers.kept })) (sym here.kept)
+              (record { given = given; among = among });
           returned = λ _.
               ap (λ h. with_kept (model.contents h) shared'.buffers.kept) host
               ∙ kept_again (model.contents shared.host) shared.buffers.kept shared'.buffers.kept (drop (length kept.taken) tx.taken) given
@@ -158,6 +166,7 @@ module _ {H : Type 0} (model : HostModel H) (s : Setting) (shared : Shared H) (n
           contents = told_front model (sym host i);
           faults = model.fault_count ((sym host i).host);
           calls = model.calls ((sym host i).host);
+          kept = (sym host i).lent.kept;
           jobs = slice_set now.jobs at job';
           marks = sym marks i;
         } in

@@ -1,6 +1,6 @@
 -- Rows of the turn of a job whose transaction runs, of a call whose claims are granted: it is done, or memory runs out.
 use Rattle.std.proofs.Common.{◌≡◌, ◌⊎◌, inl, inr, ℕ, ◌<◌, false, List, [], ◌∷◌, ◌++◌, length, IsTrue, refl, ap, sym, ◌∙◌, subst, arith}
-use Rattle.std.specs.Prelude.{All}
+use Rattle.std.specs.Prelude.{All, Result, Ok, Err}
 use Rattle.xc_data.specs.Claims.{holding}
 use Rattle.xc_data.specs.Counts.{CountsFault}
 use Rattle.xc_data.specs.Faults.{is_fault_reply}
@@ -11,11 +11,13 @@ use Rattle.xc_data.specs.declared.claim.Claim.{Claim}
 use Rattle.xc_data.specs.declared.entry.Cause.TheVariants as cause
 use Rattle.xc_data.specs.declared.entry.Turn.{Turn}
 use Rattle.xc_data.specs.declared.entry.Turn.TheVariants as turn
+use Rattle.xc_data.specs.declared.memory.NoMemory.{NoMemory}
 use Rattle.xc_host.specs.Contents.{Contents}
 use Rattle.xc_data.specs.declared.script.Kind.{Kind}
 use Rattle.xc_host.specs.Cause.{IsCalled}
 use Rattle.xc_host.specs.Model.{HostModel}
 use Rattle.xc_host.specs.Uses.{CallsOf, Uses}
+use Rattle.xc_pipe.specs.Taking.{HasTaken}
 use Rattle.xc_script.specs.declared.ask.Ask.TheVariants as ask
 use Rattle.xc_script.specs.Asking.{asks}
 use Rattle.xc_script.specs.Answers.{answered}
@@ -30,9 +32,9 @@ use Rattle.xc_wordlocks.specs.Table.{claimed, mode_in, held_mode}
 use Rattle.xc_wordlocks.proofs.Held.{claimed-holding}
 use Rattle.xc_model.specs.declared.phase.Phase.TheVariants.{Undoing}
 use Rattle.xc_model.specs.Setting.{Setting}
-use Rattle.xc_model.specs.Moment.{TxView, JobView, Active, Moment, active_in, with_job}
+use Rattle.xc_model.specs.Moment.{TxView, JobView, Active, Moment, active_in, kept_between, with_job}
 use Rattle.xc_model.specs.WordCalls.{IsWordStep}
-use Rattle.xc_model.specs.RunningRows.{Calls, HoldsWanting, IsDoneWhere, opens_or_closes}
+use Rattle.xc_model.specs.RunningRows.{Calls, HoldsWanting, IsDoneWhere, KeepsWanting, opens_or_closes}
 use Rattle.xc_model.specs.PlainSteps.{StepsAsPlainIn, LeavesAsPlainIn, IsLeft}
 use Rattle.xc_model.specs.Movers.{HasCalled, IsActiveAt, IsSameBegin, mover}
 use Rattle.xc_model.specs.Rivals.{HasNoRival}
@@ -91,18 +93,29 @@ module _ {H : Type 0} (model : HostModel H) (s : Setting) (shared : Shared H) (n
   told_now : (from : Front H) → from ≡ front_of shared → told_front model from ≡ now.contents
   told_now from host = ap (told_front model) host ∙ sym here.contents
 
+  -- what is kept was so before the call, which made of it what it says
+  lent_now : (from : Front H) → from ≡ front_of shared → (r : Result Reply NoMemory)
+      → HasTaken call mid.me.value (record { old = from.lent.kept; new = behind.buffers.kept }) r
+      → HasTaken call old.me.value (record { old = now.kept; new = behind.buffers.kept }) r
+  lent_now from host r has =
+      subst (λ (t : TxView). HasTaken call t.me (record { old = now.kept; new = behind.buffers.kept }) r) g.held
+      (subst (λ items. HasTaken call mid.me.value (record { old = items; new = behind.buffers.kept }) r)
+      (ap (λ (f : Front H). f.lent.kept) host ∙ sym here.kept) has)
+
   -- the host may have changed, and the job
   touched : (job' : JobView) → moved model behind job' now at
       ≡ record (with_job now at job') {
         contents = told_by model behind;
         faults = model.fault_count behind.host;
         calls = model.calls behind.host;
+        kept = behind.buffers.kept;
       }
   touched job' i = record (with_job now at job') {
     words = words_now i;
     contents = told_by model behind;
     faults = model.fault_count behind.host;
     calls = model.calls behind.host;
+    kept = behind.buffers.kept;
     marks = marks_now i;
   }
 
@@ -173,7 +186,10 @@ module _ {H : Type 0} (model : HostModel H) (s : Setting) (shared : Shared H) (n
                 contents = told_by model behind;
                 faults = (l.faults ∙ ap (λ (f : Front H). model.fault_count f.host) host ∙ sym here.faults) i;
                 calls = model.calls behind.host;
+                kept = behind.buffers.kept;
               });
+          kept = subst (λ a. KeepsWanting (mover s at now job) (tx_view old) a (kept_between now moment)) (sym next)
+              (lent_now from host (Err (record {})) l.lent);
           uses = subst (λ a. HasCalled (StopsAt a) now moment) (sym next)
               (called_so (StopsAt (ask.Call call)) from (with_tx job place' (tx_view new)) host l.uses);
           contents = λ tells. subst (λ a. IsLeft now moment (tx_parts (tx_view old)) a l.left) (sym next) (left_now tells);
@@ -236,7 +252,9 @@ module _ {H : Type 0} (model : HostModel H) (s : Setting) (shared : Shared H) (n
                 contents = told_by model behind;
                 faults = model.fault_count behind.host;
                 calls = model.calls behind.host;
+                kept = behind.buffers.kept;
               }) noted_as;
+          kept = lent_now from host (Ok reply) d.lent;
           begin = record {
             block = stands.begin.block ∙ has.same.begin.block;
             next = stands.begin.next ∙ has.same.begin.next;

@@ -66,6 +66,7 @@ module _ {H : Type 0} (model : HostModel H) (s : Setting) (shared : Shared H) (n
                 contents = (ap (told_front model) host ∙ sym here.contents) i;
                 faults = (ap (λ (f : Front H). model.fault_count f.host) host ∙ sym here.faults) i;
                 calls = (ap (λ (f : Front H). model.calls f.host) host ∙ sym here.calls) i;
+                kept = (ap (λ (f : Front H). f.lent.kept) host ∙ sym here.kept) i;
                 jobs = slice_set now.jobs at (job_is i);
                 marks = (marks ∙ sym here.marks) i;
               });
@@ -94,6 +95,7 @@ module _ {H : Type 0} (model : HostModel H) (s : Setting) (shared : Shared H) (n
         contents = told_front model (sym host i);
         faults = model.fault_count ((sym host i).host);
         calls = model.calls ((sym host i).host);
+        kept = (sym host i).lent.kept;
         jobs = slice_set now.jobs at job';
         marks = sym marks i;
       } in

@@ -5,6 +5,7 @@ use Rattle.std.specs.Prelude.{Option, is_some, IsSome, Err, nat_lt, slice_set}
 use Rattle.std.specs.declared.option.Option.TheVariants.{None, Some}
 use mathlib.Core.Logic.{dite}
 use borrow.Author.Tests.{ltb-false, ltb-true}
+use Rattle.xc_data.specs.Step.{Step}
 use Rattle.xc_data.specs.declared.call.Call.{Call}
 use Rattle.xc_data.specs.declared.call.Call.TheVariants as call
 use Rattle.xc_world.specs.Fits.{is_back}
@@ -13,6 +14,7 @@ use Rattle.xc_data.specs.declared.entry.Cause.TheVariants as cause
 use Rattle.xc_data.specs.declared.entry.Mark.{Mark}
 use Rattle.xc_data.specs.declared.entry.Turn.{Turn}
 use Rattle.xc_data.specs.declared.entry.Turn.TheVariants as turn
+use Rattle.xc_data.specs.declared.entry.KeptItem.{KeptItem}
 use Rattle.xc_data.specs.declared.object.Object.{Object}
 use Rattle.xc_data.specs.declared.script.Kind.{Kind}
 use Rattle.xc_host.specs.Model.{HostModel}
@@ -35,7 +37,7 @@ use Rattle.xc_wordlocks.specs.Met as met
 use Rattle.xc_model.specs.declared.phase.Phase.TheVariants.{Committing, Undoing, Backing}
 use Rattle.xc_model.specs.Setting.{Setting}
 use Rattle.xc_model.specs.Moment.{TxView, JobView, Moment, Active, active_in, waiting, with_job}
-use Rattle.xc_model.specs.RunningRows.{AskedTurn, CalledTurn, Calls, Conflicts, HoldsWanting}
+use Rattle.xc_model.specs.RunningRows.{AskedTurn, CalledTurn, Calls, Conflicts, HoldsWanting, KeepsWanting}
 use Rattle.xc_model.specs.Movers.{IsActiveAt, IsSamePosition}
 use Rattle.xc_model.specs.Rivals.{IsFirstRival}
 use Rattle.xc_model.specs.Movers.{Mover, mover, with_tx}
@@ -49,16 +51,17 @@ use Rattle.xc_station.specs.Moments.{Front, front_of, told_by, told_front}
 use Rattle.xc_station.specs.Moments.{AreTerms, HasClaimed, HasTx, IsAt, IsRefused, IsRow, IsToldToWait, counted, marks_of, moved, runs, seated_as}
 use Rattle.xc_station.proofs.Rivals.{first_rival}
 use Rattle.xc_station.proofs.Seated.{marks_kept, marks_marked}
+use Rattle.xc_station.proofs.TakenAgain.{none_taken_for}
 use Rattle.xc_station.proofs.Tracked.{tracked_on}
 use Rattle.xc_station.proofs.WordActs.{append_nil}
 
 -- with words and host as before, and these marks, a moment differs in one job alone
 moved_same : {H : Type 0} (model : HostModel H) (behind : Shared H) (now : Moment) (at : ℕ) (job : JobView) → behind.words ≡ now.words
     → told_by model behind ≡ now.contents → model.fault_count behind.host ≡ now.faults → model.calls behind.host ≡ now.calls
-    → (marks : ℕ → Option Mark)
+    → behind.buffers.kept ≡ now.kept → (marks : ℕ → Option Mark)
     → marks_of behind.sentinels.seats ≡ marks → moved model behind job now at ≡ record (with_job now at job) { marks = marks }
-moved_same model behind now at job words contents faults calls marks same i =
-    record (with_job now at job) { words = words i; contents = contents i; faults = faults i; calls = calls i; marks = same i }
+moved_same model behind now at job words contents faults calls kept marks same i =
+    record (with_job now at job) { words = words i; contents = contents i; faults = faults i; calls = calls i; kept = kept i; marks = same i }
 
 -- what is held stays
 as_before : (m : Mover) (tx : TxView) (a : Ask) → HoldsWanting m tx a [] tx.held
@@ -66,6 +69,13 @@ as_before m tx (ask.Call call) = inl (refl, refl)
 as_before m tx ask.Commit = (refl, refl)
 as_before m tx ask.Abort = (refl, refl)
 as_before m tx ask.End = (refl, refl)
+
+-- what is kept is the same
+kept_still : (m : Mover) (tx : TxView) (a : Ask) (kept : Step (List KeptItem)) → kept.new ≡ kept.old → KeepsWanting m tx a kept
+kept_still m tx (ask.Call call) kept same = none_taken_for call tx.me kept (record {}) same
+kept_still m tx ask.Commit kept same = same
+kept_still m tx ask.Abort kept same = same
+kept_still m tx ask.End kept same = same
 
 -- the host wasn't called
 no_calls : (a : Ask) → StopsAt a []
@@ -127,7 +137,8 @@ module _ {H : Type 0} (model : HostModel H) (s : Setting) (shared : Shared H) (n
   same_moment : (behind : Shared H) (job' : JobView) → front_of behind ≡ front_of shared → behind.words ≡ shared.words → (marks : ℕ → Option Mark)
       → marks_of behind.sentinels.seats ≡ marks → moved model behind job' now at ≡ record (with_job now at job') { marks = marks }
   same_moment behind job' host words marks same = moved_same model behind now at job' (words ∙ sym here.words) (ap (told_front model) host ∙ sym here.contents)
-      (ap (λ (f : Front H). model.fault_count f.host) host ∙ sym here.faults) (ap (λ (f : Front H). model.calls f.host) host ∙ sym here.calls) marks same
+      (ap (λ (f : Front H). model.fault_count f.host) host ∙ sym here.faults) (ap (λ (f : Front H). model.calls f.host) host ∙ sym here.calls)
+      (ap (λ (f : Front H). f.lent.kept) host ∙ sym here.kept) marks same
 
   -- the seats stay, so nobody is marked
   unmarked_moment : (behind : Shared H) (job' : JobView) → front_of behind ≡ front_of shared → behind.words ≡ shared.words
@@ -253,7 +264,10 @@ module _ {H : Type 0} (model : HostModel H) (s : Setting) (shared : Shared H) (n
             ∙ (λ i. record (with_job now at (with_tx job place (wanting (tx_view old) [] old.held.items))) {
               contents = (here.contents ∙ sym (ap (told_front model) host)) i;
               calls = (here.calls ∙ sym (ap (λ (f : Front H). model.calls f.host) host)) i;
+              kept = (here.kept ∙ sym (ap (λ (f : Front H). f.lent.kept) host)) i;
             });
+        kept = kept_still (mover s at now job) (tx_view old) (asks (walk_of s.script job.place))
+            (record { old = now.kept; new = behind.buffers.kept }) (ap (λ (f : Front H). f.lent.kept) host ∙ sym here.kept);
         uses = (
           [],
           no_calls (asks (walk_of s.script job.place)),
@@ -280,6 +294,7 @@ module _ {H : Type 0} (model : HostModel H) (s : Setting) (shared : Shared H) (n
           contents = (ap (told_front model) host ∙ sym here.contents) i;
           faults = (ap (λ (f : Front H). model.fault_count f.host) host ∙ sym here.faults) i;
           calls = (ap (λ (f : Front H). model.calls f.host) host ∙ sym here.calls) i;
+          kept = (ap (λ (f : Front H). f.lent.kept) host ∙ sym here.kept) i;
           jobs = slice_set now.jobs at (with_tx job place (is i));
           marks = (ap (λ (t : Sentinels). marks_of t.seats) same ∙ sym here.marks) i;
         };

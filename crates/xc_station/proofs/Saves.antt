@@ -1,5 +1,5 @@
 -- What an open block's save keeps stays as it is while the transaction goes on.
-use Rattle.std.proofs.Common.{◌≡◌, ℕ, ◌≤◌, ◌+◌, List, [], ◌++◌, length, refl, ap, sym, ◌∙◌, subst, arith}
+use Rattle.std.proofs.Common.{◌≡◌, ℕ, ◌≤◌, List, [], ◌++◌, length, refl, ap, sym, ◌∙◌, subst, arith}
 use Rattle.std.specs.Prelude.{map, take, unwrap_or, Option, IsSome, OnOk, Result, Ok, Err}
 use Rattle.std.specs.declared.option.Option.TheVariants.{None, Some}
 use Rattle.std.proofs.lemmas.List.{append-nil, length-append, take-append-le}
@@ -11,9 +11,9 @@ use Rattle.xc_data.specs.declared.memory.NoMemory.{NoMemory}
 use Rattle.xc_data.specs.declared.undo.Undo.{Undo}
 use Rattle.xc_host.specs.Model.{HostModel}
 use Rattle.xc_world.specs.Ends.{Ending}
-use Rattle.xc_model.specs.Moment.{TxView, SavedView}
+use Rattle.xc_model.specs.Moment.{TxView}
 use Rattle.xc_station.specs.Acting.{HasActedAsPlain, HasDoneAsPlain, LeavesOff, acting}
-use Rattle.xc_station.specs.Backs.{HasSave, IsSaveOf}
+use Rattle.xc_station.specs.Backs.{HasSave}
 use Rattle.xc_station.specs.Jobs.{saved_in, trail_of, tx_view}
 use Rattle.xc_station.specs.declared.tx.Saved.{Saved}
 use Rattle.xc_station.specs.declared.tx.Tx.{Tx}

@@ -32,7 +32,7 @@ steady_kept s faults at old new answer steady turned =
     record {
       set = steady.set;
       kept = record {
-        told = a_turn_keeps_the_stories_but s at old new answer turned steady.kept.spoken played told
+        told = a_turn_keeps_the_stories_but s at old new answer turned steady.kept.spoken played steady.kept.started told
             (grounds_kept s at old new answer turned played told);
         attempts = turn_leaves_attempts s at old new answer turned told steady.kept.attempts;
         spoken = turn_keeps_words s at old new answer turned steady.kept.apart steady.kept.spoken;

@@ -36,7 +36,7 @@ use Rattle.xc_station.specs.declared.tx.Saved.{Saved}
 use Rattle.xc_station.specs.declared.tx.Tx.{Tx}
 use Rattle.xc_station.proofs.Closed.{active_again, is_active, its_active, moves_on}
 use Rattle.xc_station.proofs.RowsBack.{ended_row, tried_row}
-use Rattle.xc_station.proofs.WaysBack.{few_faults, left_among}
+use Rattle.xc_station.proofs.WaysBack.{few_faults, given_part, left_among}
 
 module _ {H : Type 0} (model : HostModel H) (script : Script) (rules : Rules) (shared : Shared H) (job : Job)
     (can : CanStepBack script model shared rules.undo_tries (job_view job)) (backs : CanGoBack rules.undo_tries job.tx) where
@@ -143,10 +143,12 @@ module _ {H : Type 0} (model : HostModel H) (script : Script) (rules : Rules) (s
       pub ended_open : (now : Moment) (at : ℕ) → IsSameBegin job.place place → walk_of script place ≡ back_to (walk_of script job.place) job.place.saved
           → place.saved ≡ None → job.place.at < place.at
           → ((w : World) → given_back w shared'.buffers.kept ≡ given_back (given_back w shared.buffers.kept) (drop kept.taken job.tx.taken.items))
+          → ((item : KeptItem) → Contains shared'.buffers.kept item
+          → Contains (drop kept.taken job.tx.taken.items) item ⊎ Contains shared.buffers.kept item)
           → IsAt model shared now at (job_view job)
           → IsOpenRow (mover (setting script rules model.tells) at now (job_view job))
           (moved model shared' (job_view (record job { place = place; tx = tx })) now at)
-      ended_open now at begin walk closed nearer given here =
+      ended_open now at begin walk closed nearer given among here =
           let count : length (take kept.taken job.tx.taken.items) ≡ kept.taken = length-take-le kept.taken job.tx.taken.items has.taken in
           ended_row model (setting script rules model.tells) shared now at (job_view job) (tx_view job.tx) here doing (saved_view job.tx kept) in_block
           shared' (job_view (record job { place = place; tx = tx })) words sentinels place (drop kept.late job.tx.late.calls)
@@ -154,11 +156,14 @@ module _ {H : Type 0} (model : HostModel H) (script : Script) (rules : Rules) (s
           (sym (take-append-drop kept.late job.tx.late.calls))
           (sym (moves_on job can.tx place tx can.doing begun) ∙ ap (with_tx (job_view job) place) view)
           (subst (λ n. (w : World) → given_back w shared'.buffers.kept ≡ given_back (given_back w shared.buffers.kept) (drop n job.tx.taken.items)) (sym count)
-          given) host
+          given)
+          (subst (λ n. (item : KeptItem) → Contains shared'.buffers.kept item → Contains (drop n job.tx.taken.items) item ⊎ Contains shared.buffers.kept item)
+          (sym count) among) host
 
       pub ended_returns : (was : TxView) → doing_of job ≡ Active was
           → shared'.buffers.noted + length job.tx.taken.items ≡ shared.buffers.noted + length tx.taken.items
-          → ((item : KeptItem) → Contains shared'.buffers.kept item → Contains job.tx.taken.items item ⊎ Contains shared.buffers.kept item)
+          → ((item : KeptItem) → Contains shared'.buffers.kept item
+          → Contains (drop kept.taken job.tx.taken.items) item ⊎ Contains shared.buffers.kept item)
           → (behind : TxView) × (doing_of (record job { place = place; tx = tx }) ≡ Active behind)
           × Returns model (record { old = front_of shared; new = front_of shared' }) (record { old = was; new = behind })
       ended_returns was does noted among =
@@ -172,6 +177,6 @@ module _ {H : Type 0} (model : HostModel H) (script : Script) (rules : Rules) (s
               held = ap (λ (x : TxView). x.held) view;
               taken = λ item there.
                   left_among kept.taken job.tx.taken.items item (subst (λ items. Contains items item) (ap (λ (x : TxView). x.taken) view) there);
-              by_turn = inr (record { host = host; among = among });
+              by_turn = inr (record { host = host; among = given_part kept.taken job.tx.taken.items _ _ among });
             }),
           )

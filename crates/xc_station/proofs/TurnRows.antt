@@ -36,7 +36,8 @@ use Rattle.xc_model.specs.Rows.{IsTurn, TurnOf, ActiveTurn}
 use Rattle.xc_model.specs.UndoingRows.{BackTurn, Compensates, EntersAborted}
 use Rattle.xc_model.specs.CommittingRows.{EndsLate, EntersCommitted, LateTurn, NextLate}
 use Rattle.xc_model.specs.IdleRows.{IdleTurn}
-use Rattle.xc_model.specs.CommittingRows.{IsStart, Starts}
+use Rattle.xc_model.specs.CommittingRows.{Starts}
+use Rattle.xc_model.specs.Starts.{IsStart}
 use Rattle.xc_model.specs.Rows.{StarvedTurn}
 use Rattle.xc_model.specs.Entering.{behind_abort, behind_commit, entry_of, started_jobs}
 use Rattle.xc_model.specs.Movers.{mover, with_tx}
@@ -163,6 +164,7 @@ module _ {H : Type 0} (model : HostModel H) (shared : Shared H) (journal : List 
         behind = moment_set shared' journal job
             ∙ (λ i. record (moment model shared' journal jobs) {
               words = same.0 i;
+              kept = (same.2 i).kept;
               jobs = slice_set (job_views jobs) at (job' i);
               marks = marks_of ((same.1 i).seats);
               started = (same.3 i).items;
@@ -205,6 +207,7 @@ module _ {H : Type 0} (model : HostModel H) (shared : Shared H) (journal : List 
           contents = with_kept (model.contents (same.0 i)) (kept i);
           faults = model.fault_count (same.0 i);
           calls = model.calls (same.0 i);
+          kept = kept i;
           journal = (entered ∙ ap (λ e. journal ++ e ∷ []) gave.1) i;
           jobs = live i;
           started = (same.2 i).items;
@@ -270,6 +273,7 @@ module _ {H : Type 0} (model : HostModel H) (shared : Shared H) (journal : List 
         behind = moment_set shared' journal job
             ∙ (λ i. record (moment model shared' journal jobs) {
               words = same.0 i;
+              kept = (same.2 i).kept;
               started = (same.3 i).items;
               jobs = slice_set (job_views jobs) at ((gave.1 ∙ ap (λ undo. with_tx (job_view was) was.place (record back.tx { undo = undo })) tried.stack) i);
               marks = marks_of ((same.1 i).seats);
@@ -301,11 +305,13 @@ module _ {H : Type 0} (model : HostModel H) (shared : Shared H) (journal : List 
               contents = told_by model shared';
               faults = model.fault_count (same.0 i);
               calls = model.calls (same.0 i);
+              kept = shared'.buffers.kept;
               journal = (entered ∙ ap (λ e. journal ++ e ∷ []) gave.1) i;
               jobs = slice_set (job_views jobs) at (gave.0 i);
               started = (same.2 i).items;
               marks = marks' i;
             });
+        kept = record { given = λ w. given.given w back.tx back.doing; among = λ item there. given.among item back.tx back.doing there };
         returned = λ tells. ap (λ h. with_kept (model.contents h) shared'.buffers.kept) same.0
             ∙ kept_again (model.contents shared.host) shared.buffers.kept shared'.buffers.kept back.tx.taken (λ w. given.given w back.tx back.doing);
       } in

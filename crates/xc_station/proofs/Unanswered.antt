@@ -4,6 +4,7 @@ use Rattle.std.proofs.lemmas.List.{append-nil, length-append}
 use Rattle.std.proofs.lemmas.List.Elements.{All-head}
 use Rattle.std.specs.Prelude.{All, Contains}
 use Rattle.std.specs.declared.option.Option.TheVariants.{None}
+use Rattle.xc_buffers.specs.Items.{is_fit}
 use Rattle.xc_data.specs.declared.call.Call.{Call}
 use Rattle.xc_data.specs.declared.call.Call.TheVariants as call
 use Rattle.xc_data.specs.Private.{IsSided}
@@ -77,32 +78,35 @@ module _ {H : Type 0} (model : HostModel H) (c : Call) (old new : Acting H) (rep
 
   -- the last note went back to the front
   pub given_undone : (lent : IsTrue model.tells → IsLentFor old.tx.me old.tx.number c (model.contents old.host) old.kept)
+      → All (λ t. is_fit t ≡ true) old.kept
       → (behind : Acting H) → length old.tx.taken < length new.tx.taken
       → ((notes : List KeptItem) (last : KeptItem) → new.tx.taken ≡ notes ++ last ∷ [] → (behind.tx.taken ≡ notes)
       × ((w : World) → given_back w behind.kept ≡ gives (given_back w new.kept) last))
       → behind ≡ record new { kept = behind.kept; tx = record new.tx { me = old.tx.me; taken = behind.tx.taken } }
       → (value_in reply ≡ None → ⊥) → LeavesOff model c old behind
-  given_undone lent behind longer gave is brings =
+  given_undone lent fit behind longer gave is brings =
       let last = last_taken longer in
       let back = gave old.tx.taken last.0 (noted_behind ∙ ap (λ items. old.tx.taken ++ items) last.1) in
       elim (taking_or_not (takes_data c)) [
         | inl untaken ↦ absurd (let none = ap length (sym last.1 ∙ none_taken c old.tx.me reply untaken) in omega (arith, none))
         | inr takes ↦ taking_undone model c old new behind behind.kept reply takes d lent (sided_for old.tx.me c sided)
-            (λ w. back.1 w ∙ ap (given_back (given_back w new.kept)) (sym last.1))
+            fit (λ w. back.1 w ∙ ap (given_back (given_back w new.kept)) (sym last.1))
+            (λ none. absurd (let item = ap length (sym last.1 ∙ none) in omega (arith, item)))
             (is ∙ ap (λ items. record new { kept = behind.kept; tx = record new.tx { me = old.tx.me; taken = items } }) back.0) brings
       ]
 
   -- there was nothing to give
   pub nothing_undone : (lent : IsTrue model.tells → IsLentFor old.tx.me old.tx.number c (model.contents old.host) old.kept)
+      → All (λ t. is_fit t ≡ true) old.kept
       → (behind : Acting H) → length new.tx.taken ≤ length old.tx.taken → is_back c ≡ false
       → behind ≡ record new { tx = record new.tx { me = old.tx.me } } → (value_in reply ≡ None → ⊥) → LeavesOff model c old behind
-  nothing_undone lent behind shorter ahead is brings =
+  nothing_undone lent fit behind shorter ahead is brings =
       let none = nothing_taken shorter in
       let still : new.tx.taken ≡ old.tx.taken = noted_behind ∙ ap (λ items. old.tx.taken ++ items) none ∙ append-nil old.tx.taken in
       elim (taking_or_not (takes_data c)) [
         | inl untaken ↦ unanswered model c old new behind reply d untaken ahead is brings
         | inr takes ↦ taking_undone model c old new behind new.kept reply takes d lent (sided_for old.tx.me c sided)
-            (λ w. ap (given_back (given_back w new.kept)) (sym none))
+            fit (λ w. ap (given_back (given_back w new.kept)) (sym none)) (λ _. refl)
             (is ∙ ap (λ items. record new { tx = record new.tx { me = old.tx.me; taken = items } }) still) brings
       ]
 

@@ -9,8 +9,6 @@ use Rattle.xc_data.specs.Faults.{end_faults, undo_faults}
 use Rattle.xc_data.specs.declared.undo.Undo.{Undo}
 use Rattle.xc_data.specs.declared.undo.UndoEnd.{UndoEnd}
 use Rattle.xc_data.specs.declared.undo.UndoEnd.TheVariants.{Undone, Failed, Blocked}
-use Rattle.xc_buffers.specs.Items.{items_from}
-use Rattle.xc_buffers.specs.declared.source.Source.{Source}
 use Rattle.xc_compensate.specs.Records.{Records}
 use Rattle.xc_compensate.specs.Turns.{turn_of}
 use Rattle.xc_compensate.specs.declared.stack.UndoTurn.{UndoTurn}
@@ -26,7 +24,6 @@ use Rattle.xc_station.specs.Backs.{CanGoBack, HasSave}
 use Rattle.xc_station.specs.Jobs.{saved_in, saved_view, trail_of, tx_view}
 use Rattle.xc_station.specs.declared.tx.Saved.{Saved}
 use Rattle.xc_station.specs.declared.tx.Tx.{Tx}
-use Rattle.xc_station.proofs.Giving.{given_among}
 
 -- ---- the faults of undone records
 few_in : (tries : ℕ) (u : Undo) (end : UndoEnd) (way : Option ℕ) → IsLegalEnd tries u end way → is_undone end ≡ true → end_faults end ≤ tries
@@ -120,11 +117,17 @@ stuck_so (Failed done faults) number r is which = refl
 stuck_so (Blocked by) number r is which = refl
 
 -- ---- what is given back of what was taken
--- it is of what was taken or was kept before
-pub given_part : (n : ℕ) (items old new : List KeptItem) → ((s : Source) → items_from s new ≡ items_from s (drop n items) ++ items_from s old)
+-- what is of its last part was taken
+pub drop_among : (n : ℕ) (items : List KeptItem) (item : KeptItem) → Contains (drop n items) item → Contains items item
+drop_among n items item there =
+    All-contains (Contains items) (drop n items) item (All-drop (Contains items) n items (All-contains_itself items)) there
+
+-- so what is given back of it was taken or was kept before
+pub given_part : (n : ℕ) (items old new : List KeptItem)
+    → ((item : KeptItem) → Contains new item → Contains (drop n items) item ⊎ Contains old item)
     → (item : KeptItem) → Contains new item → Contains items item ⊎ Contains old item
-given_part n items old new each item at = elim (given_among (drop n items) old new each item at) [
-  | inl there ↦ inl (All-contains (Contains items) (drop n items) item (All-drop (Contains items) n items (All-contains_itself items)) there)
+given_part n items old new among item at = elim (among item at) [
+  | inl there ↦ inl (drop_among n items item there)
   | inr there ↦ inr there
 ]
 

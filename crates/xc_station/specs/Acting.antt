@@ -24,6 +24,7 @@ use Rattle.xc_host.specs.Pairs.{has_pair}
 use Rattle.xc_host.specs.Pipes.{has_pipe}
 use Rattle.xc_host.specs.Uses.{CallsOf, StopsFor, Uses}
 use Rattle.xc_pipe.specs.Reading.{IsPipeIn}
+use Rattle.xc_pipe.specs.Taking.{HasTaken}
 use Rattle.xc_socket.specs.Checks.{IsPairIn}
 use Rattle.xc_script.specs.declared.ask.Ask.TheVariants as ask
 use Rattle.xc_txmem.specs.Overlay.{AreWithin, overlaid}
@@ -159,6 +160,8 @@ module _ {H : Type 0} (model : HostModel H) (call : Call) (old new : Acting H) w
     pub in_time : IsReplyInTime old.tx.me old.tx.number call reply
     pub uses : Uses model (record { old = old.host; new = new.host }) (CallsOf (refusal_of call old.tx.me) call reply)
     pub cause : CountsFault (is_fault_reply reply) (model.fault_count old.host) (model.fault_count new.host)
+    -- what becomes of kept data, over every host
+    pub lent : HasTaken call old.tx.me (record { old = old.kept; new = new.kept }) (Ok reply)
     pub spoken : IsWordStep (overlaid old.words old.tx.writes) (overlaid old.words new.tx.writes) call reply
     -- what it took is of a pipe or a pair of the host's, and none of them is gone
     pub backed : IsTrue model.tells → All (IsBacked (model.contents old.host)) (taken_by call old.tx.me reply)
@@ -175,6 +178,8 @@ module _ {H : Type 0} (model : HostModel H) (call : Call) (old new : Acting H) w
     pub tx : new.tx ≡ leaving old.tx left
     pub uses : Uses model (record { old = old.host; new = new.host }) (StopsAt (ask.Call call))
     pub faults : model.fault_count new.host ≡ model.fault_count old.host
+    -- what becomes of kept data, over every host
+    pub lent : HasTaken call old.tx.me (record { old = old.kept; new = new.kept }) (Err (record {}))
     pub keeps : IsTrue model.tells → KeepsData (model.contents old.host) (model.contents new.host)
     pub contents : IsTrue model.tells
         → ((left ≡ []) × (told_of model new ≡ told_of model old))

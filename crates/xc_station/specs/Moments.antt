@@ -123,6 +123,7 @@ module _ {H : Type 0} (model : HostModel H) (shared : Shared H) where
     pub contents : now.contents ≡ told_by model shared
     pub faults : now.faults ≡ model.fault_count shared.host
     pub calls : now.calls ≡ model.calls shared.host
+    pub kept : now.kept ≡ shared.buffers.kept
     pub there : slice_get now.jobs at ≡ Some job
     pub marks : now.marks ≡ marks_of shared.sentinels.seats
     pub table : IsTable shared.sentinels.claims now.jobs
@@ -138,6 +139,7 @@ module _ {H : Type 0} (model : HostModel H) (shared : Shared H) where
         contents = told_by model shared;
         faults = model.fault_count shared.host;
         calls = model.calls shared.host;
+        kept = shared.buffers.kept;
         jobs = slice_set now.jobs at job;
         marks = marks_of shared.sentinels.seats;
       }

@@ -4,7 +4,7 @@ use Rattle.std.specs.declared.option.Option.TheVariants.{None, Some}
 use Rattle.std.specs.FinMap as map
 use Rattle.xc_maps.specs.Keys.{name_cmp}
 use Rattle.xc_script.specs.Ask.{block_place}
-use Rattle.xc_model.specs.CommittingRows.{is_block_in}
+use Rattle.xc_model.specs.Starts.{is_block_in}
 use Rattle.xc_text.specs.declared.script.Script.{Script}
 
 -- each name that a block has is there with the block's place, and no other

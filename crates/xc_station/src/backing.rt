@@ -113,7 +113,8 @@ fn end_back(buffers: &mut Buffers, script: &Script, place: &mut JobState, tx: &m
     ensures begun { begun_of tx.new ≡ begun_of tx.old }
     ensures given { (kept : PlainSaved) → tx.old.saved ≡ Some kept → (w : World)
         → given_back w buffers.new.kept ≡ given_back (given_back w buffers.old.kept) (drop kept.taken tx.old.taken.items) }
-    ensures among { (item : KeptItem) → Contains buffers.new.kept item → Contains tx.old.taken.items item ⊎ Contains buffers.old.kept item }
+    ensures among { (kept : PlainSaved) → tx.old.saved ≡ Some kept → (item : KeptItem)
+        → Contains buffers.new.kept item → Contains (drop kept.taken tx.old.taken.items) item ⊎ Contains buffers.old.kept item }
     ensures noted { buffers.new.noted + length tx.old.taken.items ≡ buffers.old.noted + length tx.new.taken.items }
     ensures walk { walk_of script.now place.new ≡ back_to (walk_of script.now place.old) place.old.saved }
     ensures begin { IsSameBegin place.old place.new }

@@ -9,6 +9,7 @@ ghost use Rattle.xc_file.specs.Calls.{IsFileCall};
 ghost use Rattle.xc_host.specs.Fronted.{before, fronted};
 ghost use Rattle.xc_host.specs.Kept.{KeepsData, with_kept};
 ghost use Rattle.xc_pipe.specs.Reading.{Notes};
+ghost use Rattle.xc_pipe.specs.Taking.{HasTaken};
 ghost use Rattle.xc_world.specs.Checks.{refusal_of};
 ghost use Rattle.xc_world.specs.Run.{given_back, gives};
 ghost use Rattle.xc_world.specs.World.{World};
@@ -89,6 +90,7 @@ impl Buffers {
         ensures err { IsTrue H.model.tells → OnErr result
             (with_kept (H.model.contents host.new) self.new.kept ≡ with_kept (H.model.contents host.old) self.old.kept) }
         ensures notes { Notes (XReadPipe h n) me.old (record { old = taken.old.items; new = taken.new.items }) result }
+        ensures kept { HasTaken (XReadPipe h n) me.old (record { old = self.old.kept; new = self.new.kept }) result }
         ensures noted { self.new.noted + length taken.old.items ≡ self.old.noted + length taken.new.items }
         ensures backs { IsTrue H.model.tells → StaysBacked (H.model.contents host.old) self.old.kept self.new.kept }
         ensures fit_taken { IfOk result (λ reply. All (λ t. is_fit t ≡ true) taken.new.items) }
@@ -125,6 +127,7 @@ impl Buffers {
         ensures err { IsTrue H.model.tells → OnErr result
             (with_kept (H.model.contents host.new) self.new.kept ≡ with_kept (H.model.contents host.old) self.old.kept) }
         ensures notes { Notes (XRecvmsg h) me.old (record { old = taken.old.items; new = taken.new.items }) result }
+        ensures kept { HasTaken (XRecvmsg h) me.old (record { old = self.old.kept; new = self.new.kept }) result }
         ensures noted { self.new.noted + length taken.old.items ≡ self.old.noted + length taken.new.items }
         ensures backs { IsTrue H.model.tells → StaysBacked (H.model.contents host.old) self.old.kept self.new.kept }
         ensures fit_taken { IfOk result (λ reply. All (λ t. is_fit t ≡ true) taken.new.items) }
@@ -156,7 +159,8 @@ impl Buffers {
     pub fn give_to(&mut self, taken: &mut Taken, mark: u32)
         requires { length taken.old.items ≤ self.old.noted }
         ensures given { (w : World) → given_back w self.new.kept ≡ given_back (given_back w self.old.kept) (drop mark taken.old.items) }
-        ensures among { (item : KeptItem) → Contains self.new.kept item → Contains taken.old.items item ⊎ Contains self.old.kept item }
+        ensures among { (item : KeptItem) → Contains self.new.kept item
+            → Contains (drop mark taken.old.items) item ⊎ Contains self.old.kept item }
         ensures noted { self.new.noted + length taken.old.items ≡ self.old.noted + length taken.new.items }
         ensures left { taken.new.items ≡ take mark taken.old.items }
     {
@@ -190,7 +194,8 @@ impl Buffers {
 
     /// How much active transactions have taken.
     pub fn noted(&self) -> u32
-        ensures { result ≡ self.now.noted }
+        ensures value { result ≡ self.now.noted }
+        ensures kept { AreKept self.now.kept }
     {
         self.noted
     }

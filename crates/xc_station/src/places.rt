@@ -1,6 +1,6 @@
 ghost use Rattle.std.specs.Prelude.{◌≡◌, IfOk, MatchOption, true, false};
 ghost use Rattle.xc_script.specs.Ask.{block_place};
-ghost use Rattle.xc_model.specs.CommittingRows.{is_block_in};
+ghost use Rattle.xc_model.specs.Starts.{is_block_in};
 ghost use Rattle.xc_text.specs.Scripts.{IsScript};
 ghost use Rattle.xc_station.specs.Places.{IndexesBlocks};
 

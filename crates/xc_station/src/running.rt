@@ -185,49 +185,8 @@ fn is_back(call: &Call) -> bool
     matches!(call, Call::Back)
 }
 
-// The turn of a running transaction whose call is asked: with a back its block begins to go back.
-fn step_call<H: Host>(
-    alloc: Global,
-    shared: &mut Shared<H>,
-    script: &Script,
-    terms: Terms,
-    place: &mut JobState,
-    tx: &mut Tx,
-    call: Call,
-) -> Turn
-    requires asked { asks (walk_of script.now place.old) ≡ AskedCall call }
-    requires fits { fits_block (is_some tx.old.saved) call ≡ true }
-    requires together { is_some place.old.saved ≡ is_some tx.old.saved }
-    requires save { HasSave tx.old tx.old.saved }
-    requires settled { IsPastSilent script.now place.old }
-    requires may { MayGo (length shared.old.words) (tx_view tx.old) }
-    requires count { length shared.old.words ≤ 4096 }
-    requires ready { IsTrue H.model.tells → AreReadyFor (tx_view tx.old) (H.model.contents shared.old.host) }
-    requires needs { IsTrue H.model.tells → HasNeeds H.model shared.old (tx_view tx.old) }
-    requires noted { length tx.old.taken.items ≤ shared.old.buffers.noted }
-    requires holds { Holds shared.old.sentinels.claims tx.old.number tx.old.held.items }
-    ensures words { shared.new.words ≡ shared.old.words }
-    ensures started { shared.new.started ≡ shared.old.started }
-    ensures plan { H.model.plan shared.new.host ≡ H.model.plan shared.old.host }
-    ensures seats { KeepsSeated shared.old.sentinels.seats shared.new.sentinels.seats }
-    ensures waits { (object : Object) (holder : ℕ) → result ≡ Turn.Busy object holder → terms.patient ≡ true }
-    ensures lends { Lends H.model (record { old = front_of shared.old; new = front_of shared.new })
-        (record { old = tx_view tx.old; new = tx_view tx.new }) }
-    ensures begun { begun_of tx.new ≡ begun_of tx.old }
-    ensures backs { runs tx.new.phase ≡ true → CanGoBack terms.tries tx.new }
-    ensures row { (rules : PlainRules) (now : Moment) (at : ℕ) (job : JobView) → let s = setting script.now rules H.model.tells in
-        IsAt H.model shared.old now at job → HasTx s job place.old (tx_view tx.old) → AreTerms rules now job terms.patient terms.at
-        → IsRow (mover s at now job) (moved H.model shared.new (counted result (with_tx job place.new (tx_view tx.new))) now at) result
-        shared.new.sentinels.claims }
-{
-    if is_back(&call) {
-        return begin_back(terms.tries, tx);
-    }
-    try_call(alloc, shared, script, terms, place, tx, call)
-}
-
-// What a running transaction does next: the call that is asked, or it enters its commit, which writes its
-// stores, or its rollback.
+// What a running transaction does next: the call that is asked, with a back its block begins to go back, or it enters its commit,
+// which writes its stores, or its rollback.
 #[inline(always)]
 fn step_running<H: Host>(
     alloc: Global,
@@ -263,7 +222,12 @@ fn step_running<H: Host>(
         shared.new.sentinels.claims }
 {
     match place.ask(script) {
-        Ok(Ask::Call(call)) => step_call(alloc, shared, script, terms, place, tx, call),
+        Ok(Ask::Call(call)) => {
+            if is_back(&call) {
+                return begin_back(terms.tries, tx);
+            }
+            try_call(alloc, shared, script, terms, place, tx, call)
+        }
         Ok(Ask::Commit) => {
             tx.writes.apply(&mut shared.words);
             tx.phase = Phase::Committing;
@@ -334,6 +298,7 @@ fn calls_ahead(job: &Job, script: &Script) -> u32 {
 /// The turn of a job whose transaction runs: its next call, the entering of its commit, which writes its stores, or that
 /// of its rollback, as where it is marked. Where memory runs out it keeps what it claimed, and the record of what its call had done at
 /// the host. The journal has so many entries.
+#[inline(always)]
 pub fn run<H: Host>(
     alloc: Global,
     shared: &mut Shared<H>,

@@ -6,7 +6,7 @@ ghost use Rattle.xc_station.specs.declared.job.Job.{Job as PlainJob};
 ghost use Rattle.xc_station.specs.Jobs.{child_view, job_view, job_views};
 ghost use Rattle.xc_station.specs.Starting.{StartsChild};
 ghost use Rattle.xc_station.specs.Stations.{AreAhead};
-ghost use Rattle.xc_model.specs.CommittingRows.{IsStart, is_block_in};
+ghost use Rattle.xc_model.specs.Starts.{IsStart, is_block_in};
 ghost use Rattle.xc_model.specs.Entering.{behind_commit, started_job};
 ghost use Rattle.xc_model.specs.Moment.{TxView, Active};
 

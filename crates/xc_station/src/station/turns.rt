@@ -48,7 +48,7 @@ impl<H: Host> Station<H> {
     }
 
     // A running transaction does its next call, or enters its commit or its rollback.
-    #[inline(never)]
+    #[inline(always)]
     fn running(&mut self, at: usize) -> Turn
         requires { IsStage self.old.jobs at PlainStage.Running }
         ensures same { KeepsOpening self.old self.new }

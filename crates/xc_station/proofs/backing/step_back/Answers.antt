@@ -36,7 +36,7 @@ returns-else-mark-left-clause-returns g c was does =
     let shared' : Shared g.row.H.Denot = record c.args.shared.now { buffers = c.end_back.new.buffers } in
     ended_returns g.H.Host.model c.args.script.now c.args.rules.now c.args.shared.now c.args.job.now c.requires.can c.requires.backs save.0 save.1
     shared' c.end_back.new.place c.end_back.new.tx c.end_back.ensures.begun (omega (arith, mark, left, more)) (c.end_back.ensures.tx save.0 save.1)
-    refl refl refl was does c.end_back.ensures.noted c.end_back.ensures.among
+    refl refl refl was does c.end_back.ensures.noted (c.end_back.ensures.among save.0 save.1)
 
 pub returns-else-mark-left-clause-row : goal.returns-else-mark-left-clause-row
 returns-else-mark-left-clause-row g c now at here =
@@ -48,4 +48,4 @@ returns-else-mark-left-clause-row g c now at here =
     ended_open g.H.Host.model c.args.script.now c.args.rules.now c.args.shared.now c.args.job.now c.requires.can c.requires.backs save.0 save.1
     shared' c.end_back.new.place c.end_back.new.tx c.end_back.ensures.begun (omega (arith, mark, left, more)) (c.end_back.ensures.tx save.0 save.1)
     refl refl refl now at c.end_back.ensures.begin c.end_back.ensures.walk c.end_back.ensures.closed c.end_back.ensures.nearer
-    (c.end_back.ensures.given save.0 save.1) here
+    (c.end_back.ensures.given save.0 save.1) (c.end_back.ensures.among save.0 save.1) here

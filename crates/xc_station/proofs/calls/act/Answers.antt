@@ -121,7 +121,7 @@ returns-in-XPipe-clause-acted g c =
     let kept = c.args.buffers.now.kept in
     let none : IsTrue model.tells → kept_bytes (next_num tx.me tx.number) kept ≡ [] =
     λ t. (subst (IsFreeFor (model.contents c.args.host.now) kept (next_num tx.me tx.number)) c.in-XPipe.is (c.requires.lent t).free).1 in
-    made_acted model _ _ _ _ _ _ same c.in-XPipe.is refl refl refl refl
+    made_acted model _ _ _ _ _ _ same c.in-XPipe.is refl refl refl refl refl
     (e.call kept (λ t. ap (λ (me : Private). kept_bytes (next_num me tx.number) kept) same ∙ none t))
     e.keeps refl (omega (arith, e.stored, stored, c.requires.may.stored)) e.now
 
@@ -135,7 +135,7 @@ returns-in-XPair-clause-acted g c =
     let kept = c.args.buffers.now.kept in
     let none : IsTrue model.tells → keeps_pair (next_num tx.me tx.number) kept ≡ false =
     λ t. (subst (IsFreeFor (model.contents c.args.host.now) kept (next_num tx.me tx.number)) c.in-XPair.is (c.requires.lent t).free).1 in
-    made_acted model _ _ _ _ _ _ same c.in-XPair.is refl refl refl refl
+    made_acted model _ _ _ _ _ _ same c.in-XPair.is refl refl refl refl refl
     (e.call kept (λ t. ap (λ (me : Private). keeps_pair (next_num me tx.number) kept) same ∙ none t))
     e.keeps refl (omega (arith, e.stored, stored, c.requires.may.stored)) e.now
 
@@ -153,7 +153,7 @@ returns-in-XReadPipe-clause-acted g c =
     (λ t. note_backed (model.contents c.args.host.now) d c.deref_mut-in-XReadPipe.result.now
     (record { old = c.args.tx.now.taken.items; new = c.read_pipe.new.taken.items }) c.read_pipe.result
     (subst (λ (m : Private). refusal_of d m ≡ None → IsSourceIn (model.contents c.args.host.now) m d) (sym same) (there t))
-    (ok_checked (fronted model) _ _ _ c.read_pipe.result k) e.notes e.fit_taken) e.keeps e.stored e.now
+    (ok_checked (fronted model) _ _ _ c.read_pipe.result k) e.notes e.fit_taken) e.keeps e.stored e.now e.kept
 
 pub returns-in-XRecvmsg-clause-acted : goal.returns-in-XRecvmsg-clause-acted
 returns-in-XRecvmsg-clause-acted g c =
@@ -169,7 +169,7 @@ returns-in-XRecvmsg-clause-acted g c =
     (λ t. note_backed (model.contents c.args.host.now) d c.deref_mut-in-XRecvmsg.result.now
     (record { old = c.args.tx.now.taken.items; new = c.receive.new.taken.items }) c.receive.result
     (subst (λ (m : Private). refusal_of d m ≡ None → IsSourceIn (model.contents c.args.host.now) m d) (sym same) (there t))
-    (ok_checked (fronted model) _ _ _ c.receive.result k) e.notes e.fit_taken) e.keeps e.stored e.now
+    (ok_checked (fronted model) _ _ _ c.receive.result k) e.notes e.fit_taken) e.keeps e.stored e.now e.kept
 
 pub returns-in-XSendmsg-clause-acted : goal.returns-in-XSendmsg-clause-acted
 returns-in-XSendmsg-clause-acted g c =

@@ -7,7 +7,7 @@ use Rattle.xc_station.proofs.DoingsWords.{word_untaken}
 use Rattle.xc_model.specs.Moment.{TxView}
 use Rattle.xc_model.specs.PlainSteps.{copied}
 use Rattle.xc_station.specs.Jobs.{tx_view}
-use Rattle.xc_station.proofs.Saves.{acted_seen, grows_done, grows_left, on_ok, still_kept, still_seen}
+use Rattle.xc_station.proofs.Saves.{acted_seen, on_ok}
 use Rattle.xc_station.proofs.calls.do_call.Goals as goal
 
 pub returns-in_err-answer-clause-acted : goal.returns-in_err-answer-clause-acted

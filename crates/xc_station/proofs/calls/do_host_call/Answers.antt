@@ -37,7 +37,8 @@ returns-then-is_err-clause-noted g c =
     elim c.if-noted.branch [
       | then-noted w ↦
           let more = w.if-noted.true in
-          let back = taken_before model call old done reply did c.requires.may.sided (omega (arith, held, counts, more, c.noted.ensures, c.noted-noted.ensures))
+          let back = taken_before model call old done reply did c.requires.may.sided
+          (omega (arith, held, counts, more, c.noted.ensures.value, c.noted-noted.ensures.value))
           w.give_last.new.taken.items (λ notes last is. (w.give_last.ensures.given notes last is).0) in
           let gave = w.give_last.ensures.noted in
           let kept = ap (λ (b : Lent). b.noted) w.buffers-is in
@@ -72,8 +73,8 @@ returns-then-is_err-clause-acted g c =
     let held = ap (λ (t : TxView). length t.taken) c.keep.ensures.tx in
     let counts = c.in_ok-reply.ensures.noted in
     elim c.if-noted.branch [
-      | then-noted w ↦ given_undone model call old done reply did c.requires.may.sided c.requires.lent behind
-          (let more = w.if-noted.true in omega (arith, held, counts, more, c.noted.ensures, c.noted-noted.ensures))
+      | then-noted w ↦ given_undone model call old done reply did c.requires.may.sided c.requires.lent c.noted-noted.ensures.kept.fit behind
+          (let more = w.if-noted.true in omega (arith, held, counts, more, c.noted.ensures.value, c.noted-noted.ensures.value))
           (λ notes last is. let gave = w.give_last.ensures.given notes last is in
           (ap (λ (t : Tx). t.taken.items) w.tx-is ∙ gave.0, λ v. ap (λ (b : Lent). given_back v b.kept) w.buffers-is ∙ gave.1 v))
           (ap (acting c.act.new.host behind.kept c.args.words.now) w.tx-is
@@ -81,8 +82,8 @@ returns-then-is_err-clause-acted g c =
             kept = behind.kept;
             tx = record done.tx { me = back i; taken = sym (ap (λ (t : Tx). t.taken.items) w.tx-is) i };
           })) brings
-      | else-noted w ↦ nothing_undone model call old done reply did c.requires.may.sided c.requires.lent behind
-          (let more = w.if-noted.false in omega (arith, held, counts, more, c.noted.ensures, c.noted-noted.ensures)) c.requires.plain.1
+      | else-noted w ↦ nothing_undone model call old done reply did c.requires.may.sided c.requires.lent c.noted-noted.ensures.kept.fit behind
+          (let more = w.if-noted.false in omega (arith, held, counts, more, c.noted.ensures.value, c.noted-noted.ensures.value)) c.requires.plain.1
           ((λ i. acting c.act.new.host (w.buffers-is i).kept c.args.words.now (w.tx-is i)) ∙ (λ i. record done { tx = record done.tx { me = back i } })) brings
     ]
 
@@ -100,7 +101,7 @@ returns-then-is_err-clause-backs g c = λ tells.
     let stays : StaysBacked (model.contents c.args.host.now) c.args.buffers.now.kept c.act.new.buffers.kept = c.in_ok-reply.ensures.backs tells in
     elim c.if-noted.branch [
       | then-noted w ↦ last_backed model call old done reply did c.requires.may.sided c.if-noted.buffers.kept tells
-          (let more = w.if-noted.true in omega (arith, held, counts, more, c.noted.ensures, c.noted-noted.ensures))
+          (let more = w.if-noted.true in omega (arith, held, counts, more, c.noted.ensures.value, c.noted-noted.ensures.value))
           (λ notes last is item at. w.give_last.ensures.among notes last is item (subst (λ (b : Lent). Contains b.kept item) w.buffers-is at)) stays
       | else-noted w ↦ subst (λ (b : Lent). StaysBacked (model.contents c.args.host.now) c.args.buffers.now.kept b.kept) (sym w.buffers-is) stays
     ]

@@ -12,7 +12,7 @@ use Rattle.xc_maps.specs.Keys.{name_cmp}
 use Rattle.xc_text.specs.declared.script.Block.{Block}
 use Rattle.xc_text.specs.declared.script.Script.{Script}
 use Rattle.xc_text.specs.Scripts.{IsScript, names_of}
-use Rattle.xc_model.specs.CommittingRows.{is_block_in}
+use Rattle.xc_model.specs.Starts.{is_block_in}
 use Rattle.xc_station.specs.Places.{IndexesBlocks}
 use Rattle.xc_station.proofs.places.places_of.Invariants.{with_places}
 use Rattle.xc_station.proofs.places.places_of.Goals as goal

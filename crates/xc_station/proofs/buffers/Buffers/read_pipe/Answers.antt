@@ -7,7 +7,9 @@ use Rattle.xc_data.specs.declared.entry.KeptItem.{KeptItem}
 use Rattle.xc_file.specs.Calls.{IsFileCall}
 use Rattle.xc_file.proofs.FileCalls.{always_err}
 use Rattle.xc_host.specs.Fronted.{before, fronted}
+use Rattle.xc_pipe.specs.Taking.{HasTaken}
 use Rattle.xc_station.specs.Lent.{IsBacked, Lent}
+use Rattle.xc_station.proofs.TakenAgain.{err_taken, none_taken_for}
 use Rattle.xc_station.proofs.Takings.{taking_keeps, taking_stops}
 use Rattle.xc_station.proofs.buffers.Buffers.read_pipe.Goals as goal
 
@@ -49,3 +51,26 @@ returns-clause-backs g c =
     (record { host = before c.x_read_pipe.new.host c.x_read_pipe.new.kept.items; number = 0; me = c.x_read_pipe.new.me; undo = none })
     (Ok c.in_ok-reply.reply) refl (c.in_ok-reply.ensures.call 0 none) t tt (c.requires.there t) tt in_order.fit
     (subst (λ (ks : List KeptItem). All (IsBacked (model.contents c.args.host.now)) ks) (sym items) backed)
+
+pub returns-in_err-reply-clause-kept : goal.returns-in_err-reply-clause-kept
+returns-in_err-reply-clause-kept g c =
+    let items : c.make_room.new.kept.items ≡ c.args.self.now.kept = c.make_room.ensures.items ∙ ap (λ (l : Lent). l.kept) c.self.view_is in
+    err_taken (XReadPipe c.args.h c.args.n) c.args.me.now (record { old = c.args.self.now.kept; new = c.x_read_pipe.new.kept.items })
+    c.from_residual-in_err-reply.result c.from_residual-in_err-reply.ensures.0
+    (subst (λ (ks : List KeptItem).
+    HasTaken (XReadPipe c.args.h c.args.n) c.args.me.now (record { old = ks; new = c.x_read_pipe.new.kept.items }) (Err (record {})))
+    items c.in_err-reply.ensures.kept)
+
+pub returns-clause-kept : goal.returns-clause-kept
+returns-clause-kept g c =
+    let items : c.make_room.new.kept.items ≡ c.args.self.now.kept = c.make_room.ensures.items ∙ ap (λ (l : Lent). l.kept) c.self.view_is in
+    subst (λ (ks : List KeptItem).
+    HasTaken (XReadPipe c.args.h c.args.n) c.args.me.now (record { old = ks; new = c.x_read_pipe.new.kept.items }) (Ok c.in_ok-reply.reply))
+    items c.in_ok-reply.ensures.kept
+
+pub returns-in_err-make_room-clause-kept : goal.returns-in_err-make_room-clause-kept
+returns-in_err-make_room-clause-kept g c =
+    err_taken (XReadPipe c.args.h c.args.n) c.args.me.now (record { old = c.args.self.now.kept; new = c.make_room.new.kept.items })
+    c.from_residual.result c.from_residual.ensures.0
+    (none_taken_for (XReadPipe c.args.h c.args.n) c.args.me.now (record { old = c.args.self.now.kept; new = c.make_room.new.kept.items }) (record {})
+    (c.make_room.ensures.items ∙ ap (λ (l : Lent). l.kept) c.self.view_is))

@@ -29,6 +29,7 @@ invariant_of-result g c =
     c.new-journal.result.items rooms.jobs.items) = record {
       words = c.in-Ok.ensures.words;
       journal = c.new-journal.ensures;
+      kept = ap (λ (lent : Lent). lent.kept) c.in-Ok.ensures.buffers;
       jobs = c.in-Ok.ensures.jobs;
       started = c.in-Ok.ensures.started;
       marks = λ n. ap mark_of (c.new-sentinels.ensures.nobody n);
@@ -67,6 +68,7 @@ returns-clause-opening g c =
     record {
       words = c.in-Ok.ensures.words;
       journal = c.new-journal.ensures;
+      kept = ap (λ (lent : Lent). lent.kept) c.in-Ok.ensures.buffers;
       jobs = c.in-Ok.ensures.jobs;
       started = c.in-Ok.ensures.started;
       marks = λ n. ap mark_of (c.new-sentinels.ensures.nobody n);
