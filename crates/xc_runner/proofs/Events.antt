@@ -1,15 +1,9 @@
--- An event of a station, as passes see it.
-use Rattle.xc_data.specs.declared.entry.Event.{Event}
-use Rattle.xc_turnstile.specs.Insides.{IsNext}
-use Rattle.xc_station.specs.Events.{IsEvent, meaning_of}
-use Rattle.xc_station.specs.Stations.{StationView}
+-- A station that is handed on in a box.
+use Rattle.std.proofs.Common.{◌≡◌, [], Box, ap, sym, ◌∙◌}
+use Rattle.std.proofs.lemmas.List.{append-nil}
+use Rattle.xc_station.specs.Stations.{IsFrontOf, StationView}
 
--- it leads on
-pub event_next : {H : Type 0} (old new : StationView H) (event : Event) → IsEvent old new event → IsNext meaning_of old new event
-event_next old new event is =
-    record {
-      front = is.front;
-      origin = λ i. record { script = (is.origin.opening i).script; faults = (is.origin.opening i).faults; rules = is.origin.rules i };
-      count = is.count;
-      last = is.last;
-    }
+-- where it is as it was, so is its journal
+pub same_front : {H Z : Type 0} (old new : Box (StationView H) Z) → new ≡ old → IsFrontOf old.value.journal new.value.journal
+same_front {H = H} {Z = Z} old new same =
+    ([], ap (λ (b : Box (StationView H) Z). b.value.journal) same ∙ sym (append-nil old.value.journal))

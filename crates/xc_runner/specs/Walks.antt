@@ -1,5 +1,5 @@
 -- The order of a worker's events: it picks a job, takes its turns to the end, and picks again, until none is left.
-use Rattle.std.specs.Prelude.{◌≡◌, ◌==◌, ◌+◌, ℕ, Bool, true, false, List, [], ◌∷◌, ◌++◌, Option, length, if◌then◌else◌}
+use Rattle.std.specs.Prelude.{◌≡◌, ◌==◌, ◌+◌, ℕ, Bool, true, false, List, [], ◌∷◌, ◌++◌, Option, Contains, length, if◌then◌else◌}
 use Rattle.std.specs.declared.option.Option.TheVariants.{None, Some}
 use Rattle.xc_data.specs.declared.entry.Event.{Event}
 use Rattle.xc_data.specs.declared.entry.Event.TheVariants.{Turned, Picked, Looked}
@@ -57,3 +57,9 @@ pub record Leads (from : Stage) (old new : Known) (to : Stage) : Type 0 where
   pub events : new.view.events ≡ old.view.events ++ gained
   pub won : new.view.won ≡ old.view.won + length gained
   pub leads : walk_all from gained ≡ to
+
+-- the pass gained events, and somebody found no job left: a pick with none is among them
+pub record FindsNoneLeft (old new : Known) : Type 0 where
+  pub gained : List Event
+  pub events : new.view.events ≡ old.view.events ++ gained
+  pub found : Contains gained (Picked None)

@@ -1,6 +1,7 @@
 //! Workers: threads that take turns of one station after a turnstile, each with a pass of its own.
 #![tactic(auto)]
 
+mod backoff;
 mod pace;
 mod worker;
 mod workers;

@@ -1,15 +1,35 @@
-ghost use Rattle.std.specs.Prelude.{◌≡◌};
+ghost use Rattle.std.specs.Prelude.{◌≡◌, IfErr, IfOk};
 ghost use Rattle.xc_data.specs.declared.entry.Event.TheVariants.{Turned, Picked};
-ghost use Rattle.xc_turnstile.specs.Insides.{GainsEvent, IsInside, PassGoesOn};
-ghost use Rattle.xc_runner.specs.Walks.{Leads, is_last, over, picking, turning};
+ghost use Rattle.xc_turnstile.specs.declared.turnstile.Entered.TheVariants.{Inside};
+ghost use Rattle.xc_turnstile.specs.Enterings.{HasEntered};
+ghost use Rattle.xc_turnstile.specs.Insides.{GainsEvent, IsInside, IsOutside, PassGoesOn};
+ghost use Rattle.xc_runner.specs.Walks.{FindsNoneLeft, Leads, is_last, over, picking, turning};
 
+use crate::backoff::Backoff;
 use crate::pace::Pace;
 use std::sync::Wait;
-use std::thread;
 use xc_data::Turn;
 use xc_host::Host;
 use xc_station::Station;
 use xc_turnstile::{Chronicle, Entered, Hold, Pass, Turnstile};
+
+// Tries once to enter, unless a look finds another inside.
+fn enter_free<V: Chronicle>(
+    turnstile: &Turnstile<V>,
+    pass: Pass<V>,
+) -> Result<(V, Hold<V>), Pass<V>>
+    requires { pass.table ≡ turnstile.now.table.shared.table_id }
+    ensures ok { IfOk result (λ inside. HasEntered V.meaning pass (Inside inside.0 inside.1)) }
+    ensures err { IfErr result (IsOutside pass) }
+{
+    if turnstile.is_held() {
+        return Err(pass);
+    }
+    match turnstile.try_enter(pass) {
+        Entered::Inside(value, hold) => Ok((value, hold)),
+        Entered::Held(back, _) => Err(back),
+    }
+}
 
 /// Tries until it is inside. It may wait.
 pub fn enter<V: Chronicle, R: Wait>(rt: &R, turnstile: &Turnstile<V>, pass: Pass<V>) -> (V, Hold<V>)
@@ -17,14 +37,13 @@ pub fn enter<V: Chronicle, R: Wait>(rt: &R, turnstile: &Turnstile<V>, pass: Pass
     ensures { IsInside V.meaning pass result.1 result.0 }
 {
     let mut mine = pass;
+    let mut backoff = Backoff::new();
     for _ in rt.forever() {
-        match turnstile.try_enter(mine) {
-            Entered::Inside(value, hold) => return (value, hold),
-            Entered::Held(back, _) => {
-                thread::yield_now();
-                mine = back;
-            }
+        match enter_free(turnstile, mine) {
+            Ok(inside) => return inside,
+            Err(back) => mine = back,
         }
+        backoff.wait(rt);
     }
     unreachable!()
 }
@@ -32,9 +51,9 @@ pub fn enter<V: Chronicle, R: Wait>(rt: &R, turnstile: &Turnstile<V>, pass: Pass
 /// Takes the next job, in one entering. It may wait.
 pub fn pick<H: Host, R: Wait>(
     rt: &R,
-    turnstile: &Turnstile<Station<H>>,
-    pass: Pass<Station<H>>,
-) -> (Pass<Station<H>>, Option<u32>)
+    turnstile: &Turnstile<Box<Station<H>>>,
+    pass: Pass<Box<Station<H>>>,
+) -> (Pass<Box<Station<H>>>, Option<u32>)
     requires { pass.table ≡ turnstile.now.table.shared.table_id }
     ensures { GainsEvent pass result.0 (Picked result.1) }
 {
@@ -46,10 +65,10 @@ pub fn pick<H: Host, R: Wait>(
 /// Takes one turn of a job, in one entering. It answers what `try_turn` does, and may wait.
 pub fn turn<H: Host, R: Wait>(
     rt: &R,
-    turnstile: &Turnstile<Station<H>>,
-    pass: Pass<Station<H>>,
+    turnstile: &Turnstile<Box<Station<H>>>,
+    pass: Pass<Box<Station<H>>>,
     job: u32,
-) -> (Pass<Station<H>>, Option<Turn>)
+) -> (Pass<Box<Station<H>>>, Option<Turn>)
     requires { pass.table ≡ turnstile.now.table.shared.table_id }
     ensures { GainsEvent pass result.0 (Turned job result.1) }
 {
@@ -68,20 +87,27 @@ fn ends(answer: &Option<Turn>) -> bool
     }
 }
 
-/// Takes a job's turns to its end, one entering for each, and calls the pace after each. It may wait.
+// Whether a job waits for another after this answer.
+fn waits(answer: &Option<Turn>) -> bool {
+    matches!(answer, Some(Turn::Busy { .. }))
+}
+
+/// Takes a job's turns to its end, one entering for each, and calls the pace after each. While the job waits for others it lets them go
+/// first, for longer with each further Busy. It may wait.
 pub fn work_job<H: Host, P: Pace, R: Wait>(
     rt: &R,
-    turnstile: &Turnstile<Station<H>>,
-    pass: Pass<Station<H>>,
+    turnstile: &Turnstile<Box<Station<H>>>,
+    pass: Pass<Box<Station<H>>>,
     pace: &P,
     job: u32,
-) -> Pass<Station<H>>
+) -> Pass<Box<Station<H>>>
     requires { pass.table ≡ turnstile.now.table.shared.table_id }
     ensures goes { PassGoesOn pass result }
     ensures story { Leads (turning job) pass result picking }
 {
     let mut mine = pass;
     let mut count: u64 = 0;
+    let mut backoff = Backoff::new();
     for _ in rt.forever() {
         let (back, answer) = turn(rt, turnstile, mine, job);
         mine = back;
@@ -90,6 +116,7 @@ pub fn work_job<H: Host, P: Pace, R: Wait>(
         if ends(&answer) {
             return mine;
         }
+        backoff.wait_or_begin(rt, waits(&answer));
     }
     unreachable!()
 }
@@ -97,16 +124,17 @@ pub fn work_job<H: Host, P: Pace, R: Wait>(
 /// Takes jobs, and each one's turns to its end, until no job is left. It may wait.
 pub fn work<H: Host + Send, P: Pace, R: Wait>(
     rt: &R,
-    turnstile: &Turnstile<Station<H>>,
-    pass: Pass<Station<H>>,
+    turnstile: &Turnstile<Box<Station<H>>>,
+    pass: Pass<Box<Station<H>>>,
     pace: &P,
-) -> Pass<Station<H>>
+) -> Pass<Box<Station<H>>>
     requires { pass.table ≡ turnstile.now.table.shared.table_id }
     ensures goes { PassGoesOn pass result }
 
     // Each entering is one event. The first that it gains is a Picked; after each job that is picked come turns of that job
     // alone, up to its end; the last one, and no other, is a Picked with no job.
     ensures story { Leads picking pass result over }
+    ensures end { FindsNoneLeft pass result }
 {
     let mut mine = pass;
     for _ in rt.forever() {

@@ -5,7 +5,7 @@ use Rattle.std.proofs.lemmas.Bool.{ne_eqb}
 use Rattle.xc_data.specs.declared.entry.Entry.{Entry}
 use Rattle.xc_data.specs.declared.entry.Event.{Event}
 use Rattle.xc_turnstile.specs.declared.view.View.{View}
-use Rattle.xc_turnstile.specs.Insides.{IsInside, IsNext, PassGoesOn, GainsEvent}
+use Rattle.xc_turnstile.specs.Insides.{IsInside, IsOutside, IsNext, PassGoesOn, GainsEvent}
 use Rattle.xc_turnstile.specs.Known.{Known}
 use Rattle.xc_turnstile.specs.Meanings.{Meaning}
 use Rattle.xc_turnstile.specs.Views.{BeginsWith, added, entered_view, event_of, left_view}
@@ -40,6 +40,16 @@ module _ {X : Type 0} (m : Meaning X) (pass hold : Known) (x y : X) (event : Eve
         won = ap (λ (v : View). v.won) was;
         lost = subst (λ n. pass.view.lost ≤ n) (sym (ap (λ (v : View). v.lost) was)) inside.more;
       }
+
+-- a pass that goes on waiting
+pub outside_further : (a b c : Known) → IsOutside a b → IsOutside b c → IsOutside a c
+outside_further a b c p q =
+    record {
+      table = q.table ∙ p.table;
+      lost = q.lost;
+      more = omega (arith, p.more, q.more, ap (λ (v : View). v.lost) p.view);
+      view = q.view ∙ ap (λ (v : View). record v { lost = q.lost }) p.view;
+    }
 
 -- ---- several
 

@@ -15,6 +15,13 @@ pub record IsInside {X : Type 0} (m : Meaning X) (pass hold : Known) (value : X)
   pub more : pass.view.lost ≤ lost
   pub view : hold.view ≡ entered_view (m.journal value) (m.count value) (record pass.view { lost = lost })
 
+-- another was inside: the pass is as it was but for how often it lost
+pub record IsOutside (pass back : Known) : Type 0 where
+  pub table : back.table ≡ pass.table
+  pub lost : ℕ
+  pub more : pass.view.lost ≤ lost
+  pub view : back.view ≡ record pass.view { lost = lost }
+
 -- what `leave` asks of y where x was handed out: the journal goes on, the origin stays, and there was one event at most
 pub record MayFollow {X : Type 0} (m : Meaning X) (x y : X) : Type 0 where
   pub front : BeginsWith (m.journal y) (m.journal x)

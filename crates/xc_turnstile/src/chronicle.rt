@@ -1,5 +1,5 @@
 ghost use Rattle.std.specs.Prelude.{◌≡◌, length};
-ghost use Rattle.xc_turnstile.specs.Meanings.{Meaning};
+ghost use Rattle.xc_turnstile.specs.Meanings.{Meaning, boxed};
 
 use xc_data::Event;
 
@@ -18,4 +18,21 @@ pub trait Chronicle {
     /// Its last event.
     fn last(&self) -> Option<Event>
         ensures { result ≡ meaning.last self.now };
+}
+
+/// A chronicle behind a box means what it means itself.
+impl<V: Chronicle> Chronicle for Box<V> {
+    ghost meaning = { boxed V.meaning };
+
+    fn len(&self) -> u64 {
+        self.as_ref().len()
+    }
+
+    fn events(&self) -> u64 {
+        self.as_ref().events()
+    }
+
+    fn last(&self) -> Option<Event> {
+        self.as_ref().last()
+    }
 }

@@ -126,6 +126,12 @@ impl<V: Chronicle> Turnstile<V> {
         }
     }
 
+    /// Whether a pass is inside. The next moment it may be otherwise, so no clause tells what the answer says. It changes nothing:
+    /// while many look, the word stays in each one's cache.
+    pub fn is_held(&self) -> bool {
+        self.table.shared.peek(0) % 2 == 1
+    }
+
     /// Takes the value, unless another has it. One step on the word.
     pub fn try_enter(&self, pass: Pass<V>) -> Entered<V>
         requires { pass.table ≡ self.now.table.shared.table_id }

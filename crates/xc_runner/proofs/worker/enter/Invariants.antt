@@ -1,4 +1,4 @@
-use Rattle.std.proofs.Common.{◌≡◌, ◌≤◌, ℕ}
+use Rattle.xc_turnstile.specs.Insides.{IsOutside}
 use Rattle.xc_runner.proofs.worker.enter.Given as goal
 
 -- the pass lost now and then, and is else as it was
@@ -6,6 +6,5 @@ abbrev pub invariant-loop : goal.invariant-loop
 invariant-loop g l =
     record {
       runs : (goal.iterator-loop g).can_next l.iterator' × (goal.iterator-loop g).is_finite l.iterator';
-      table : l.mine.table ≡ l.fn.pass.table;
-      view : (lost : ℕ) × (l.fn.pass.view.lost ≤ lost) × (l.mine.view ≡ record l.fn.pass.view { lost = lost });
+      outside : IsOutside l.fn.pass l.mine;
     }

@@ -1,13 +1,18 @@
 use Rattle.std.proofs.Common.{ap}
 use Rattle.xc_runner.specs.Walks.{over, picked, turning}
 use Rattle.xc_turnstile.proofs.Passes.{goes_further}
-use Rattle.xc_runner.proofs.Stories.{leads_further, leads_pick}
+use Rattle.xc_runner.proofs.Stories.{finds_none, leads_further, leads_pick}
 use Rattle.xc_runner.proofs.worker.work.Goals as goal
 
 pub returns-in_default-clause-story : goal.returns-in_default-clause-story
 returns-in_default-clause-story g c =
     leads_further _ _ _ _ _ _ c.loop.invariant.story
     (leads_pick c.pick-back.result.1 over _ _ c.pick-back.ensures (ap picked c.in_default.is))
+
+pub returns-in_default-clause-end : goal.returns-in_default-clause-end
+returns-in_default-clause-end g c =
+    finds_none _ _
+    (leads_further _ _ _ _ _ _ c.loop.invariant.story (leads_pick c.pick-back.result.1 over _ _ c.pick-back.ensures (ap picked c.in_default.is)))
 
 pub loop-preserved : goal.loop-preserved
 loop-preserved g c =
