@@ -2,7 +2,7 @@
 use Rattle.std.proofs.Common.{◌≡◌, ◌≢◌, ℕ, ◌<◌, ◌≤◌, List, [], ◌∷◌, ◌++◌, length, take, zero, suc, refl, ap, sym, ◌∙◌, subst, arith, ◌⊎◌, inl, inr}
 use Rattle.std.specs.Prelude.{Option, Result, Ok, Err}
 use Rattle.std.specs.declared.option.Option.TheVariants.{None, Some}
-use Rattle.std.specs.Prelude.{Bool, true, false, ◌||◌, ◌&&◌, IfSome, IsTrue}
+use Rattle.std.specs.Prelude.{Bool, true, false, ◌||◌, ◌&&◌, IfErr, IfSome, IsTrue}
 use Rattle.std.specs.List.{list_any}
 use Rattle.std.specs.Option.{option_and_then, option_map}
 use Rattle.xc_data.specs.Step.{Step}
@@ -20,6 +20,7 @@ use Rattle.xc_tokens.specs.declared.why.Why.{Why}
 use Rattle.xc_text.specs.declared.script.Script.{Script}
 use Rattle.xc_text.specs.Scripts.{parse_of}
 use Rattle.xc_app.specs.declared.finish.Status.{Status}
+use Rattle.xc_app.specs.declared.start.NotRun.{NotRun}
 use Rattle.xc_app.specs.declared.finish.Status.TheVariants as status
 use Rattle.xc_edge.specs.Streams.{AppendsWhole}
 use Rattle.xc_edge.specs.View.{StreamView}
@@ -146,6 +147,30 @@ caused_by_bytes words chosen takes source s chose answer refused unscripted = re
   done_of status.Usage answer refused unscripted script = absurd answer
   done_of status.ReadFault answer refused unscripted script = absurd answer
   done_of status.WriteFault answer refused unscripted script = absurd answer
+
+-- so has that of bytes that were not run
+pub caused_where_not_run : {A H : Type 0} (words : List (List ℕ)) (chosen : Chosen) (takes : Bool) (source : Step StreamView) (bytes : List ℕ)
+    (r : Result A (NotRun H)) → settings_of words ≡ Some chosen → IsInput chosen.seed source bytes → IfErr r (λ n. IsOfBytes n.status)
+    → IfErr r (λ n. (line : ℕ) (why : Why) → n.status ≡ status.Refused line why → parse_of bytes ≡ Err (line, why))
+    → IfErr r (λ n. n.status ≡ status.NotScripted
+    → (script : Script) × (parse_of bytes ≡ Ok script) × (is_refused_by takes script ≡ true))
+    → IfErr r (λ n. IsCaused words takes source n.status)
+caused_where_not_run words chosen takes source bytes (Ok started) chose input of refused unscripted = tt
+caused_where_not_run words chosen takes source bytes (Err n) chose input of refused unscripted =
+    caused_by_bytes words chosen takes source n.status chose of (λ line why e. (bytes, input, refused line why e))
+    (λ e. let told = unscripted e in (bytes, told.0, input, told.1, told.2))
+
+-- the status of a run has its cause in the words
+pub caused_by_run : (words : List (List ℕ)) (chosen : Chosen) (takes : Bool) (source : Step StreamView) (s : Status) → settings_of words ≡ Some chosen
+    → IsDone s → IsCaused words takes source s
+caused_by_run words chosen takes source s chose done = record {
+  usage = λ e. absurd (subst IsDone e done);
+  refused_words = λ none. let no : Some chosen ≡ None = sym chose ∙ none in cc;
+  refused = λ line why e. absurd (subst IsDone e done);
+  unscripted = λ e. absurd (subst IsDone e done);
+  read_fault = λ e. absurd (subst IsDone e done);
+  complete = λ _ _ _. done;
+}
 
 -- ---- a run that is done
 or_false : (a b : Bool) → a || b ≡ false → (a ≡ false) × (b ≡ false)

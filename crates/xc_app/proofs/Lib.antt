@@ -1,1 +1,3 @@
 pub mod Completeness
+mod Finishing
+mod Following

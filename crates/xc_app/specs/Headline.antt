@@ -1,8 +1,10 @@
 -- What a run promises, in the words of the plain machine alone.
-use Rattle.std.specs.Prelude.{◌≡◌, ℕ, ◌⊎◌, ◌&&◌, Bool, true, false, not, nat_lt, List, [], take, sum_by, IsSome, IsTrue, Option, Ok, Err}
+use Rattle.std.specs.Prelude.{◌≡◌, ◌≢◌, ℕ, ◌⊎◌, ◌==◌, ◌&&◌, Bool, true, false, not, nat_lt, List, [], take, sum_by}
+use Rattle.std.specs.Prelude.{is_none, IfSome, IsSome, IsTrue, Option, Ok, Err}
 use Rattle.std.specs.declared.option.Option.TheVariants.{None, Some}
 use Rattle.std.specs.List.{list_any}
 use Rattle.std.specs.Option.{option_and_then, option_map}
+use Rattle.xc_buffers.specs.Items.{AreKept}
 use Rattle.xc_data.specs.declared.entry.JobEnd.{JobEnd}
 use Rattle.xc_data.specs.declared.entry.JobEnd.TheVariants as job_end
 use Rattle.xc_data.specs.declared.entry.JobLine.{JobLine}
@@ -18,7 +20,7 @@ use Rattle.xc_print.specs.Text.{rendered}
 use Rattle.xc_print.specs.Totals.{totals_of}
 use Rattle.xc_station.specs.declared.start.End.{End}
 use Rattle.xc_settings.specs.declared.chosen.Chosen.{Chosen}
-use Rattle.xc_settings.specs.Options.{settings_of}
+use Rattle.xc_settings.specs.Options.{settings_of, KeepsBounds}
 use Rattle.xc_model.specs.Accounted.{AreAccounted}
 use Rattle.xc_model.specs.Ending.{Final, IsTrueEnd, IsComplete, StopWhereFull, wanted_memory}
 use Rattle.xc_model.specs.Setting.{setting}
@@ -26,6 +28,7 @@ use Rattle.xc_model.specs.Serial.{IsSerial}
 use Rattle.xc_tokens.specs.declared.why.Why.{Why}
 use Rattle.xc_text.specs.Scripts.{parse_of}
 use Rattle.xc_serial.specs.Plain.{plain_text}
+use Rattle.xc_serial.specs.Undisturbed.{all_alone, is_full}
 use Rattle.xc_generator.specs.Generated.{generated}
 use Rattle.xc_generator.specs.Summary.{summary_of}
 use Rattle.xc_app.specs.declared.finish.Finish.{Finish}
@@ -80,6 +83,10 @@ pub record RunsAlone (chosen : Chosen) : Type 0 where
   pub seed : chosen.seed ≡ None
   pub workers : chosen.workers ≡ 1
 
+-- several workers take the turns: there is neither a schedule nor a seed, and more than one
+abbrev pub needs_threads : Chosen → Bool
+needs_threads chosen = is_none chosen.schedule && is_none chosen.seed && not (chosen.workers == 1)
+
 -- some job ended for lack of memory, or some late call did
 abbrev pub starves : {H : Type 0} → End H → Bool
 starves end = wanted_memory end.jobs end.journal.items
@@ -109,9 +116,12 @@ module _ {H : Type 0} (model : HostModel H) where
   -- the end of a run that chose this, over the host that was handed in
   pub record IsRunOver (chosen : Chosen) (host : H) (end : End H) : Type 0 where
     pub scripted : is_refused_by model.takes_scripts end.opening.script ≡ false
+    pub bounds : KeepsBounds chosen
     pub faults : end.opening.faults ≡ model.fault_count host
     -- the journal is true of the script, and leads to the words, to the host's contents with the kept data in front, and to the jobs' ends
     pub whole : IsTrueEnd (setting end.opening.script chosen.rules model.tells) end.journal.items (final_of end)
+    -- what is kept stands in order: pipes by number, then pairs by number and side; no item is empty but a message
+    pub kept : AreKept end.kept
     -- with one worker and no schedule its transactions ran one after another
     pub serial : RunsAlone chosen → IsSerial end.journal.items
     -- and none is of a job after one that found the journal full
@@ -247,3 +257,34 @@ abbrev pub IsSaidPlainly : {H : Type 0} → List (List ℕ) → StreamView → S
 IsSaidPlainly words old new end =
     (chosen : Chosen) → settings_of words ≡ Some chosen → RunsAlone chosen → sum_by entry_faults end.journal.items ≡ 0
     → AppendsWhole old new (end_text end) × (lines_but_kept end ≡ plain_text end.opening.script)
+
+-- ---- a run that nothing disturbed
+-- no attempt met another, no fault is recorded, and no job found the journal full
+pub record IsUndisturbed {H : Type 0} (end : End H) : Type 0 where
+  pub unmet : all_alone end.journal.items ≡ true
+  pub faultless : sum_by entry_faults end.journal.items ≡ 0
+  pub room : list_any is_full end.jobs ≡ false
+
+-- it was done, and each transaction of each job has the one entry by which it was done with; or memory or the sink was wanting
+abbrev pub IsFullRun : {H : Type 0} → Status → End H → Type 0
+IsFullRun status.Done end = IsComplete end.opening.script end.journal.items
+IsFullRun status.NoMemory end = Unit {0}
+IsFullRun status.WriteFault end = Unit {0}
+IsFullRun _ end = ⊥
+
+-- ---- all that a finished run promises
+-- a source and a sink, before and after
+pub record Edges : Type 0 where
+  pub source : Step StreamView
+  pub sink : Step StreamView
+
+-- of the host that was handed in
+pub record IsFinished {H : Type 0} (model : HostModel H) (words : List (List ℕ)) (edges : Edges) (handed : H) (finish : Finish H)
+    : Type 0 where
+  pub answered : IsAnswered words model.takes_scripts edges.source edges.sink finish
+  pub run : IfSome finish.end (IsRun model words edges.source handed)
+  pub complete : IfSome finish.end (λ end. IsUndisturbed end → IsFullRun finish.status end)
+  pub plain : IsTrue model.tells → finish.status ≢ status.NoMemory → finish.status ≢ status.WriteFault
+      → IfSome finish.end (IsSaidPlainly words edges.sink.old edges.sink.new)
+  pub host : IfSome finish.host (λ back. back ≡ handed)
+  pub one : IsOneOf finish.end finish.host

@@ -1,4 +1,5 @@
 pub mod Due
+pub mod Followed
 pub mod Headline
 pub mod Lines
 pub mod Outcomes

@@ -1,5 +1,6 @@
-ghost use Rattle.std.specs.Prelude.{◌≡◌, IfOk, IfSome, OnErr, map, string_bytes};
-ghost use Rattle.xc_app.specs.Headline.{IsAnswered, IsRun, IsWordless};
+ghost use Rattle.std.specs.Prelude.{◌≡◌, IfOk, IsSome, None, OnErr, map, string_bytes};
+ghost use Rattle.xc_settings.specs.Options.{settings_of};
+ghost use Rattle.xc_app.specs.Headline.{IsFinished, IsWordless, seed_of};
 
 use crate::due::{Due, write_due};
 use crate::{Finish, NoPace, Status, xcalls_run};
@@ -31,11 +32,15 @@ pub fn run_program<R: AllocGlobal + Threads + Wait + Sync, S: Source, K: Sink, H
     host: H,
 ) -> Status
     // It is as `xcalls_run` finishes, of which only the status is left.
-    ensures answered { IfOk words (λ words. (finish : Finish H) × (finish.status ≡ result)
-        × IsAnswered (map string_bytes words.items) H.model.takes_scripts
-        (record { old = S.told source.old; new = S.told source.new }) (record { old = K.told sink.old; new = K.told sink.new }) finish
-        × IfSome finish.end (
-        IsRun H.model (map string_bytes words.items) (record { old = S.told source.old; new = S.told source.new }) host)) }
+    ensures finished { IfOk words (λ words. (finish : Finish H) × (finish.status ≡ result)
+        × IsFinished H.model (map string_bytes words.items) (record {
+          source = record { old = S.told source.old; new = S.told source.new };
+          sink = record { old = K.told sink.old; new = K.told sink.new };
+        }) host finish) }
+
+    // Nothing is read if the words are refused, or choose a seed.
+    ensures unread { IfOk words (λ words. settings_of (map string_bytes words.items) ≡ None → source.new ≡ source.old) }
+    ensures seeded { IfOk words (λ words. IsSome (seed_of (map string_bytes words.items)) → source.new ≡ source.old) }
 
     // Without its words nothing is read.
     ensures wordless { OnErr words (

@@ -1,29 +1,39 @@
-use Rattle.std.proofs.Common.{◌∙◌}
-use Rattle.std.specs.Prelude.{map, string_bytes}
-use Rattle.xc_app.specs.Due.{due_bytes}
-use Rattle.xc_app.proofs.Completeness.{done_with, plainly, written_whole}
+use Rattle.std.proofs.Common.{refl, sym, subst}
+use Rattle.std.specs.Prelude.{IfSome, map, string_bytes}
+use Rattle.xc_app.specs.Followed.{IsFollowed}
+use Rattle.xc_app.specs.Headline.{IsFinished}
+use Rattle.xc_app.specs.Outcomes.{IsWrittenAs}
+use Rattle.xc_app.proofs.Finishing.{finished, threads_not_alone}
+use Rattle.xc_app.proofs.Following.{followed_by_workers}
 use Rattle.xc_app.proofs.run.xcalls_run.Goals as goal
 
-pub returns-clause-answered : goal.returns-clause-answered
-returns-clause-answered g c =
-    let told = g.K.Sink.told in
-    let meant = c.decide-status.result in
-    let d = c.decide-status.ensures in (
-      meant.status,
-      d.caused,
-      done_with g.H.Host.model (map string_bytes c.args.words.now)
-          (record { old = g.S.Source.told c.args.source.now; new = g.S.Source.told c.decide-status.new.source })
-          c.args.host _ _ _ _ d.due d.run,
-      (due_bytes meant.due, d.due, c.write_due-status.ensures),
-    )
+-- the workers' run is finished
+by_workers : (g : _) (c : goal.Joined-chosen g) → IsFinished g.H.Host.model (map string_bytes c.args.words.now) (record {
+  source = record { old = g.S.Source.told c.args.source.now; new = g.S.Source.told c.run_without_threads.new.source };
+  sink = record { old = g.K.Sink.told c.args.sink.now; new = g.K.Sink.told c.finish_run.new.sink };
+}) c.args.host c.finish_run.result
+by_workers g c =
+    let (needs, same, start) = c.in-Started.ensures.started in
+    let turns = c.take_together-station.ensures in
+    let (end, some, left, meant, due, is, written) = c.finish_run.ensures.end in
+    finished _ _ _ _ _ meant _ due
+    (subst (λ sink. IsWrittenAs meant due c.finish_run.result.status (record { old = g.K.Sink.told sink; new = g.K.Sink.told c.finish_run.new.sink }))
+    same written)
+    c.finish_run.result _ _ end refl some c.finish_run.ensures.host start turns.origin (λ one. absurd (threads_not_alone _ needs one)) left is
 
-pub returns-clause-plain : goal.returns-clause-plain
-returns-clause-plain g c = λ tells fed unfailed.
-    let told = g.K.Sink.told in
-    let meant = c.decide-status.result in
-    let d = c.decide-status.ensures in
-    let wrote = written_whole _ _ _ _ _ c.write_due-status.ensures unfailed in
-    plainly g.H.Host.model (map string_bytes c.args.words.now)
-    (record { old = g.S.Source.told c.args.source.now; new = g.S.Source.told c.decide-status.new.source }) c.args.host meant.status meant.end
-    (due_bytes meant.due)
-    (told c.args.sink.now) (told c.write_due-status.new.sink) d.due d.run wrote.1 tells (λ starved. fed (wrote.0 ∙ starved))
+pub returns-in-Started-clause-answered : goal.returns-in-Started-clause-answered
+returns-in-Started-clause-answered g c = (by_workers g c).answered
+
+pub returns-in-Started-clause-run : goal.returns-in-Started-clause-run
+returns-in-Started-clause-run g c = (by_workers g c).run
+
+pub returns-in-Started-clause-complete : goal.returns-in-Started-clause-complete
+returns-in-Started-clause-complete g c = (by_workers g c).complete
+
+pub returns-in-Started-clause-followed : goal.returns-in-Started-clause-followed
+returns-in-Started-clause-followed g c =
+    let (needs, same, start) = c.in-Started.ensures.started in
+    let (end, some, left, meant, due, is, written) = c.finish_run.ensures.end in
+    subst (λ o. IfSome o (IsFollowed g.H.Host.model (map string_bytes c.args.words.now)
+    (record { old = g.S.Source.told c.args.source.now; new = g.S.Source.told c.run_without_threads.new.source }) c.args.host)) (sym some)
+    (followed_by_workers _ _ _ _ _ _ end start needs left)
