@@ -90,6 +90,7 @@ impl MemHost {
     }
 
     // Counts a call, and says whether it fails.
+    #[inline(always)]
     fn fails(&mut self, kind: Kind) -> bool
         ensures value { result ≡ is_listed kind self.old }
         ensures state { self.new ≡ begun kind self.old }

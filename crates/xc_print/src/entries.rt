@@ -9,7 +9,8 @@ use crate::records::{push_remains, push_undos};
 use crate::replies::{push_late_end, push_reply};
 use xc_data::{Call, Cause, Entry, LateEnd, NoMemory, Outcome, Reply};
 
-fn push_cause(out: &mut Page, cause: &Cause) -> Result<(), NoMemory>
+/// Why a transaction was aborted.
+pub fn push_cause(out: &mut Page, cause: &Cause) -> Result<(), NoMemory>
     ensures { OnOk result (out.new ≡ out.old ++ cause_text cause.now) }
 {
     match cause {
@@ -72,7 +73,8 @@ fn push_head(out: &mut Page, entry: &Entry) -> Result<(), NoMemory>
     out.text("\n")
 }
 
-fn push_call_line(out: &mut Page, call: &Call, reply: &Reply) -> Result<(), NoMemory>
+/// The line of a call and its reply.
+pub fn push_call_line(out: &mut Page, call: &Call, reply: &Reply) -> Result<(), NoMemory>
     ensures { OnOk result (out.new ≡ out.old ++ call_line call.now reply.now) }
 {
     push_call(out, call)?;

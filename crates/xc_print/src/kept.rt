@@ -45,7 +45,8 @@ fn push_turn(out: &mut Page, opened: Option<Num>, pipe: Num) -> Result<(), NoMem
     push_opening(out, pipe)
 }
 
-fn push_message(out: &mut Page, pair: Num, side: u8, bytes: &Chunk) -> Result<(), NoMemory>
+/// The line of a kept message.
+pub fn push_message(out: &mut Page, pair: Num, side: u8, bytes: &Chunk) -> Result<(), NoMemory>
     ensures { OnOk result (out.new ≡ out.old ++ kept_line (Message pair side bytes.now)) }
 {
     push_labelled(out, "kept pair ", pair)?;

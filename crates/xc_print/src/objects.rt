@@ -66,6 +66,7 @@ fn push_mode(out: &mut Page, mode: Mode) -> Result<(), NoMemory>
     }
 }
 
+#[inline(always)]
 fn push_claim(out: &mut Page, claim: &KeptClaim) -> Result<(), NoMemory>
     ensures { OnOk result (out.new ≡ out.old ++ claim_text claim.now) }
 {

@@ -28,7 +28,8 @@ fn push_failed(out: &mut Page, done: u32, faults: u32) -> Result<(), NoMemory>
     out.labelled(" faults ", faults as u64)
 }
 
-fn push_undo_end(out: &mut Page, end: &UndoEnd) -> Result<(), NoMemory>
+/// How a compensation ended.
+pub fn push_undo_end(out: &mut Page, end: &UndoEnd) -> Result<(), NoMemory>
     ensures { OnOk result (out.new ≡ out.old ++ undo_end_text end.now) }
 {
     match end {
@@ -82,7 +83,8 @@ fn remaining_bytes(after: &Chunk, n: u32, k: u32) -> &[u8]
     }
 }
 
-fn push_overwrite(out: &mut Page, file: Num, at: u64, bytes: &[u8]) -> Result<(), NoMemory>
+/// Bytes of an overwrite from a place of a file on.
+pub fn push_overwrite(out: &mut Page, file: Num, at: u64, bytes: &[u8]) -> Result<(), NoMemory>
     ensures { OnOk result (out.new ≡ out.old ++ overwrite_text file at bytes.now) }
 {
     push_labelled(out, "bytes file ", file)?;
@@ -91,7 +93,8 @@ fn push_overwrite(out: &mut Page, file: Num, at: u64, bytes: &[u8]) -> Result<()
     push_bytes(out, bytes)
 }
 
-fn push_tail(out: &mut Page, file: Num, from: u32, bytes: &[u8]) -> Result<(), NoMemory>
+/// Appended bytes, which a file has from a place on.
+pub fn push_tail(out: &mut Page, file: Num, from: u32, bytes: &[u8]) -> Result<(), NoMemory>
     ensures { OnOk result (out.new ≡ out.old ++ tail_text file from bytes.now) }
 {
     push_labelled(out, "tail file ", file)?;
@@ -100,7 +103,8 @@ fn push_tail(out: &mut Page, file: Num, from: u32, bytes: &[u8]) -> Result<(), N
     push_bytes(out, bytes)
 }
 
-fn push_made(out: &mut Page, name: &Name, num: Num) -> Result<(), NoMemory>
+/// A new name and its file.
+pub fn push_made(out: &mut Page, name: &Name, num: Num) -> Result<(), NoMemory>
     ensures { OnOk result (out.new ≡ out.old ++ made_text name.now num) }
 {
     out.text("made ")?;
@@ -108,7 +112,8 @@ fn push_made(out: &mut Page, name: &Name, num: Num) -> Result<(), NoMemory>
     push_labelled(out, " file ", num)
 }
 
-fn push_moved(out: &mut Page, from: &Name, to: &Name) -> Result<(), NoMemory>
+/// A file's name before, and its name now.
+pub fn push_moved(out: &mut Page, from: &Name, to: &Name) -> Result<(), NoMemory>
     ensures { OnOk result (out.new ≡ out.old ++ moved_text from.now to.now) }
 {
     out.text("moved ")?;

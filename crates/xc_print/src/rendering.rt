@@ -68,7 +68,8 @@ fn push_wide(out: &mut Page, label: &str, number: u128) -> Result<(), NoMemory>
     out.wide_number(number)
 }
 
-fn push_totals(out: &mut Page, totals: Totals) -> Result<(), NoMemory>
+/// The last line of a text.
+pub fn push_totals(out: &mut Page, totals: Totals) -> Result<(), NoMemory>
     ensures { OnOk result (out.new ≡ out.old ++ totals_line totals) }
 {
     let Totals {

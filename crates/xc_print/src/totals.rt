@@ -49,7 +49,10 @@ fn sum_told(replies: &[Reply]) -> u128
 {
     let mut faults = 0;
     for reply in replies {
-        faults += told_faults(reply) as u128;
+        let told = told_faults(reply);
+        if told > 0 {
+            faults += told as u128;
+        }
     }
     faults
 }
