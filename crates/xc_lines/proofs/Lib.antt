@@ -1,0 +1,9 @@
+pub mod CallLaws
+pub mod Fields
+pub mod HeadLaws
+pub mod HeldLaws
+pub mod HeldSteps
+pub mod QuotedLaws
+pub mod ReplyLaws
+pub mod Spelled
+pub mod TailLaws

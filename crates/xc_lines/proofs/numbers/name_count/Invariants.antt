@@ -1,0 +1,15 @@
+use Rattle.std.proofs.Common.{◌≡◌, ◌≤◌, ◌+◌, ◌-◌, length, drop}
+use Rattle.std.specs.List.{prefix_len}
+use Rattle.xc_data.specs.Spelling.{is_name_byte}
+use Rattle.xc_lines.proofs.numbers.name_count.Given as goal
+
+-- the run so far, and the rest of it
+abbrev pub invariant-loop-n : goal.invariant-loop-n
+invariant-loop-n l =
+    record {
+      within : l.n ≤ length l.bytes;
+      same : l.n + prefix_len is_name_byte (drop l.n l.bytes) ≡ prefix_len is_name_byte l.bytes;
+    }
+
+abbrev pub decreases-loop-n : goal.decreases-loop-n
+decreases-loop-n l = length l.bytes - l.n
