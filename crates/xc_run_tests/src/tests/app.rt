@@ -1,4 +1,3 @@
-use super::only;
 use std::alloc::Global;
 use std::sync::Wait;
 use std::test::Fail;
@@ -32,6 +31,13 @@ x_read f 9 -> d
 commit
 end
 ";
+
+// The call of this number alone.
+fn only(alloc: Global, number: u64) -> Result<CallNumbers, NoMemory> {
+    let mut numbers = CallNumbers::new(alloc);
+    numbers.push(number)?;
+    Ok(numbers)
+}
 
 fn source(alloc: Global, fails: CallNumbers) -> Result<MemSource, NoMemory> {
     let bytes = Chunk::new(alloc, ONE_COMMIT.as_bytes())?;

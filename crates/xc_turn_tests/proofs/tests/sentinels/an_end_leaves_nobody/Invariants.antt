@@ -1,4 +1,4 @@
-use Rattle.xc_run_tests.proofs.tests.sentinels.an_end_leaves_nobody.Given as goal
+use Rattle.xc_turn_tests.proofs.tests.sentinels.an_end_leaves_nobody.Given as goal
 
 -- the ledger is that of the blank
 abbrev pub ghosts-end : goal.ghosts-end

@@ -7,7 +7,7 @@ use Rattle.xc_sentinel.specs.Asking.{Claiming, IsAnswer, held_after}
 use Rattle.xc_sentinel.specs.declared.seat.Verdict.{Verdict}
 use Rattle.xc_sentinel.specs.declared.seat.Verdict.TheVariants as verdict
 use Rattle.xc_sentinel.specs.declared.sentinels.Sentinels.{Sentinels}
-use Rattle.xc_run_tests.proofs.tests.sentinels.ask.Goals as goal
+use Rattle.xc_turn_tests.proofs.tests.sentinels.ask.Goals as goal
 
 -- by the answer
 answered : (s : Step Sentinels) (tx : ℕ) (c : Claiming) (v : Verdict) (held after : List Claim) → IsAnswer s tx c v → after ≡ held_after v held c.claims

@@ -1,15 +1,21 @@
 ghost use Rattle.std.specs.Prelude.{◌<◌, length};
 
-use super::only;
 use std::alloc::Global;
 use std::io::{self, ErrorKind, Read, Write};
 use std::test::Fail;
-use xc_data::{Chunk, NoMemory};
+use xc_data::{CallNumbers, Chunk, NoMemory};
 use xc_edge::{
     Failed, MemSink, MemSource, ReadErr, Sink, Source, StdSink, StdSource, read_up_to, write_whole,
 };
 
 const NONE: u64 = 0;
+
+// The call of this number alone.
+fn only(alloc: Global, number: u64) -> Result<CallNumbers, NoMemory> {
+    let mut numbers = CallNumbers::new(alloc);
+    numbers.push(number)?;
+    Ok(numbers)
+}
 
 // A source that gives two bytes a read.
 fn source_of(alloc: Global, bytes: &[u8], fail: u64) -> Result<MemSource, NoMemory> {

@@ -1,0 +1,4 @@
+mod edge;
+mod notes;
+mod sentinels;
+mod turnstile;
