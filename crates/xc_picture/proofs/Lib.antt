@@ -1,0 +1,5 @@
+pub mod Bars
+pub mod EscapeLaws
+pub mod Spots
+pub mod Texts
+pub mod Unread

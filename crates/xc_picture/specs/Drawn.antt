@@ -1,0 +1,172 @@
+-- How a scene is drawn: which elements, and where.
+use Rattle.std.specs.Prelude.{◌≡◌, ◌⊎◌, ℕ, zero, suc, ◌+◌, ◌-◌, ◌*◌, ◌==◌, Bool, true, false}
+use Rattle.std.specs.Prelude.{List, [], ◌∷◌, ◌++◌, codes, length, min, nat_le}
+use Rattle.std.specs.Prelude.{Option, None, Some, if◌then◌else◌}
+use Rattle.std.specs.FinMap as map
+use Rattle.std.specs.Fmt.{decimal}
+use Rattle.xc_data.specs.declared.object.Num.{Num}
+use Rattle.xc_maps.specs.Keys.{num_cmp}
+use Rattle.xc_picture.specs.Elements.{Element, Rect, Arrow, Label, svg_text}
+use Rattle.xc_picture.specs.Scenes.{lane_of}
+use Rattle.xc_picture.specs.declared.scene.Bar.{Bar}
+use Rattle.xc_picture.specs.declared.scene.LaneName.{LaneName}
+use Rattle.xc_picture.specs.declared.scene.Scene.{Scene}
+use Rattle.xc_picture.specs.declared.scene.Spot.{Spot}
+use Rattle.xc_picture.specs.declared.shapes.Area.{Area}
+use Rattle.xc_picture.specs.declared.shapes.Look.{Look}
+use Rattle.xc_picture.specs.declared.shapes.Look.TheVariants as look
+use Rattle.xc_picture.specs.declared.shapes.Point.{Point}
+
+-- ---- where things are
+-- the right edge of a column; that of column 0 is where the journal begins
+abbrev pub column_x : ℕ → ℕ
+column_x column = 240 + 32 * column
+
+-- the top of a lane
+abbrev pub lane_y : ℕ → ℕ
+lane_y lane = 12 + 28 * lane
+
+-- the area of a bar: from the column where it began to the one where it ended
+abbrev pub bar_area : Bar → Area
+bar_area bar = record {
+  x = column_x bar.from;
+  y = lane_y (lane_of bar.job);
+  width = column_x bar.to - column_x bar.from;
+  height = 22;
+}
+
+-- the area of a small mark in a bar; the places count from the right
+abbrev pub mark_area : ℕ → Bar → Area
+mark_area place bar = record {
+  x = column_x bar.to - 10 * (place + 1);
+  y = lane_y (lane_of bar.job) + 14;
+  width = 6;
+  height = 6;
+}
+
+-- the middle of the last column of a place in the journal
+abbrev pub middle : Spot → ℕ → Point
+middle spot column = record { x = column_x column - 16; y = lane_y spot.lane + 11 }
+
+-- ---- bars
+-- a mark, where there is something to mark
+unfoldable pub mark_if : Bool → Area → Look → List ℕ → List Element
+mark_if false area look tip = []
+mark_if true area look tip = Rect area look tip ∷ []
+
+-- the marks of a bar
+abbrev pub marks_of : Bar → List Element
+marks_of bar = mark_if bar.late (mark_area 0 bar) look.Late (codes "late calls") ++
+    mark_if bar.faults (mark_area 1 bar) look.Faults (codes "faults") ++
+    mark_if bar.remains (mark_area 2 bar) look.Remains (codes "something remains")
+
+-- how a bar looks
+abbrev pub bar_look : Bool → Look
+bar_look true = look.Committed
+bar_look false = look.Aborted
+
+-- the number of a transaction
+abbrev pub tx_name : ℕ → List ℕ
+tx_name tx = codes "t" ++ decimal tx
+
+-- where that stands
+abbrev pub tx_point : Bar → Point
+tx_point bar = record { x = column_x bar.from + 3; y = lane_y (lane_of bar.job) + 11 }
+
+-- the elements of a bar
+unfoldable pub bar_elements : Bar → List Element
+bar_elements bar = Rect (bar_area bar) (bar_look bar.committed) bar.tip ∷ Label (tx_point bar) (tx_name bar.tx) ∷ marks_of bar
+
+-- those of bars
+abbrev pub bars_elements : List Bar → List Element
+bars_elements [] = []
+bars_elements (bar ∷ bars) = bar_elements bar ++ bars_elements bars
+
+-- ---- arrows
+-- where the entries of transactions are, by the numbers of the transactions
+abbrev pub Spots : Type 0
+Spots = map.FinMap num_cmp Spot
+
+-- a transaction's number as a key
+abbrev pub key_of : ℕ → Num
+key_of tx = record { tx = tx; k = 0 }
+
+-- the lane of a bar, and the column where it ends
+abbrev pub spot_of : Bar → Spot
+spot_of bar = record { lane = lane_of bar.job; to = bar.to }
+
+-- bars added one by one; of two with the same number the later one counts
+abbrev pub spots_with : Spots → List Bar → Spots
+spots_with spots [] = spots
+spots_with spots (bar ∷ bars) = spots_with (map.insert spots (key_of bar.tx) (spot_of bar)) bars
+
+-- a place is that of one of these bars, whose transaction has this number
+abbrev pub IsSpotAmong : ℕ → Spot → List Bar → Type 0
+IsSpotAmong tx spot [] = ⊥
+IsSpotAmong tx spot (bar ∷ bars) = ((bar.tx ≡ tx) × (spot_of bar ≡ spot)) ⊎ IsSpotAmong tx spot bars
+
+-- an arrow from the end of a bar to another one, there or where that one ended before
+abbrev pub arrow_between : Spot → Spot → Element
+arrow_between from to = Arrow (middle from from.to) (middle to (min from.to to.to))
+
+-- an arrow to a bar, where there is one
+unfoldable pub arrow_to : Spot → Option Spot → List Element
+arrow_to from None = []
+arrow_to from (Some to) = arrow_between from to ∷ []
+
+-- the place of the transaction that was met, if one was
+abbrev pub rival_spot : Spots → Option ℕ → Option Spot
+rival_spot spots None = None
+rival_spot spots (Some tx) = map.get spots (key_of tx)
+
+-- the arrows of bars
+abbrev pub arrows_of : Spots → List Bar → List Element
+arrows_of spots [] = []
+arrows_of spots (bar ∷ bars) = arrow_to (spot_of bar) (rival_spot spots bar.rival) ++ arrows_of spots bars
+
+-- ---- labels
+-- what stands in front of a lane
+abbrev pub lane_label : ℕ → List ℕ
+lane_label lane = if nat_le lane 2000 then codes "job " ++ decimal lane else codes "further jobs"
+
+-- where a text of a lane begins
+abbrev pub lane_point : ℕ → ℕ → Point
+lane_point x lane = record { x = x; y = lane_y lane + 15 }
+
+-- the label of a lane
+unfoldable pub lane_element : ℕ → Element
+lane_element lane = Label (lane_point 8 lane) (lane_label lane)
+
+-- the labels of so many lanes, from this one on
+abbrev pub lane_labels : ℕ → ℕ → List Element
+lane_labels lane zero = []
+lane_labels lane (suc count) = lane_element lane ∷ lane_labels (lane + 1) count
+
+-- the names behind them
+abbrev pub name_labels : List LaneName → List Element
+name_labels [] = []
+name_labels (named ∷ names) = Label (lane_point 72 named.lane) named.name ∷ name_labels names
+
+-- that entries are left out, and how many
+abbrev pub left_out_note : ℕ → List Element
+left_out_note count =
+    if count == 0 then [] else Label (record { x = 8; y = 14 }) (decimal count ++ codes " further entries are not drawn") ∷ []
+
+-- that the text broke, and where
+unfoldable pub break_note : Option ℕ → List Element
+break_note None = []
+break_note (Some line) = Label (record { x = 8; y = 28 }) (codes "the journal breaks at line " ++ decimal line) ∷ []
+
+-- ---- the whole
+-- the elements of a scene
+abbrev pub elements_of : Scene → List Element
+elements_of scene = left_out_note scene.left_out ++ break_note scene.break_at ++ lane_labels 1 scene.lanes ++
+    name_labels scene.names ++ bars_elements scene.bars ++ arrows_of (spots_with map.empty scene.bars) scene.bars
+
+-- the width and the height of a scene
+abbrev pub size_of : Scene → Point
+size_of scene = record { x = column_x (length scene.bars) + 40; y = lane_y scene.lanes + 40 }
+
+-- the text of the picture of a scene
+abbrev pub picture_text : Scene → List ℕ
+picture_text scene = svg_text (size_of scene) (elements_of scene)

@@ -1,0 +1,5 @@
+pub mod Drawn
+pub mod Elements
+pub mod Escapes
+pub mod Pictures
+pub mod Scenes

@@ -1,0 +1,20 @@
+//! The picture of a printed journal, as an SVG text.
+//!
+//! A lane is a job, and a bar in it a transaction: it spans from the length that the journal had at its begin to the number of its
+//! entry. `specs/Scenes` says what is shown of the lines, `specs/Drawn` where, and `specs/Elements` by which text.
+#![tactic(auto)]
+
+mod drawing;
+mod elements;
+mod escapes;
+mod labels;
+pub mod laws;
+mod reading;
+mod scene;
+mod shapes;
+mod whole;
+
+pub use reading::scene_of;
+pub use scene::{Bar, LaneName, Scene, Spot};
+pub use shapes::{Area, Look, Point};
+pub use whole::{Unpictured, picture, picture_of};
