@@ -1,7 +1,8 @@
 -- The texts of elements, one after another.
 use Rattle.std.proofs.Common.{◌≡◌, ◌++◌, ◌∷◌, ◌+◌, ◌-◌, ◌<◌, [], ℕ, suc, List, refl, sym, ap, subst, ◌∙◌, append_assoc}
 use Rattle.std.proofs.Common.{drop, drop-cons, get_or, length, add-one, arith}
-use Rattle.xc_picture.specs.Drawn.{bar_elements, bars_elements, Spots, spot_of, arrow_to, rival_spot, arrows_of, lane_element, lane_labels}
+use Rattle.xc_picture.specs.Arrows.{Spots, spot_of, arrow_to, rival_spot, arrows_of}
+use Rattle.xc_picture.specs.Drawn.{bar_elements, bars_elements, lane_element, lane_labels}
 use Rattle.xc_picture.specs.Elements.{Element, element_text, elements_text}
 use Rattle.xc_picture.specs.declared.scene.Bar.{Bar}
 

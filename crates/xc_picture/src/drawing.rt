@@ -1,8 +1,11 @@
 ghost use Rattle.std.specs.Prelude.{◌≡◌, ◌++◌, ◌≤◌, IfOk, OnOk};
 ghost use Rattle.std.specs.FinMap as map;
-ghost use Rattle.xc_picture.specs.Drawn.{column_x, bar_area, mark_area, middle, mark_if, marks_of, bar_look, tx_name, tx_point};
+ghost use Rattle.xc_picture.specs.Arrows.{middle};
+ghost use Rattle.xc_picture.specs.Drawn.{bar_area, mark_area, mark_if, marks_of, bar_look, tx_name, tx_point};
+ghost use Rattle.xc_picture.specs.Places.{column_x};
 ghost use Rattle.xc_picture.specs.Drawn.{bar_elements};
-ghost use Rattle.xc_picture.specs.Drawn.{bars_elements, key_of, spot_of, spots_with, arrow_between, arrow_to, rival_spot, arrows_of};
+ghost use Rattle.xc_picture.specs.Arrows.{key_of, spot_of, spots_with, arrow_between, arrow_to, rival_spot, arrows_of};
+ghost use Rattle.xc_picture.specs.Drawn.{bars_elements};
 ghost use Rattle.xc_picture.specs.Elements.{element_text, elements_text};
 ghost use Rattle.xc_picture.specs.Scenes.{lane_of};
 
@@ -184,7 +187,7 @@ fn push_arrow_between(out: &mut Page, from: Spot, to: Spot) -> Result<(), NoMemo
     push_arrow(out, middle(from, from.to), middle(to, from.to.min(to.to)))
 }
 
-#[tactic(auto, unfolding(crate::specs::Drawn::arrow_to))]
+#[tactic(auto, unfolding(crate::specs::Arrows::arrow_to))]
 fn push_arrow_to(out: &mut Page, from: Spot, to: Option<Spot>) -> Result<(), NoMemory>
     ensures { OnOk result (out.new ≡ out.old ++ elements_text (arrow_to from to)) }
 {

@@ -1,6 +1,7 @@
 ghost use Rattle.std.specs.Prelude.{◌≡◌, ◌++◌, ◌≤◌, ◌^◌, codes, Some, IfOk, OnOk};
 ghost use Rattle.std.specs.Fmt.{decimal};
-ghost use Rattle.xc_picture.specs.Drawn.{lane_y, lane_point, lane_label, lane_element, lane_labels, name_labels, left_out_note, break_note};
+ghost use Rattle.xc_picture.specs.Drawn.{lane_point, lane_label, lane_element, lane_labels, name_labels, left_out_note, break_note};
+ghost use Rattle.xc_picture.specs.Places.{lane_y};
 ghost use Rattle.xc_picture.specs.Elements.{Label, element_text, elements_text};
 
 use crate::elements::push_label;

@@ -4,7 +4,7 @@ ghost use Rattle.xc_lines.specs.Ranges.{AreBytes};
 ghost use Rattle.xc_lines.specs.declared.heads.Head.{Head};
 ghost use Rattle.xc_sheet.specs.declared.lines.Line.{Line};
 ghost use Rattle.std.specs.FinMap as map;
-ghost use Rattle.xc_picture.specs.Drawn.{IsSpotAmong, rival_spot, spots_with};
+ghost use Rattle.xc_picture.specs.Arrows.{IsSpotAmong, rival_spot, spots_with};
 ghost use Rattle.xc_picture.specs.declared.scene.Bar.{Bar};
 ghost use Rattle.xc_picture.specs.declared.scene.Spot.{Spot};
 ghost use Rattle.xc_picture.specs.Escapes.{is_safe, is_escape, escaped_byte, escaped};

@@ -1,7 +1,7 @@
 //! The picture of a printed journal, as an SVG text.
 //!
 //! A lane is a job, and a bar in it a transaction: it spans from the length that the journal had at its begin to the number of its
-//! entry. `specs/Scenes` says what is shown of the lines, `specs/Drawn` where, and `specs/Elements` by which text.
+//! entry. `specs/Scenes` says what is shown of the lines, `specs/Drawn` and `specs/Arrows` where, and `specs/Elements` by which text.
 #![tactic(auto)]
 
 mod drawing;
@@ -9,6 +9,7 @@ mod elements;
 mod escapes;
 mod labels;
 pub mod laws;
+mod naming;
 mod reading;
 mod scene;
 mod shapes;

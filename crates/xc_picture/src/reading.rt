@@ -1,16 +1,16 @@
-ghost use Rattle.std.specs.Prelude.{◌≡◌, ◌++◌, ◌∷◌, ◌≤◌, length, min, is_none, codes, count_by, IfOk, OnOk};
+ghost use Rattle.std.specs.Prelude.{◌≡◌, ◌++◌, ◌∷◌, ◌≤◌, length, min, is_none, count_by, IfOk, OnOk};
 ghost use Rattle.std.specs.List.{list_any, prefix_len};
 ghost use Rattle.std.specs.Option.{option_copied};
-ghost use Rattle.xc_lines.specs.Tails.{job_end_name};
 ghost use Rattle.xc_sheet.specs.declared.lines.Line.TheVariants as line;
 ghost use Rattle.xc_picture.specs.Scenes.{head_in, is_head, is_inner, is_late, tells_fault, is_remains};
 ghost use Rattle.xc_picture.specs.Scenes.{own_lines, texts_of, rival_of, bar_of, bars_from};
-ghost use Rattle.xc_picture.specs.Scenes.{lane_of, lane_in, last_lane, name_in, names_of, break_of, scene_of};
+ghost use Rattle.xc_picture.specs.Scenes.{break_of, scene_of};
 
-use crate::scene::{Bar, LaneName, Scene};
+use crate::naming::{last_lane, names_of};
+use crate::scene::{Bar, Scene};
 use std::alloc::Global;
 use xc_data::{Cause, Items, LateEnd, NoMemory, Reply, Text, UndoEnd};
-use xc_lines::{Head, JobShown};
+use xc_lines::Head;
 use xc_print::Page;
 use xc_sheet::{Ending, Line, Sheet, push_line};
 
@@ -184,79 +184,6 @@ fn bars_of(alloc: Global, lines: &[Line]) -> Result<Items<Bar>, NoMemory>
         rest = behind;
     }
     Ok(bars)
-}
-
-fn lane_of(job: u64) -> u32
-    ensures { result ≡ lane_of job }
-{
-    job.min(2001) as u32
-}
-
-fn lane_in(line: &Line) -> u32
-    ensures { result ≡ lane_in line.now }
-{
-    match line {
-        Line::Head(head) => lane_of(head.job as u64),
-        Line::Job { number, .. } => lane_of(*number),
-        _ => 0,
-    }
-}
-
-fn last_lane(lines: &[Line]) -> u32
-    ensures { result ≡ last_lane lines.now }
-{
-    let mut last = 0;
-    for line in lines {
-        last = lane_in(line).max(last);
-    }
-    last
-}
-
-fn push_job_end(out: &mut Page, end: JobShown) -> Result<(), NoMemory>
-    ensures { OnOk result (out.new ≡ out.old ++ job_end_name end) }
-{
-    match end {
-        JobShown::Done => out.text("done"),
-        JobShown::GaveUp => out.text("gave up"),
-        JobShown::JournalFull => out.text("journal full"),
-        JobShown::NoMemory => out.text("no memory"),
-    }
-}
-
-fn name_of(alloc: Global, block: &[u8], end: JobShown) -> Result<Text, NoMemory>
-    ensures { IfOk result (λ name. name ≡ block.now ++ (codes " " ++ job_end_name end)) }
-{
-    let mut page = Page::new(alloc);
-    page.push(block)?;
-    page.text(" ")?;
-    push_job_end(&mut page, end)?;
-    Ok(page.into_text())
-}
-
-// The name that a line tells, where it tells one.
-fn add_name(alloc: Global, names: &mut Items<LaneName>, line: &Line) -> Result<(), NoMemory>
-    ensures { OnOk result (names.new ≡ names.old ++ name_in line.now) }
-{
-    if let Line::Job { number, block, end } = line {
-        if *number <= 2000 {
-            let name = name_of(alloc, block.value().as_slice(), *end)?;
-            names.push(LaneName {
-                lane: *number as u32,
-                name,
-            })?;
-        }
-    }
-    Ok(())
-}
-
-fn names_of(alloc: Global, lines: &[Line]) -> Result<Items<LaneName>, NoMemory>
-    ensures { IfOk result (λ names. names ≡ names_of lines.now) }
-{
-    let mut names = Items::new(alloc);
-    for line in lines {
-        add_name(alloc, &mut names, line)?;
-    }
-    Ok(names)
 }
 
 fn count_entries(lines: &[Line]) -> usize

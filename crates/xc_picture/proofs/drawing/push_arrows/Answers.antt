@@ -1,5 +1,5 @@
 use Rattle.std.proofs.Common.{◌++◌, ◌∙◌, ap₂, Option}
-use Rattle.xc_picture.specs.Drawn.{arrow_to}
+use Rattle.xc_picture.specs.Arrows.{arrow_to}
 use Rattle.xc_picture.specs.Elements.{elements_text}
 use Rattle.xc_picture.specs.declared.scene.Spot.{Spot}
 use Rattle.xc_picture.proofs.Texts.{arrow_drawn}

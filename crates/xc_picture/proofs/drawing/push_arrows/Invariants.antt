@@ -1,5 +1,5 @@
 use Rattle.std.proofs.Common.{◌≡◌, ◌++◌, drop}
-use Rattle.xc_picture.specs.Drawn.{arrows_of}
+use Rattle.xc_picture.specs.Arrows.{arrows_of}
 use Rattle.xc_picture.specs.Elements.{elements_text}
 use Rattle.xc_picture.proofs.drawing.push_arrows.Given as goal
 

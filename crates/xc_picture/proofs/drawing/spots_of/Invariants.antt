@@ -1,6 +1,6 @@
 use Rattle.std.proofs.Common.{◌≡◌, drop}
 use Rattle.std.specs.FinMap as map
-use Rattle.xc_picture.specs.Drawn.{spots_with}
+use Rattle.xc_picture.specs.Arrows.{spots_with}
 use Rattle.xc_picture.proofs.drawing.spots_of.Given as goal
 
 -- the rest added to what is there gives all

@@ -1,6 +1,7 @@
 use Rattle.std.proofs.Common.{rules, ◌≡◌, ◌++◌}
 use Rattle.std.specs.FinMap as map
-use Rattle.xc_picture.specs.Drawn.{lane_labels, name_labels, left_out_note, break_note, bars_elements, arrows_of, spots_with}
+use Rattle.xc_picture.specs.Arrows.{arrows_of, spots_with}
+use Rattle.xc_picture.specs.Drawn.{lane_labels, name_labels, left_out_note, break_note, bars_elements}
 use Rattle.xc_picture.specs.Elements.{elements_text}
 use Rattle.xc_picture.proofs.Texts.{two_texts}
 use Rattle.xc_picture.proofs.whole.push_elements.Goals as goal

@@ -1,6 +1,6 @@
 use Rattle.std.proofs.Common.{◌≡◌, ◌++◌, drop}
 use Rattle.xc_picture.specs.Scenes.{names_of}
-use Rattle.xc_picture.proofs.reading.names_of.Given as goal
+use Rattle.xc_picture.proofs.naming.names_of.Given as goal
 
 -- the names so far and those of the rest are all
 abbrev pub invariant-loop-line : goal.invariant-loop-line
