@@ -1,18 +1,18 @@
 -- A run takes the turns that its words fix beforehand.
-use Rattle.std.proofs.Common.{◌≡◌, ℕ, true, List, [], refl, sym, subst}
+use Rattle.std.proofs.Common.{◌≡◌, ℕ, true, List, []}
 use Rattle.std.specs.Prelude.{Option, IfSome, IsSome, is_none, not, ◌==◌, ◌&&◌}
 use Rattle.std.specs.declared.option.Option.TheVariants.{None, Some}
 use Rattle.std.proofs.lemmas.Bool.{and_parts}
 use Rattle.xc_data.specs.Step.{Step}
 use Rattle.xc_edge.specs.View.{StreamView}
 use Rattle.xc_host.specs.Model.{HostModel}
-use Rattle.xc_settings.specs.declared.chosen.Chosen.{Chosen}
+use Rattle.xc_outcome.specs.Outcomes.{IsEndOf}
 use Rattle.xc_station.specs.declared.start.End.{End}
 use Rattle.xc_station.specs.Stations.{StationView}
 use Rattle.xc_app.specs.declared.start.Started.{Started}
 use Rattle.xc_app.specs.Followed.{IsFollowed}
 use Rattle.xc_app.specs.Headline.{needs_threads}
-use Rattle.xc_app.specs.Outcomes.{IsEndOf, IsStarted, TakeListed}
+use Rattle.xc_app.specs.Parts.{IsStarted, TakeListed}
 
 -- what was started, took its turns and left this end
 pub followed : {H : Type 0} (model : HostModel H) (words : List (List ℕ)) (source : Step StreamView) (host : H) (started : Started H)
@@ -23,9 +23,17 @@ pub followed : {H : Type 0} (model : HostModel H) (words : List (List ℕ)) (sou
 followed model words source host started last end start listed seeded left = (
   started.chosen,
   start.chose,
-  start.bytes,
-  start.input,
-  record { first = started.station; last = last; start = start.start; listed = listed; seeded = seeded; left = left },
+  start.prepared.bytes,
+  start.prepared.input,
+  record {
+    first = started.station;
+    last = last;
+    bounds = start.bounds;
+    start = start.prepared.start;
+    listed = listed;
+    seeded = seeded;
+    left = left;
+  },
 )
 
 -- with no schedule none is followed

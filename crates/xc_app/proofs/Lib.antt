@@ -1,3 +1,2 @@
-pub mod Completeness
 mod Finishing
 mod Following

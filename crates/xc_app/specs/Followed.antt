@@ -4,12 +4,13 @@ use Rattle.std.specs.declared.option.Option.TheVariants.{None, Some}
 use Rattle.xc_data.specs.Step.{Step}
 use Rattle.xc_edge.specs.View.{StreamView}
 use Rattle.xc_host.specs.Model.{HostModel}
+use Rattle.xc_outcome.specs.Outcomes.{IsEndOf, IsStartOf}
+use Rattle.xc_outcome.specs.Runs.{IsInput}
 use Rattle.xc_settings.specs.declared.chosen.Chosen.{Chosen}
-use Rattle.xc_settings.specs.Options.{settings_of}
+use Rattle.xc_settings.specs.Options.{settings_of, KeepsBounds}
 use Rattle.xc_station.specs.declared.start.End.{End}
 use Rattle.xc_station.specs.Stations.{StationView}
-use Rattle.xc_app.specs.Headline.{IsInput}
-use Rattle.xc_app.specs.Outcomes.{IsEndOf, IsStartOf, TakeListed}
+use Rattle.xc_app.specs.Parts.{TakeListed}
 
 module _ {H : Type 0} (model : HostModel H) where
   -- from the start of these bytes a schedule's turns were taken in their order, and then rounds; with a seed and no schedule
@@ -17,7 +18,8 @@ module _ {H : Type 0} (model : HostModel H) where
   pub record TakesChosenTurns (bytes : List ℕ) (chosen : Chosen) (host : H) (end : End H) : Type 0 where
     pub first : StationView H
     pub last : StationView H
-    pub start : IsStartOf model bytes chosen host first
+    pub bounds : KeepsBounds chosen
+    pub start : IsStartOf model bytes chosen.rules host first
     pub listed : IfSome chosen.schedule (λ jobs. TakeListed model jobs first last)
     pub seeded : IsSome chosen.seed → chosen.schedule ≡ None → TakeListed model [] first last
     pub left : IsEndOf model last end

@@ -1,23 +1,26 @@
 ghost use Rattle.std.specs.Prelude.{◌≡◌, IfOk, IsSome, None, OnErr, map, string_bytes};
 ghost use Rattle.xc_settings.specs.Options.{settings_of};
-ghost use Rattle.xc_app.specs.Headline.{IsFinished, IsWordless, seed_of};
+ghost use Rattle.xc_app.specs.Headline.{IsFinished, seed_of};
+ghost use Rattle.xc_app.specs.Lines.{usage_line};
+ghost use Rattle.xc_outcome.specs.Said.{IsWordless};
 
-use crate::due::{Due, write_due};
+use crate::usage::usage;
 use crate::{Finish, NoPace, Status, xcalls_run};
 use std::sync::Wait;
 use std::thread::Threads;
 use std::{io, mem};
 use xc_edge::{Sink, Source};
 use xc_host::Host;
+use xc_outcome::{Due, write_due};
 
 // The words could not be had: for lack of memory, or since one is no text, which no option takes.
 fn say_wordless<K: Sink>(sink: &mut K, error: io::Error) -> Status
-    ensures { IsWordless result (record { old = K.told sink.old; new = K.told sink.new }) }
+    ensures { IsWordless usage_line result (record { old = K.told sink.old; new = K.told sink.new }) }
 {
     if error.kind() == io::ErrorKind::OutOfMemory {
         return write_due(sink, Status::NoMemory, &Due::NoMemory);
     }
-    write_due(sink, Status::Usage, &Due::Usage)
+    write_due(sink, Status::Usage, &usage())
 }
 
 /// Runs the whole program, with the words of its command line if they could be had. What the run leaves
@@ -44,7 +47,7 @@ pub fn run_program<R: AllocGlobal + Threads + Wait + Sync, S: Source, K: Sink, H
 
     // Without its words nothing is read.
     ensures wordless { OnErr words (
-        IsWordless result (record { old = K.told sink.old; new = K.told sink.new }) × (source.new ≡ source.old)) }
+        IsWordless usage_line result (record { old = K.told sink.old; new = K.told sink.new }) × (source.new ≡ source.old)) }
 {
     match words {
         Ok(words) => {

@@ -1,95 +1,22 @@
-ghost use Rattle.std.specs.Prelude.{◌≡◌, ◌≢◌, ◌≤◌, ℕ, List, Some, None, length, map, string_bytes, true};
-ghost use Rattle.std.specs.Prelude.{IfOk, IfSome, IsSome, IsTrue, Option};
-ghost use Rattle.xc_settings.specs.Options.{settings_of};
-ghost use Rattle.xc_station.specs.Stations.{NobodyLives};
-ghost use Rattle.xc_app.specs.Due.{due_bytes};
+ghost use Rattle.std.specs.Prelude.{◌≡◌, ◌≢◌, None, map, string_bytes, true};
+ghost use Rattle.std.specs.Prelude.{IfSome, IsSome, IsTrue};
 ghost use Rattle.xc_app.specs.Followed.{IsFollowed};
-ghost use Rattle.xc_app.specs.Headline.{IsAnswered, IsDueWithEnd, IsFinished, IsFullRun, IsOneOf, IsRun, IsSaidPlainly, IsUndisturbed};
-ghost use Rattle.xc_app.specs.Headline.{needs_threads as needs_threads_with, seed_of, written_of};
-ghost use Rattle.xc_app.specs.Outcomes.{IfFinished, IfStarted, IsEndOf, IsStarted, IsWrittenAs};
-ghost use Rattle.xc_app.specs.declared.finish.Status.{Status as PlainStatus};
-ghost use Rattle.xc_station.specs.declared.start.End.{End as PlainEnd};
+ghost use Rattle.xc_app.specs.Headline.{IsFinished, IsRun, IsSaidAlone, choice_of, needs_threads as needs_threads_with, seed_of};
+ghost use Rattle.xc_app.specs.Lines.{usage_line};
+ghost use Rattle.xc_app.specs.Parts.{IfFinished, IfStarted, IsStarted};
+ghost use Rattle.xc_outcome.specs.Said.{IsAnswered, IsFullRun, IsOneOf, IsUndisturbed};
+ghost use Rattle.xc_settings.specs.Options.{settings_of};
 
-use crate::due::{Due, write_due};
-use crate::ends::status_of;
-use crate::start::{NotRun, Started, start};
+use crate::start::{Started, start};
 use crate::turns::{needs_threads, take_together, take_turns};
 use crate::{Finish, Status};
 use std::alloc::Global;
 use std::sync::Wait;
 use std::thread::Threads;
-use xc_data::{NoMemory, Text};
 use xc_edge::{Sink, Source};
-use xc_generator::summary;
 use xc_host::Host;
-use xc_print::render;
+use xc_outcome::{finish_run, finish_without};
 use xc_runner::Pace;
-use xc_station::{End, Station};
-
-// What is written of the end of a run: its text, or with a seed the line that sums it up.
-fn text_of<H>(alloc: Global, end: &End<H>, seed: Option<u64>) -> Result<Text, NoMemory>
-    requires { length end.now.journal.items ≤ 10000 }
-    ensures { IfOk result (λ text. text ≡ written_of seed end.now) }
-{
-    let journal = end.journal.as_slice();
-    let words = end.words.as_slice();
-    match seed {
-        Some(seed) => summary(alloc, journal, words, seed),
-        None => render(
-            alloc,
-            journal,
-            end.jobs.as_slice(),
-            words,
-            end.kept.as_slice(),
-        ),
-    }
-}
-
-// The status that a run with this end is meant to have, and what is due with it.
-fn meant_of<H>(alloc: Global, end: &End<H>, seed: Option<u64>) -> (Status, Due)
-    requires { length end.now.journal.items ≤ 10000 }
-    ensures { IsDueWithEnd seed result.0 end.now (due_bytes result.1) }
-{
-    match text_of(alloc, end, seed) {
-        Ok(text) => (status_of(end), Due::Whole(text)),
-        Err(_) => (Status::NoMemory, Due::NoMemory),
-    }
-}
-
-// Nothing was run: what is due is written, and the host is given back.
-fn finish_without<K: Sink, H>(sink: &mut K, not_run: NotRun<H>) -> Finish<H>
-    ensures none { (result.end ≡ None) × (result.host ≡ Some not_run.host) }
-    ensures written { IsWrittenAs not_run.status (due_bytes not_run.due) result.status
-        (record { old = K.told sink.old; new = K.told sink.new }) }
-{
-    let NotRun { status, due, host } = not_run;
-    Finish {
-        status: write_due(sink, status, &due),
-        end: None,
-        host: Some(host),
-    }
-}
-
-// All jobs have ended: what is due with that end is written.
-fn finish_run<K: Sink, H: Host>(
-    alloc: Global,
-    sink: &mut K,
-    station: Station<H>,
-    seed: Option<u64>,
-) -> Finish<H>
-    requires { NobodyLives station.jobs }
-    ensures end { (end : PlainEnd H) × (result.end ≡ Some end) × IsEndOf H.model station end × (meant : PlainStatus) × (due : List ℕ)
-        × IsDueWithEnd seed meant end due × IsWrittenAs meant due result.status (record { old = K.told sink.old; new = K.told sink.new }) }
-    ensures host { result.host ≡ None }
-{
-    let end = station.finish();
-    let (meant, due) = meant_of(alloc, &end, seed);
-    Finish {
-        status: write_due(sink, meant, &due),
-        end: Some(end),
-        host: None,
-    }
-}
 
 /// What a run comes to before any thread is started.
 #[derive(Drop)]
@@ -154,8 +81,10 @@ pub fn xcalls_run<
     // status; or the sink failed after a front of that. A run that is meant to be done has an entry
     // for each transaction, which committed or aborted itself; so has one of which effects are left,
     // where no job gave up.
-    ensures answered { IsAnswered (map string_bytes words.now) H.model.takes_scripts
-        (record { old = S.told source.old; new = S.told source.new }) (record { old = K.told sink.old; new = K.told sink.new }) result }
+    ensures answered { IsAnswered (choice_of (map string_bytes words.now)) usage_line H.model.takes_scripts (record {
+      source = record { old = S.told source.old; new = S.told source.new };
+      sink = record { old = K.told sink.old; new = K.told sink.new };
+    }) result }
 
     // Nothing is read if the words are refused, or choose a seed.
     ensures unread { settings_of (map string_bytes words.now) ≡ None → source.new ≡ source.old }
@@ -179,7 +108,7 @@ pub fn xcalls_run<
     // The text, but for its lines on kept data, is a function of the script: jobs one after another, over a host that tells and
     // met no fault, write those of the script alone, but where memory ran out or the sink failed.
     ensures plain { IsTrue H.model.tells → result.status ≢ Status.NoMemory → result.status ≢ Status.WriteFault
-        → IfSome result.end (IsSaidPlainly (map string_bytes words.now) (K.told sink.old) (K.told sink.new)) }
+        → IfSome result.end (IsSaidAlone (map string_bytes words.now) (K.told sink.old) (K.told sink.new)) }
 
     // Without a run the host is given back as it was handed in.
     ensures host { IfSome result.host (λ back. back ≡ host) }

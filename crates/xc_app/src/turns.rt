@@ -4,7 +4,7 @@ ghost use Rattle.std.specs.Prelude.{◌≡◌, None, [], IfSome, IsSome};
 ghost use Rattle.xc_model.specs.Alone.{AreAlone};
 ghost use Rattle.xc_station.specs.Stations.{KeepsOrigin, NobodyLives, RanAlone, now_of};
 ghost use Rattle.xc_app.specs.Headline.{needs_threads as needs_threads_with, RunsAlone};
-ghost use Rattle.xc_app.specs.Outcomes.{TakeListed};
+ghost use Rattle.xc_app.specs.Parts.{TakeListed};
 
 use std::sync::Wait;
 use std::thread::Threads;

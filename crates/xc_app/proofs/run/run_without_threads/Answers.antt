@@ -12,7 +12,7 @@ returns-in-Ok-2-clause-finished g c =
     let turns = c.take_turns-station.ensures in
     let (end, some, left, meant, due, is, written) = c.finish_run.ensures.end in
     finished _ _ _ _ _ meant _ due written c.finish_run.result _ _ end refl some c.finish_run.ensures.host start turns.origin
-    (λ one. turns.alone one (alone_opened _ _ start.start.opened)) left is
+    (λ one. turns.alone one (alone_opened _ _ start.prepared.start.opened)) left is
 
 pub returns-in-Ok-2-clause-followed : goal.returns-in-Ok-2-clause-followed
 returns-in-Ok-2-clause-followed g c =

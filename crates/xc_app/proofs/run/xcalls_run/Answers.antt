@@ -2,7 +2,7 @@ use Rattle.std.proofs.Common.{refl, sym, subst}
 use Rattle.std.specs.Prelude.{IfSome, map, string_bytes}
 use Rattle.xc_app.specs.Followed.{IsFollowed}
 use Rattle.xc_app.specs.Headline.{IsFinished}
-use Rattle.xc_app.specs.Outcomes.{IsWrittenAs}
+use Rattle.xc_outcome.specs.Outcomes.{IsWrittenAs}
 use Rattle.xc_app.proofs.Finishing.{finished, threads_not_alone}
 use Rattle.xc_app.proofs.Following.{followed_by_workers}
 use Rattle.xc_app.proofs.run.xcalls_run.Goals as goal

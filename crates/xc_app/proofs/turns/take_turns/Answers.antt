@@ -1,5 +1,5 @@
 use Rattle.std.proofs.Common.{rules, ◌≡◌, ℕ, List, Option, IfSome, Some, subst, sym}
-use Rattle.xc_app.specs.Outcomes.{TakeListed}
+use Rattle.xc_app.specs.Parts.{TakeListed}
 use Rattle.xc_app.proofs.turns.take_turns.Goals as goal
 
 pub returns-in-Some-clause-listed : goal.returns-in-Some-clause-listed

@@ -1,34 +1,33 @@
--- A told script that is read without a fault is run.
+-- A told script that is read without a fault is run, and what a run that is done has written.
 use Rattle.std.proofs.Common.{◌≡◌, ◌≢◌, ℕ, ◌<◌, ◌≤◌, List, [], ◌∷◌, ◌++◌, length, take, zero, suc, refl, ap, sym, ◌∙◌, subst, arith, ◌⊎◌, inl, inr}
 use Rattle.std.specs.Prelude.{Option, Result, Ok, Err}
 use Rattle.std.specs.declared.option.Option.TheVariants.{None, Some}
 use Rattle.std.specs.Prelude.{Bool, true, false, ◌||◌, ◌&&◌, IfErr, IfSome, IsTrue}
 use Rattle.std.specs.List.{list_any}
-use Rattle.std.specs.Option.{option_and_then, option_map}
+use Rattle.std.specs.Option.{option_map}
+use Rattle.std.specs.Io.KnownBytes.{Consumes, IsAtEnd}
 use Rattle.xc_data.specs.Step.{Step}
 use Rattle.xc_data.specs.declared.entry.JobEnd.{JobEnd}
 use Rattle.xc_data.specs.declared.entry.JobEnd.TheVariants as job_end
 use Rattle.xc_data.specs.declared.entry.JobLine.{JobLine}
-use Rattle.xc_settings.specs.declared.chosen.Chosen.{Chosen}
-use Rattle.xc_settings.specs.Options.{settings_of}
-use Rattle.xc_model.specs.Setting.{Setting, setting}
-use Rattle.xc_model.specs.Ending.{IsEnd, AreEnds, is_done, all_done, is_memory, is_starved, some_late_starved}
-use Rattle.xc_model.specs.Progress.{Following, progress_of}
-use Rattle.std.specs.Io.KnownBytes.{Consumes, IsAtEnd}
-use Rattle.xc_station.specs.declared.start.End.{End}
-use Rattle.xc_tokens.specs.declared.why.Why.{Why}
-use Rattle.xc_text.specs.declared.script.Script.{Script}
-use Rattle.xc_text.specs.Scripts.{parse_of}
-use Rattle.xc_app.specs.declared.finish.Status.{Status}
-use Rattle.xc_app.specs.declared.start.NotRun.{NotRun}
-use Rattle.xc_app.specs.declared.finish.Status.TheVariants as status
 use Rattle.xc_edge.specs.Streams.{AppendsWhole}
 use Rattle.xc_edge.specs.View.{StreamView}
 use Rattle.xc_host.specs.Model.{HostModel}
-use Rattle.xc_app.specs.Headline.{IsInput, IsRefusal, is_refused_by, IsUnscripted, AreScript, IsCaused, IsDone, IsDue, IsRun, input_of, seed_of, written_of}
-use Rattle.xc_app.specs.Headline.{IsDoneWith, IsSaidPlainly, IsWritten, RunsAlone}
-use Rattle.xc_app.specs.Headline.{starves, is_given_up, gives_up}
-use Rattle.xc_app.specs.Outcomes.{IsOfBytes}
+use Rattle.xc_model.specs.Ending.{IsEnd, AreEnds, is_done, all_done, is_memory, is_starved, some_late_starved}
+use Rattle.xc_model.specs.Progress.{Following, progress_of}
+use Rattle.xc_model.specs.Setting.{Setting, setting}
+use Rattle.xc_model.specs.declared.rules.Rules.{Rules}
+use Rattle.xc_station.specs.declared.start.End.{End}
+use Rattle.xc_text.specs.Scripts.{parse_of}
+use Rattle.xc_text.specs.declared.script.Script.{Script}
+use Rattle.xc_tokens.specs.declared.why.Why.{Why}
+use Rattle.xc_outcome.specs.declared.choice.Choice.{Choice}
+use Rattle.xc_outcome.specs.declared.finish.Status.{Status}
+use Rattle.xc_outcome.specs.declared.finish.Status.TheVariants as status
+use Rattle.xc_outcome.specs.declared.preparing.NotRun.{NotRun}
+use Rattle.xc_outcome.specs.Outcomes.{IsOfBytes}
+use Rattle.xc_outcome.specs.Runs.{AreScript, IsEndOver, IsInput, IsRefusal, IsSerialRun, IsUnscripted, end_text, input_of, is_refused_by, starves}
+use Rattle.xc_outcome.specs.Said.{IsCaused, IsDone, IsDoneWith, IsDueWithEnd, IsSaidPlainly, IsWritten, gives_up, is_given_up}
 
 take_all : (n : ℕ) (bytes : List ℕ) → length bytes ≤ n → take n bytes ≡ bytes
 take_all zero [] le = refl
@@ -110,26 +109,18 @@ never_unscripted takes seed source script (bytes, other, input, e, refused) =
     let no : true ≡ false = sym refused ∙ ap (is_refused_by takes) (sym same) ∙ followed.2 in
     cc
 
--- the seed of the words is that of what they choose
-pub same_seed : (words : List (List ℕ)) (chosen : Chosen) → settings_of words ≡ Some chosen → seed_of words ≡ chosen.seed
-same_seed words chosen chose = ap (option_and_then (λ (c : Chosen). c.seed)) chose
-
 -- the status of bytes that were run has its cause
-pub caused_by_bytes : (words : List (List ℕ)) (chosen : Chosen) (takes : Bool) (source : Step StreamView) (s : Status) → settings_of words ≡ Some chosen
-    → IsOfBytes s → ((line : ℕ) (why : Why) → s ≡ status.Refused line why → IsRefusal chosen.seed source line why)
-    → (s ≡ status.NotScripted → IsUnscripted takes chosen.seed source) → IsCaused words takes source s
-caused_by_bytes words chosen takes source s chose answer refused unscripted = record {
+caused_by_bytes : (chosen : Choice) (takes : Bool) (source : Step StreamView) (s : Status) → IsOfBytes s
+    → ((line : ℕ) (why : Why) → s ≡ status.Refused line why → IsRefusal chosen.seed source line why)
+    → (s ≡ status.NotScripted → IsUnscripted takes chosen.seed source) → IsCaused (Some chosen) takes source s
+caused_by_bytes chosen takes source s answer refused unscripted = record {
   usage = λ e. absurd (no_usage s answer e);
-  refused_words = λ none. absurd (chooses chosen (sym chose ∙ none));
-  refused = λ line why e. subst (λ seed. IsRefusal seed source line why) (sym (same_seed words chosen chose)) (refused line why e);
-  unscripted = λ e. subst (λ seed. IsUnscripted takes seed source) (sym (same_seed words chosen chose)) (unscripted e);
+  refused_words = λ none. cc;
+  refused = refused;
+  unscripted = unscripted;
   read_fault = λ e. absurd (no_fault s answer e);
-  complete = λ _ _ script. done_of s answer refused unscripted
-      (subst (λ seed. AreScript takes (input_of seed source.old.bytes)) (same_seed words chosen chose) script);
+  complete = λ _ _ script. done_of s answer refused unscripted script;
 } where
-  chooses : (c : Chosen) → Some c ≡ None → ⊥
-  chooses c e = cc
-
   no_usage : (s : Status) → IsOfBytes s → s ≡ status.Usage → ⊥
   no_usage s answer e = subst IsOfBytes e answer
 
@@ -149,21 +140,21 @@ caused_by_bytes words chosen takes source s chose answer refused unscripted = re
   done_of status.WriteFault answer refused unscripted script = absurd answer
 
 -- so has that of bytes that were not run
-pub caused_where_not_run : {A H : Type 0} (words : List (List ℕ)) (chosen : Chosen) (takes : Bool) (source : Step StreamView) (bytes : List ℕ)
-    (r : Result A (NotRun H)) → settings_of words ≡ Some chosen → IsInput chosen.seed source bytes → IfErr r (λ n. IsOfBytes n.status)
+pub caused_where_not_run : {A H : Type 0} (chosen : Choice) (takes : Bool) (source : Step StreamView) (bytes : List ℕ)
+    (r : Result A (NotRun H)) → IsInput chosen.seed source bytes → IfErr r (λ n. IsOfBytes n.status)
     → IfErr r (λ n. (line : ℕ) (why : Why) → n.status ≡ status.Refused line why → parse_of bytes ≡ Err (line, why))
     → IfErr r (λ n. n.status ≡ status.NotScripted
     → (script : Script) × (parse_of bytes ≡ Ok script) × (is_refused_by takes script ≡ true))
-    → IfErr r (λ n. IsCaused words takes source n.status)
-caused_where_not_run words chosen takes source bytes (Ok started) chose input of refused unscripted = tt
-caused_where_not_run words chosen takes source bytes (Err n) chose input of refused unscripted =
-    caused_by_bytes words chosen takes source n.status chose of (λ line why e. (bytes, input, refused line why e))
+    → IfErr r (λ n. IsCaused (Some chosen) takes source n.status)
+caused_where_not_run chosen takes source bytes (Ok started) input of refused unscripted = tt
+caused_where_not_run chosen takes source bytes (Err n) input of refused unscripted =
+    caused_by_bytes chosen takes source n.status of (λ line why e. (bytes, input, refused line why e))
     (λ e. let told = unscripted e in (bytes, told.0, input, told.1, told.2))
 
--- the status of a run has its cause in the words
-pub caused_by_run : (words : List (List ℕ)) (chosen : Chosen) (takes : Bool) (source : Step StreamView) (s : Status) → settings_of words ≡ Some chosen
-    → IsDone s → IsCaused words takes source s
-caused_by_run words chosen takes source s chose done = record {
+-- the status of a run that was chosen has its cause
+pub caused_by_run : (choice : Option Choice) (chosen : Choice) (takes : Bool) (source : Step StreamView) (s : Status) → choice ≡ Some chosen
+    → IsDone s → IsCaused choice takes source s
+caused_by_run choice chosen takes source s chose done = record {
   usage = λ e. absurd (subst IsDone e done);
   refused_words = λ none. let no : Some chosen ≡ None = sym chose ∙ none in cc;
   refused = λ line why e. absurd (subst IsDone e done);
@@ -199,62 +190,58 @@ all_fed : {H : Type 0} (end : End H) → starves end ≡ false → list_any is_s
 all_fed end fed = (or_false (list_any is_starved end.jobs) (some_late_starved end.journal.items) fed).0
 
 -- a run whose whole text is due, without a job that starved or gave up, is done
-pub done_with : {H : Type 0} (model : HostModel H) (words : List (List ℕ)) (source : Step StreamView) (host : H) (seed : Option ℕ) (s : Status)
-    (o : Option (End H)) (due : List ℕ) → IsDue seed s o due → IfSome o (IsRun model words source host) → IsDoneWith s o
-done_with model words source host seed status.Done None due h run = h
-done_with model words source host seed status.Done (Some end) due h (chosen, chose, bytes, came, (read, run)) =
-    let whole = run.whole in
-    let s = setting end.opening.script chosen.rules model.tells in
+pub done_with : {H : Type 0} (model : HostModel H) (rules : Rules) (host : H) (seed : Option ℕ) (s : Status) (end : End H) (due : List ℕ)
+    → IsDueWithEnd seed s end due → IsEndOver model rules host end → IsDoneWith s (Some end)
+done_with model rules host seed status.Done end due h over =
+    let whole = over.whole in
+    let s = setting end.opening.script rules model.tells in
     whole.complete
     (all_done_of s (length end.journal.items) (progress_of end.opening.script end.journal.items).jobs end.jobs whole.ends
     (all_fed end h.1) h.3)
-done_with model words source host seed status.Left None due h run = h
-done_with model words source host seed status.Left (Some end) due h (chosen, chose, bytes, came, (read, run)) = λ none.
-    let whole = run.whole in
-    let s = setting end.opening.script chosen.rules model.tells in
+done_with model rules host seed status.Left end due h over = λ none.
+    let whole = over.whole in
+    let s = setting end.opening.script rules model.tells in
     whole.complete
     (all_done_of s (length end.journal.items) (progress_of end.opening.script end.journal.items).jobs end.jobs whole.ends
     (all_fed end h.1) none)
-done_with model words source host seed status.GaveUp o due h run = tt
-done_with model words source host seed (status.Refused line why) o due h run = tt
-done_with model words source host seed status.Usage o due h run = tt
-done_with model words source host seed status.ReadFault o due h run = tt
-done_with model words source host seed status.WriteFault o due h run = tt
-done_with model words source host seed status.NotScripted o due h run = tt
-done_with model words source host seed status.NoMemory o due h run = tt
-
-same_choice : (a b : Chosen) (o : Option Chosen) → o ≡ Some a → o ≡ Some b → a ≡ b
-same_choice a b o one two = let both : Some a ≡ Some b = sym one ∙ two in cc both
+done_with model rules host seed status.GaveUp end due h over = tt
+done_with model rules host seed status.NoMemory end due h over = tt
+done_with model rules host seed (status.Refused line why) end due h over = absurd h
+done_with model rules host seed status.Usage end due h over = absurd h
+done_with model rules host seed status.ReadFault end due h over = absurd h
+done_with model rules host seed status.WriteFault end due h over = absurd h
+done_with model rules host seed status.NotScripted end due h over = absurd h
 
 -- where the whole text is due its lines but those on kept data are the script's alone
-plain_due : {H : Type 0} (model : HostModel H) (words : List (List ℕ)) (source : Step StreamView) (host : H) (end : End H) (due : List ℕ)
-    (before after : StreamView) → due ≡ written_of (seed_of words) end → starves end ≡ false → IsRun model words source host end
-    → AppendsWhole before after due → IsTrue model.tells → IsSaidPlainly words before after end
-plain_due model words source host end due before after text fed (by, chose, bytes, input, (read, run)) wrote tells = λ chosen again alone faults.
-    let one : by ≡ chosen = same_choice by chosen (settings_of words) chose again in
-    let unseeded : seed_of words ≡ None = same_seed words chosen again ∙ alone.seed in
-    (subst (AppendsWhole before after) (text ∙ ap (λ seed. written_of seed end) unseeded) wrote, run.plain (subst RunsAlone (sym one) alone) tells faults fed)
+plain_due : {H : Type 0} (model : HostModel H) (end : End H) (due : List ℕ) (before after : StreamView) → due ≡ end_text end
+    → starves end ≡ false → IsSerialRun model end → AppendsWhole before after due → IsTrue model.tells → IsSaidPlainly before after end
+plain_due model end due before after text fed ran wrote tells = λ faults.
+    (subst (AppendsWhole before after) text wrote, ran.plain tells faults fed)
 
 -- where the sink did not fail, all was written, and the status is the one that was meant
-pub written_whole : (meant ends : Status) (due : List ℕ) (old new : StreamView) → IsWritten meant ends due old new
+written_whole : (meant ends : Status) (due : List ℕ) (old new : StreamView) → IsWritten meant ends due old new
     → ends ≢ status.WriteFault → (ends ≡ meant) × AppendsWhole old new due
 written_whole meant ends due old new (inl whole) unfailed = whole
 written_whole meant ends due old new (inr part) unfailed = absurd (unfailed part.0)
 
--- what a run has written is the text of its script alone, but where memory ran out
-pub plainly : {H : Type 0} (model : HostModel H) (words : List (List ℕ)) (source : Step StreamView) (host : H) (s : Status) (o : Option (End H))
-    (due : List ℕ) (before after : StreamView) → IsDue (seed_of words) s o due → IfSome o (IsRun model words source host)
-    → AppendsWhole before after due → IsTrue model.tells → s ≢ status.NoMemory → IfSome o (IsSaidPlainly words before after)
-plainly model words source host s None due before after h run wrote tells not = tt
-plainly model words source host status.Done (Some end) due before after h run wrote tells not =
-    plain_due model words source host end due before after h.0 h.1 run wrote tells
-plainly model words source host status.Left (Some end) due before after h run wrote tells not =
-    plain_due model words source host end due before after h.0 h.1 run wrote tells
-plainly model words source host status.GaveUp (Some end) due before after h run wrote tells not =
-    plain_due model words source host end due before after h.0 h.1 run wrote tells
-plainly model words source host status.NoMemory (Some end) due before after h run wrote tells not = absurd (not refl)
-plainly model words source host (status.Refused line why) (Some end) due before after h run wrote tells not = absurd h
-plainly model words source host status.Usage (Some end) due before after h run wrote tells not = absurd h
-plainly model words source host status.ReadFault (Some end) due before after h run wrote tells not = absurd h
-plainly model words source host status.WriteFault (Some end) due before after h run wrote tells not = absurd h
-plainly model words source host status.NotScripted (Some end) due before after h run wrote tells not = absurd h
+-- what a run whose jobs ran one after another has written is the text of its script alone, but where memory ran out
+plainly : {H : Type 0} (model : HostModel H) (s : Status) (end : End H) (due : List ℕ) (before after : StreamView)
+    → IsDueWithEnd None s end due → IsSerialRun model end → AppendsWhole before after due → IsTrue model.tells → s ≢ status.NoMemory
+    → IsSaidPlainly before after end
+plainly model status.Done end due before after h ran wrote tells fed = plain_due model end due before after h.0 h.1 ran wrote tells
+plainly model status.Left end due before after h ran wrote tells fed = plain_due model end due before after h.0 h.1 ran wrote tells
+plainly model status.GaveUp end due before after h ran wrote tells fed = plain_due model end due before after h.0 h.1 ran wrote tells
+plainly model status.NoMemory end due before after h ran wrote tells fed = absurd (fed refl)
+plainly model (status.Refused line why) end due before after h ran wrote tells fed = absurd h
+plainly model status.Usage end due before after h ran wrote tells fed = absurd h
+plainly model status.ReadFault end due before after h ran wrote tells fed = absurd h
+plainly model status.WriteFault end due before after h ran wrote tells fed = absurd h
+plainly model status.NotScripted end due before after h ran wrote tells fed = absurd h
+
+-- so it is where neither memory nor the sink was wanting
+pub said_plainly : {H : Type 0} (model : HostModel H) (meant ends : Status) (end : End H) (due : List ℕ) (old new : StreamView)
+    → IsWritten meant ends due old new → IsDueWithEnd None meant end due → IsSerialRun model end → IsTrue model.tells
+    → ends ≢ status.NoMemory → ends ≢ status.WriteFault → IsSaidPlainly old new end
+said_plainly model meant ends end due old new written is ran tells fed unfailed =
+    let wrote = written_whole meant ends due old new written unfailed in
+    plainly model meant end due old new is ran wrote.1 tells (λ starved. fed (wrote.0 ∙ starved))

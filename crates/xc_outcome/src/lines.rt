@@ -1,5 +1,5 @@
 ghost use Rattle.std.specs.Prelude.{◌≡◌, ◌++◌, IfOk, OnOk, string_bytes};
-ghost use Rattle.xc_app.specs.Lines.{refused_line, why_text};
+ghost use Rattle.xc_outcome.specs.Lines.{refused_line, why_text};
 
 use std::alloc::{AllocError, Global};
 use xc_text::Why;

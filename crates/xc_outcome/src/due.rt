@@ -1,13 +1,10 @@
 ghost use Rattle.std.specs.Prelude.{◌≡◌};
-ghost use Rattle.xc_app.specs.Due.{due_bytes};
-ghost use Rattle.xc_app.specs.Headline.{IsWritten};
+ghost use Rattle.xc_outcome.specs.Due.{due_bytes};
+ghost use Rattle.xc_outcome.specs.Said.{IsWritten};
 
 use crate::Status;
 use xc_data::Text;
 use xc_edge::{Sink, write_whole};
-
-const USAGE: &str =
-    "usage: xcalls [--workers N] [--schedule LIST] [--attempts N] [--patience N] [--undo-tries N] [--seed N]\n";
 
 const READ_FAULT: &str = "read fault\n";
 
@@ -18,7 +15,8 @@ const NOT_SCRIPTED: &str = "not scripted\n";
 /// What is to be written.
 #[derive(Drop)]
 pub enum Due {
-    Usage,
+    /// A program's line on its words.
+    Usage(&'static str),
     ReadFault,
     NoMemory,
     NotScripted,
@@ -31,7 +29,7 @@ impl Due {
         ensures { result.now ≡ due_bytes self.now }
     {
         match self {
-            Due::Usage => USAGE.as_bytes(),
+            Due::Usage(line) => line.as_bytes(),
             Due::ReadFault => READ_FAULT.as_bytes(),
             Due::NoMemory => NO_MEMORY.as_bytes(),
             Due::NotScripted => NOT_SCRIPTED.as_bytes(),

@@ -1,7 +1,8 @@
 ghost use Rattle.std.specs.Prelude.{◌≡◌, ◌≤◌, length, if◌then◌else◌};
 ghost use Rattle.std.specs.List.{list_any};
 ghost use Rattle.xc_model.specs.Ending.{is_memory_end, is_starved, has_memory_end, some_late_starved};
-ghost use Rattle.xc_app.specs.Headline.{starves, gave_up, gives_up, leaves_effects};
+ghost use Rattle.xc_outcome.specs.Runs.{starves};
+ghost use Rattle.xc_outcome.specs.Said.{gave_up, gives_up, leaves_effects};
 
 use crate::Status;
 use xc_data::{Entry, JobEnd, JobLine, LateEnd, Outcome};

@@ -1,8 +1,8 @@
 -- The numbers of the statuses.
 use Rattle.std.specs.Prelude.{ℕ}
-use Rattle.xc_app.specs.declared.finish.Status.{Status}
-use Rattle.xc_app.specs.declared.finish.Status.TheVariants.{Done, Refused, Usage, ReadFault, WriteFault}
-use Rattle.xc_app.specs.declared.finish.Status.TheVariants.{NoMemory, Left, GaveUp, NotScripted}
+use Rattle.xc_outcome.specs.declared.finish.Status.{Status}
+use Rattle.xc_outcome.specs.declared.finish.Status.TheVariants.{Done, Refused, Usage, ReadFault, WriteFault}
+use Rattle.xc_outcome.specs.declared.finish.Status.TheVariants.{NoMemory, Left, GaveUp, NotScripted}
 
 -- a status as the program's exit status
 abbrev pub status_number : Status → ℕ

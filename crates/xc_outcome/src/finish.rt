@@ -1,5 +1,5 @@
 ghost use Rattle.std.specs.Prelude.{◌≡◌};
-ghost use Rattle.xc_app.specs.Status.{status_number};
+ghost use Rattle.xc_outcome.specs.Status.{status_number};
 
 use xc_station::End;
 use xc_text::Why;
