@@ -5,3 +5,5 @@ pub mod MachineReplay
 pub mod MachineBlocks
 pub mod MachineRemain
 pub mod MachineWhole
+mod MachineTraces
+pub mod MachineTaking

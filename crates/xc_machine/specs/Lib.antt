@@ -1,3 +1,5 @@
 pub mod Replay
 pub mod Remain
 pub mod Blocks
+pub mod Traced
+pub mod Taking

@@ -44,7 +44,7 @@ impl Replied {
 
 impl Body {
     // Makes a call, where it replies so.
-    fn replay_call(
+    pub(crate) fn replay_call(
         &mut self,
         world: &mut World,
         me: &mut Private,

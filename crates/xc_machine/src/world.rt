@@ -2,14 +2,18 @@ ghost use Rattle.std.specs.Prelude.{◌≡◌, length, IfOk};
 ghost use Rattle.xc_world.specs.World.{file_of, pipe_of, pair_of, waiting};
 
 mod act;
+mod effect;
 mod files;
 mod fits;
 mod late;
 mod names;
 mod opening;
+mod parts;
 mod pipes;
+mod record;
 mod remain;
 mod shared;
+mod taking;
 
 use opening::{names_of, words_of};
 use std::alloc::{AllocError, Global};

@@ -35,7 +35,7 @@ impl World {
     }
 
     // These bytes come behind those of a file.
-    fn put_behind(&mut self, num: Num, bytes: &[u8]) -> Result<(), NoMemory>
+    pub(super) fn put_behind(&mut self, num: Num, bytes: &[u8]) -> Result<(), NoMemory>
         ensures { OnOk result (self.new ≡ with_file self.old num (file_of self.old num ++ bytes.now)) }
     {
         let next = joined(self.alloc, self.file(num), bytes)?;
@@ -43,7 +43,7 @@ impl World {
     }
 
     // An empty file of this number under this name.
-    fn add_named(&mut self, name: Name, num: Num) -> Result<(), NoMemory>
+    pub(super) fn add_named(&mut self, name: Name, num: Num) -> Result<(), NoMemory>
         ensures { OnOk result (self.new ≡ with_new_file self.old name num) }
     {
         self.files.insert(num, Chunk::new(self.alloc, &[])?)?;
@@ -51,7 +51,7 @@ impl World {
     }
 
     // The file of a name goes to another one.
-    fn give_name(&mut self, from: Name, to: Name) -> Result<(), NoMemory>
+    pub(super) fn give_name(&mut self, from: Name, to: Name) -> Result<(), NoMemory>
         ensures { OnOk result (self.new ≡ move_name self.old from to (map.get self.old.names from)) }
     {
         let Some(num) = self.names.get(from) else {
@@ -62,7 +62,7 @@ impl World {
         self.names.insert(to, num)
     }
 
-    fn add_pipe(&mut self, num: Num) -> Result<(), NoMemory>
+    pub(super) fn add_pipe(&mut self, num: Num) -> Result<(), NoMemory>
         ensures { OnOk result (self.new ≡ with_pipe self.old num empty_pipe) }
     {
         let held = Chunk::new(self.alloc, &[])?;

@@ -1,0 +1,56 @@
+ghost use Rattle.std.specs.Prelude.{◌≡◌, ◌+◌, ◌<◌, ◌^◌, take, drop, OnOk};
+ghost use Rattle.xc_world.specs.Act.Files.{overwritten};
+ghost use Rattle.xc_world.specs.Trail.{with_effect};
+ghost use Rattle.xc_world.specs.World.{file_of, with_file};
+
+use super::parts::{behind, front};
+use super::{PairBody, World};
+use xc_data::{Chunk, NoMemory, Num, Undo};
+
+// The covered bytes of a record from this one on.
+fn covered(after: &Chunk, from: u32, n: u32) -> &[u8]
+    ensures { result.now ≡ drop from (take n after.now) }
+{
+    behind(front(after.as_slice(), n as usize), from as usize)
+}
+
+impl World {
+    // These bytes of a file stand in the place of what is there from `at` on, wherever that is.
+    fn put_from(&mut self, num: Num, at: usize, bytes: &[u8]) -> Result<(), NoMemory>
+        requires { at < 2 ^ 34 }
+        ensures { OnOk result (self.new ≡ with_file self.old num (overwritten at bytes.now (file_of self.old num))) }
+    {
+        let file = self.file(num);
+        let mut next = Vec::new(self.alloc);
+        next.extend_from_slice(front(file, at))?;
+        next.extend_from_slice(bytes)?;
+        next.extend_from_slice(behind(file, at + bytes.len()))?;
+        self.files.insert(num, Chunk::from_vec(next)?)
+    }
+
+    /// Puts into the world what a record tells of, of its covered bytes from this one on.
+    pub fn put_effect(&mut self, undo: &Undo, from: u32) -> Result<(), NoMemory>
+        ensures { OnOk result (self.new ≡ with_effect self.old undo.now from) }
+    {
+        match undo {
+            Undo::Bytes {
+                file,
+                at,
+                after,
+                n,
+                ..
+            } => self.put_from(
+                *file,
+                *at as usize + from as usize,
+                covered(after, from, *n),
+            ),
+            Undo::Tail { file, after, n, .. } => {
+                self.put_behind(*file, covered(after, from, *n))
+            }
+            Undo::Made { name, num } => self.add_named(*name.value(), *num),
+            Undo::Moved { from, to } => self.give_name(*from.value(), *to.value()),
+            Undo::NewPipe(num) => self.add_pipe(*num),
+            Undo::NewPair(num) => self.pairs.insert(*num, PairBody::empty(self.alloc)),
+        }
+    }
+}
