@@ -1,5 +1,5 @@
 ghost use Rattle.std.specs.Prelude.{◌≡◌, ◌≤◌, ◌^◌, length, count_by, sum_by};
-ghost use Rattle.xc_data.specs.Faults.{reply_faults, is_fault_end, undo_faults, outcome_faults, entry_faults};
+ghost use Rattle.xc_data.specs.Faults.{reply_faults, is_fault_end, end_faults, undo_faults, outcome_faults, entry_faults};
 ghost use Rattle.xc_failure.specs.Effects.{effect_remains};
 ghost use Rattle.xc_print.specs.Totals.{is_committed, is_aborted, entry_remains, totals_of};
 
@@ -65,10 +65,11 @@ fn count_fault_ends(ends: &[LateEnd]) -> usize
         .count()
 }
 
-fn faults_of(ended: &(Undo, UndoEnd)) -> u32
-    ensures { result ≡ undo_faults ended.now }
+/// The faults that a compensation met.
+pub fn end_faults_of(end: &UndoEnd) -> u32
+    ensures { result ≡ end_faults end.now }
 {
-    match &ended.1 {
+    match end {
         UndoEnd::Undone { faults } | UndoEnd::Failed { faults, .. } => *faults,
         UndoEnd::Blocked { .. } => 0,
     }
@@ -80,7 +81,7 @@ fn sum_faults(records: &[(Undo, UndoEnd)]) -> u128
 {
     let mut faults = 0;
     for ended in records {
-        faults += faults_of(ended) as u128;
+        faults += end_faults_of(&ended.1) as u128;
     }
     faults
 }
@@ -95,7 +96,8 @@ fn outcome_faults_of(outcome: &Outcome) -> u128
     }
 }
 
-fn entry_faults_of(entry: &Entry) -> u128
+/// The faults that an entry of the journal records.
+pub fn entry_faults_of(entry: &Entry) -> u128
     ensures value { result ≡ entry_faults entry.now }
     ensures bound { result ≤ 2 ^ 97 }
 {

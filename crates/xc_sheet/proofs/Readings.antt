@@ -4,6 +4,7 @@ use Rattle.std.proofs.Common.{Option, Some, None, refl, sym, ap, subst, ◌∙�
 use Rattle.std.specs.Prelude.{◌==◌, unwrap_or}
 use Rattle.std.proofs.lemmas.Bool.{both_ways}
 use Rattle.std.proofs.lemmas.List.{append-nil, length-append}
+use Rattle.std.proofs.lemmas.List.Elements.{All-nil, All-push, All-same}
 use Rattle.xc_sheet.specs.declared.ending.Ending.{Ending}
 use Rattle.xc_sheet.specs.declared.ending.Ending.TheVariants.{Whole, Broken}
 use Rattle.xc_sheet.specs.declared.lines.Line.{Line}
@@ -12,7 +13,7 @@ use Rattle.xc_sheet.specs.declared.places.Place.TheVariants as place
 use Rattle.xc_sheet.specs.Lines.{line_text}
 use Rattle.xc_sheet.specs.Places.{behind_line, behind_lines, lines_text}
 use Rattle.xc_sheet.specs.Ranges.{IsLineInRange, AreLinesInRange}
-use Rattle.xc_sheet.specs.Sheets.{AreWholeFrom, NoLineFits, StopsReading, AreReadUpTo, IsReadSheet, AreAllOf, ending_at, IsLineRead}
+use Rattle.xc_sheet.specs.Sheets.{AreWholeFrom, NoLineFits, StopsReading, AreReadUpTo, IsReadSheet, AreAllOf, HaveText, ending_at, IsLineRead}
 use Rattle.xc_sheet.proofs.PrintedLaws.{line_some}
 
 -- ---- a line that was read
@@ -20,6 +21,11 @@ longer : (l : Line) (old new : List ℕ) → old ≡ line_text l ++ new → 0 < 
 longer l old new e some =
     let sizes : length old ≡ length (line_text l) + length new = ap length e ∙ length-append (line_text l) new in
     omega (arith, sizes, some)
+
+has_text : (l : Line) (old new : List ℕ) → old ≡ line_text l ++ new → length new + 1 ≤ length old → 0 < length (line_text l)
+has_text l old new e less =
+    let sizes : length old ≡ length (line_text l) + length new = ap length e ∙ length-append (line_text l) new in
+    omega (arith, sizes, less)
 
 -- the parts of what was read
 read_pair : Line × List ℕ → Option (Line × List ℕ)
@@ -82,6 +88,7 @@ pub record GoesOn (lines : List Line) (last : Place) (rest : List ℕ) (all : Li
 pub record IsReading (bytes : List ℕ) (lines : List Line) (last : Place) (rest : List ℕ) : Type 0 where
   pub read : AreReadUpTo lines bytes last rest
   pub few : length lines + length rest ≤ length bytes
+  pub some : HaveText lines
   pub onward : (all : List Line) → AreLinesInRange all → AreWholeFrom place.Between all bytes → GoesOn lines last rest all
 
 -- nothing is read yet
@@ -91,6 +98,7 @@ begins bytes =
     record {
       read = record { written = refl; placed = refl };
       few = omega arith;
+      some = All-nil (λ (l : Line). 0 < length (line_text l));
       onward = λ all within whole. record { more = all; joined = refl; within = within; whole = whole };
     }
 
@@ -123,6 +131,7 @@ reads_on bytes lines l last next old new r h =
         placed = place_on (Some place.Between) lines l last next r.read.placed h.placed;
       };
       few = omega (arith, counts, h.shorter, r.few);
+      some = All-push (λ (l : Line). 0 < length (line_text l)) lines l r.some (has_text l old new h.written h.shorter);
       onward = λ all within whole.
           let g = r.onward all within whole in
           goes_with lines l last next old new all g.more h g.joined g.within g.whole;
@@ -221,6 +230,10 @@ ends bytes lines last rest r e = ends_in bytes lines last (subst (IsReading byte
 pub ends_only : (bytes : List ℕ) (lines : List Line) (last : Place) (rest : List ℕ) → IsReading bytes lines last rest → length rest ≡ 0
     → AreAllOf bytes lines (ending_at last lines)
 ends_only bytes lines last rest r e = ends_all bytes lines last (subst (IsReading bytes lines last) (nothing_left rest e) r)
+
+-- the lines that were read aren't empty
+pub read_some : (bytes : List ℕ) (lines got : List Line) (last : Place) (rest : List ℕ) → got ≡ lines → IsReading bytes lines last rest → HaveText got
+read_some bytes lines got last rest same r = All-same (λ (l : Line). 0 < length (line_text l)) got lines same r.some
 
 -- ---- what is answered
 -- before a line that may not stand there

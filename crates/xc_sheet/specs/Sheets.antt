@@ -1,5 +1,5 @@
 -- A text, read line by line.
-use Rattle.std.specs.Prelude.{◌≡◌, ℕ, ◌+◌, ◌≤◌, List, [], ◌++◌, length, Some, None}
+use Rattle.std.specs.Prelude.{◌≡◌, ℕ, ◌+◌, ◌<◌, ◌≤◌, All, List, [], ◌++◌, length, Some, None}
 use Rattle.xc_sheet.specs.declared.ending.Ending.{Ending}
 use Rattle.xc_sheet.specs.declared.ending.Ending.TheVariants.{Whole, Broken}
 use Rattle.xc_sheet.specs.declared.lines.Line.{Line}
@@ -13,6 +13,10 @@ use Rattle.xc_sheet.specs.Ranges.{IsLineInRange, AreLinesInRange}
 pub record AreWholeFrom (first : Place) (lines : List Line) (bytes : List ℕ) : Type 0 where
   pub written : bytes ≡ lines_text lines
   pub ended : behind_lines (Some first) lines ≡ Some place.Ended
+
+-- no line is empty
+abbrev pub HaveText : List Line → Type 0
+HaveText lines = All (λ (l : Line). 0 < length (line_text l)) lines
 
 -- no line that may stand in this place stands in front of these bytes
 abbrev pub NoLineFits : Place → List ℕ → Type 0

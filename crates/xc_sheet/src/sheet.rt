@@ -7,7 +7,7 @@ ghost use Rattle.xc_print.specs.Text.{rendered};
 ghost use Rattle.xc_sheet.specs.declared.ending.Ending.TheVariants.{Whole, Broken};
 ghost use Rattle.xc_sheet.specs.EndRanges.{IsEndInRange};
 ghost use Rattle.xc_sheet.specs.Ends.{end_lines};
-ghost use Rattle.xc_sheet.specs.Sheets.{IsReadSheet, AreAllOf, ending_at};
+ghost use Rattle.xc_sheet.specs.Sheets.{IsReadSheet, AreAllOf, HaveText, ending_at};
 
 use crate::ending::Ending;
 use crate::lines::Line;
@@ -70,6 +70,7 @@ fn read_lines(alloc: Global, text: &[u8]) -> Result<Sheet, NoMemory>
     requires { length text.now ≤ 67108864 }
     ensures read { IfOk result (λ sheet. IsReadSheet text.now sheet.lines sheet.ending) }
     ensures only { IfOk result (λ sheet. AreAllOf text.now sheet.lines sheet.ending) }
+    ensures some { IfOk result (λ sheet. HaveText sheet.lines) }
 {
     let mut lines = Items::new(alloc);
     let mut place = Place::Between;
@@ -91,6 +92,7 @@ fn read_lines(alloc: Global, text: &[u8]) -> Result<Sheet, NoMemory>
 pub fn read_sheet(alloc: Global, text: &[u8]) -> Result<Sheet, Unreadable>
     ensures read { IfOk result (λ sheet. IsReadSheet text.now sheet.lines sheet.ending) }
     ensures only { IfOk result (λ sheet. AreAllOf text.now sheet.lines sheet.ending) }
+    ensures some { IfOk result (λ sheet. HaveText sheet.lines) }
     ensures printed { (journal : List Entry) (jobs : List JobLine) (words : List ℕ) (kept : List KeptItem)
         → IsEndInRange journal jobs words kept → text.now ≡ rendered journal jobs words kept
         → IfOk result (λ sheet. (sheet.lines ≡ end_lines journal jobs words kept) × (sheet.ending ≡ Whole)) }

@@ -3,7 +3,7 @@ use Rattle.xc_sheet.specs.declared.ending.Ending.TheVariants.{Broken}
 use Rattle.xc_sheet.specs.declared.lines.Line.{Line}
 use Rattle.xc_sheet.specs.declared.places.Place.TheVariants as place
 use Rattle.xc_sheet.specs.Sheets.{IsLineRead}
-use Rattle.xc_sheet.proofs.Readings.{IsReading, begins, goes_on, broken_sheet, ended_sheet}
+use Rattle.xc_sheet.proofs.Readings.{IsReading, begins, goes_on, read_some, broken_sheet, ended_sheet}
 use Rattle.xc_sheet.proofs.sheet.read_lines.Goals as goal
 
 pub loop-rest-init : goal.loop-rest-init
@@ -27,6 +27,17 @@ returns-in-None-clause-only c =
     (broken_sheet c.args.text.now c.loop-rest.lines c.broken.result.lines c.broken.result.ending c.loop-rest.place c.loop-rest.rest
     (c.broken.ensures.lines ∙ kept) (c.broken.ensures.ending ∙ ap (λ (lines : List Line). Broken (length lines + 1)) kept) c.loop-rest.invariant some
     (c.in_ok-next.ensures.none nothing)).1
+
+pub returns-in-None-clause-some : goal.returns-in-None-clause-some
+returns-in-None-clause-some c =
+    let nothing : c.in_ok-next.field-0 ≡ None = search rules in
+    let kept : c.add_line.new.lines ≡ c.loop-rest.lines = c.in_ok-next.ensures.same nothing in
+    read_some c.args.text.now c.loop-rest.lines c.broken.result.lines c.loop-rest.place c.loop-rest.rest (c.broken.ensures.lines ∙ kept)
+    c.loop-rest.invariant
+
+pub returns-clause-some : goal.returns-clause-some
+returns-clause-some c =
+    read_some c.args.text.now c.loop-rest.lines c.ended.result.lines c.loop-rest.place c.loop-rest.rest c.ended.ensures.lines c.loop-rest.invariant
 
 pub returns-clause-only : goal.returns-clause-only
 returns-clause-only c =
