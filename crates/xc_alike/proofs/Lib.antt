@@ -1,0 +1,3 @@
+pub mod CountedAlike
+pub mod LeadingAlike
+pub mod Standings

@@ -1,0 +1,5 @@
+pub mod Counts
+pub mod Gathering
+pub mod Grammar
+pub mod Parting
+pub mod Parts
