@@ -1,0 +1,5 @@
+mod Continuing
+mod Following
+mod Beginning
+mod Children
+mod Entering

@@ -1,0 +1,7 @@
+mod Fronts
+mod Entering
+mod Orders
+mod Naming
+mod Numbering
+mod Clashing
+pub mod Counted

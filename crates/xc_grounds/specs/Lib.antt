@@ -1,0 +1,3 @@
+pub mod Groundless
+pub mod Numbered
+pub mod Places

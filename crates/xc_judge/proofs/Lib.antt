@@ -1,0 +1,13 @@
+mod PlainSteps
+mod PlainReplies
+mod Handed
+mod Lates
+mod StartedBlocks
+mod Committing
+mod Aborting
+mod Replying
+mod Blocking
+mod Behind
+mod Newest
+mod Parts
+mod Stopped

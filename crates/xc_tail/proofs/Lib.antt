@@ -1,0 +1,6 @@
+mod JobEnds
+mod KeptOrder
+mod KeptFronts
+mod KeptWorlds
+mod Counting
+mod Parts

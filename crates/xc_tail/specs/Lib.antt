@@ -1,0 +1,4 @@
+pub mod Tails
+pub mod JobLines
+pub mod KeptLines
+pub mod ShownTotals
