@@ -1,0 +1,5 @@
+pub mod Rounds
+pub mod Gathers
+pub mod Parts
+pub mod Sound
+pub mod Moves

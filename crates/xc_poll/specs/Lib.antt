@@ -1,0 +1,5 @@
+pub mod Tasks
+pub mod Polls
+pub mod Crews
+pub mod Askings
+pub mod Alls
