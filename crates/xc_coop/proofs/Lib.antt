@@ -1,0 +1,4 @@
+mod Choices
+mod Finishing
+mod Meeting
+mod Numbers
