@@ -38,6 +38,12 @@ IsCauseOf cause.NoMemory last = Unit {0}
 IsCauseOf (cause.Revoked object by at) last = Unit {0}
 IsCauseOf (cause.Stuck failed) last = last ≡ ask.Call call.Back
 
+-- why a transaction was aborted whose calls left so many records: it was asked what leads there, and a way back got stuck at a
+-- record of its block
+pub record IsCaused (k : RecordCount) (last : Ask) (report : Report) : Type 0 where
+  pub asked : IsCauseOf report.cause last
+  pub stuck : IsStuckIn k 1 report.records report.cause
+
 -- an attempt that is to be tried again
 abbrev pub is_tried_again : Cause → Bool
 is_tried_again (cause.Conflict object holder at) = true
@@ -86,12 +92,10 @@ IsHeld ran last (Committed late) held = held ≡ held_of ran.touched
 IsHeld ran last (Aborted report) held = IsHeldAt ran last report.cause held
 
 -- ---- its records
--- what a report says of records, where the calls left so many: each has its record, the compensations have legal ends, and a way
--- back got stuck at a record of its block
+-- what a report says of records, where the calls left so many: each has its record, and the compensations have legal ends
 pub record IsReport (tries : ℕ) (k : RecordCount) (report : Report) : Type 0 where
   pub count : HasRecords k report.cause (length report.records)
   pub legal : AreLegal tries 1 report.records
-  pub stuck : IsStuckIn k 1 report.records report.cause
 
 -- the records that a call without memory left after: none, or that of the call whole or of a front of its bytes
 abbrev pub AreLeftBy : BodyResult → ℕ → Call → List Undo → Type 0

@@ -15,7 +15,7 @@ use Rattle.xc_world.specs.Run.{body_fits, asked_of}
 use Rattle.xc_world.specs.World.{State}
 use Rattle.xc_model.specs.declared.rules.Rules.{Rules}
 use Rattle.xc_model.specs.Course.{Course, Standing, after_course, opening_course, standing_of}
-use Rattle.xc_model.specs.EntryEnds.{AreRecords, IsCauseOf, IsCommit, IsHeld, IsReport, cause_in, failures_with, next_claims}
+use Rattle.xc_model.specs.EntryEnds.{AreRecords, IsCaused, IsCommit, IsHeld, IsReport, cause_in, failures_with, next_claims}
 use Rattle.xc_model.specs.Grounds.{Part, AreGrounded, scene_of}
 use Rattle.xc_model.specs.InTime.{AreInTime}
 use Rattle.xc_model.specs.Progress.{body_of, private_of}
@@ -73,9 +73,9 @@ HasRecordsOf t c last e (Committed late) = Unit {0}
 HasRecordsOf t c last e (Aborted report) = HasReport t c last e report
 
 -- asked: a committed transaction's commit, or what led to the abort
-abbrev pub IsEndAsked : Ask → Outcome → Type 0
-IsEndAsked last (Committed late) = last ≡ ask.Commit
-IsEndAsked last (Aborted report) = IsCauseOf report.cause last
+abbrev pub IsEndAsked : Ask → Entry → Outcome → Type 0
+IsEndAsked last e (Committed late) = last ≡ ask.Commit
+IsEndAsked last e (Aborted report) = IsCaused (all_records no_records e.calls e.replies) last report
 
 -- an entry of the job that stands so; `last` was asked after its replies
 pub record IsMachineEntry (t : Terms) (c : Course) (last : Ask) (f : Standing) (e : Entry) : Type 0 where
@@ -85,7 +85,7 @@ pub record IsMachineEntry (t : Terms) (c : Course) (last : Ask) (f : Standing) (
   pub lates : HasLates t c e e.outcome
   pub records : HasRecordsOf t c last e e.outcome
   pub held : IsTrue t.tells → IsHeld (body_of c.state e) last e.outcome e.held
-  pub asked : IsEndAsked last e.outcome
+  pub asked : IsEndAsked last e e.outcome
 
 -- its job is started
 pub record IsMachineTrue (t : Terms) (c : Course) (last : Ask) (e : Entry) : Type 0 where

@@ -28,7 +28,7 @@ use Rattle.xc_model.specs.Progress.{Following, Progress, private_of, body_of, ru
 use Rattle.xc_model.specs.Setting.{Setting}
 use Rattle.xc_model.specs.RecordCounts.{RecordCount, no_records, all_records, IsStuckIn}
 use Rattle.xc_model.specs.Asked.{next_of}
-use Rattle.xc_model.specs.EntryEnds.{IsReport, IsHeld, IsHeldAt, IsCauseOf, AreRecords}
+use Rattle.xc_model.specs.EntryEnds.{IsReport, IsHeld, IsHeldAt, IsCauseOf, IsCaused, AreRecords}
 use Rattle.xc_model.specs.Joint.{IsEntry, IsAskedFor, IsPlayedOutcome}
 use Rattle.xc_model.specs.Serial.{is_asked, is_final}
 use Rattle.xc_world.specs.Ends.{Ending, AreLegal, blocker, is_undone}
@@ -81,11 +81,11 @@ asked_where (cause.Stuck failed) k us e stuck =
 asked_where _ k us e stuck = cc
 
 -- where each record was undone without a fault, no way back got stuck: the script asked for the abort
-pub asked_is : (tries : ℕ) (k : RecordCount) (report : Report) → 1 ≤ tries → IsReport tries k report → sum_by undo_faults report.records ≡ 0
-    → is_asked report.cause ≡ true → report.cause ≡ cause.Asked
-asked_is tries k report some is none asked =
+pub asked_is : (tries : ℕ) (k : RecordCount) (last : Ask) (report : Report) → 1 ≤ tries → IsReport tries k report → IsCaused k last report
+    → sum_by undo_faults report.records ≡ 0 → is_asked report.cause ≡ true → report.cause ≡ cause.Asked
+asked_is tries k last report some is caused none asked =
     asked_where report.cause k (map (λ r. r.0) report.records) asked
-    (subst (λ rs. IsStuckIn k 1 rs report.cause) (all_undone tries 1 report.records some is.legal none) is.stuck)
+    (subst (λ rs. IsStuckIn k 1 rs report.cause) (all_undone tries 1 report.records some is.legal none) caused.stuck)
 
 -- why an entry was aborted, where it was
 abbrev IsCausedBy : Outcome → Cause → Type 0
@@ -97,13 +97,13 @@ asked_for : (tries : ℕ) (e : Entry) (next : Ask) (o : Outcome) → 1 ≤ tries
     → is_final o ≡ true → IsCausedBy o cause.Asked
 asked_for tries e next (Committed late) some asked none settled = tt
 asked_for tries e next (Aborted report) some asked none settled =
-    asked_is tries (all_records no_records e.calls e.replies) report some asked.1 none settled
+    asked_is tries (all_records no_records e.calls e.replies) next report some asked.1 asked.0 none settled
 
 -- it asks no call after its last reply
 end_asked : (tries : ℕ) (e : Entry) (next : Ask) (o : Outcome) → IsAskedFor tries e next o → IsCausedBy o cause.Asked → asks_call next ≡ false
 end_asked tries e next (Committed late) asked why = ap asks_call asked.0
 end_asked tries e next (Aborted report) asked why =
-    let aborts : next ≡ ask.Abort = subst (λ c. IsCauseOf c next) why asked.0 in
+    let aborts : next ≡ ask.Abort = subst (λ c. IsCauseOf c next) why asked.0.asked in
     ap asks_call aborts
 
 -- what it held is what its calls touched
@@ -137,7 +137,7 @@ same_outcome tries p e next (Committed late) some asked played faults starved wh
     ap (λ l. (lates ran.world l).ends) (fine_asked ran.late late faults starved) in
     ap Committed (sym played.ends ∙ fine) ∙ sym (ap (outcome_of (run_of p.state e [])) asked.0)
 same_outcome tries p e next (Aborted report) some asked played faults starved why =
-    let aborts : next ≡ ask.Abort = subst (λ c. IsCauseOf c next) why asked.0 in
+    let aborts : next ≡ ask.Abort = subst (λ c. IsCauseOf c next) why asked.0.asked in
     let trail : map (λ (r : Ending). r.0) report.records ≡ (body_of p.state e).trail =
     subst (λ c. AreRecords (body_of p.state e) e.tx next c (map (λ r. r.0) report.records)) why played in
     let records = all_undone tries 1 report.records some asked.1.legal faults ∙ ap undone trail in

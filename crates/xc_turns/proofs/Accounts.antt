@@ -67,7 +67,7 @@ module _ (a : Account) where
         each = asked.1;
         late = λ tells. ends_are (body_of a.before.state a.entry).world (body_of a.before.state a.entry).late ends (played tells).ends;
       }
-  outcome_accounts (Aborted report) asked played ground = cause_accounts report.records report.cause asked.0 asked.1.stuck ground
+  outcome_accounts (Aborted report) asked played ground = cause_accounts report.records report.cause asked.0.asked asked.0.stuck ground
 
 entry_accounts : (s : Setting) (journal : List Entry) (place : ℕ) (e : Entry) → IsTrueEntry s (progress_before s journal place) e
     → (account_of s journal place e).next ≡ asked_behind s.script (following_of (progress_before s journal place) e) e.replies

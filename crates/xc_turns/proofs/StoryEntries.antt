@@ -25,7 +25,7 @@ use Rattle.xc_model.specs.Progress.{Following, Progress, after_entry, after_foll
 use Rattle.xc_model.specs.Progress.{committed_job, started_job, untried}
 use Rattle.xc_model.specs.RecordCounts.{HasRecords, IsStuckIn, all_records, no_records}
 use Rattle.xc_model.specs.Asked.{next_of}
-use Rattle.xc_model.specs.EntryEnds.{AreRecords, IsHeldAt, IsReport, is_tried_again}
+use Rattle.xc_model.specs.EntryEnds.{AreRecords, IsCaused, IsHeldAt, IsReport, is_tried_again}
 use Rattle.xc_model.specs.Joint.{IsPlayed, IsTrueEntry}
 use Rattle.xc_model.specs.Moment.{TxView, late_left}
 use Rattle.xc_model.specs.LateCalls.{started_late}
@@ -173,6 +173,15 @@ report_so s f place tx c undoes none under undoing =
     record {
       count = subst (HasRecords k c) all count;
       legal = subst (λ (us : List Undo). AreLegal s.rules.undo_tries (length us + 1) tx.undo.ended) none undoing.legal;
+    }
+
+-- and its cause is what it was asked, or a way back that got stuck
+caused_so : (s : Setting) (f : Following) (tx : TxView) (c : Cause) → tx.undo.pending ≡ [] → IsUndoing s f tx c
+    → IsCaused (all_records no_records tx.calls tx.replies) (next_of s.script f tx.replies) (record { cause = c; records = tx.undo.ended })
+caused_so s f tx c none undoing =
+    let k = all_records no_records tx.calls tx.replies in
+    record {
+      asked = undoing.caused;
       stuck = subst (λ (us : List Undo). IsStuckIn k (length us + 1) tx.undo.ended c) none undoing.stuck;
     }
 
@@ -195,7 +204,7 @@ abort_true s words p f at place tx c got undoes none under began said played =
           rank = under.rank;
           failures = few_tried (is_tried_again c) (length f.failed) s.rules.attempts under.attempts;
           calls = under.asked;
-          asked = (undoing.caused, report_so s f place tx c undoes none under undoing);
+          asked = (caused_so s f tx c none undoing, report_so s f place tx c undoes none under undoing);
           faults = under.faults;
         };
         words = said;

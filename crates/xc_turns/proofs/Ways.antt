@@ -55,7 +55,7 @@ module _ (s : Setting) (p : Progress) (e : Entry) (next : Ask) where
   records_part (Committed late) asked played = tt
   records_part (Aborted report) asked played = record { counted = asked.1; played = played }
 
-  asked_part : (o : Outcome) → IsAskedFor s.rules.undo_tries e next o → IsEndAsked next o
+  asked_part : (o : Outcome) → IsAskedFor s.rules.undo_tries e next o → IsEndAsked next e o
   asked_part (Committed late) asked = asked.0
   asked_part (Aborted report) asked = asked.0
 
@@ -175,7 +175,7 @@ parts_of_joint s journal h =
 
 -- ---- and back
 module _ (s : Setting) (p : Progress) (e : Entry) (last : Ask) where
-  asked_back : (o : Outcome) → IsEndAsked last o → HasLates (terms_of s) (course_in p) e o → HasRecordsOf (terms_of s) (course_in p) last e o
+  asked_back : (o : Outcome) → IsEndAsked last e o → HasLates (terms_of s) (course_in p) e o → HasRecordsOf (terms_of s) (course_in p) last e o
       → IsAskedFor s.rules.undo_tries e last o
   asked_back (Committed late) asked lates records = (asked, lates.count)
   asked_back (Aborted report) asked lates records = (asked, records.counted)
