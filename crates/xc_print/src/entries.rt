@@ -124,8 +124,9 @@ fn push_outcome(out: &mut Page, outcome: &Outcome) -> Result<(), NoMemory>
     }
 }
 
+/// An entry, with its lines.
 #[tactic(auto, using(crate::proofs::Pieces::four_pieces))]
-fn push_entry(out: &mut Page, entry: &Entry) -> Result<(), NoMemory>
+pub fn push_entry(out: &mut Page, entry: &Entry) -> Result<(), NoMemory>
     ensures { OnOk result (out.new ≡ out.old ++ entry_text entry.now) }
 {
     push_head(out, entry)?;

@@ -23,6 +23,6 @@ pub use kept::push_message;
 pub use objects::{push_held, push_labelled};
 pub use page::Page;
 pub use records::{push_made, push_moved, push_overwrite, push_tail, push_undo_end};
-pub use rendering::{push_totals, render};
+pub use rendering::{entry_text, job_text, push_totals, render};
 pub use replies::push_late_end;
 pub use totals::{Totals, end_faults_of, entry_faults_of, remaining_effects};

@@ -1,14 +1,15 @@
 ghost use Rattle.std.specs.Prelude.{◌≡◌, ◌++◌, ◌≤◌, length, IfOk, OnOk};
 ghost use Rattle.std.specs.Fmt.{decimal};
+ghost use Rattle.xc_print.specs.Entries.{entry_text};
 ghost use Rattle.xc_print.specs.Text.{job_end_text, job_line, job_lines, word_line, word_lines, rendered};
 ghost use Rattle.xc_print.specs.Totals.{totals_line};
 
 use crate::Totals;
-use crate::entries::push_journal;
+use crate::entries::{push_entry, push_journal};
 use crate::kept::push_kept;
 use crate::page::Page;
 use std::alloc::Global;
-use xc_data::{Entry, JobEnd, JobLine, KeptItem, NoMemory, Text};
+use xc_data::{Entry, Ident, JobEnd, JobLine, KeptItem, NoMemory, Text};
 
 fn push_job_end(out: &mut Page, end: &JobEnd) -> Result<(), NoMemory>
     ensures { OnOk result (out.new ≡ out.old ++ job_end_text end.now) }
@@ -117,6 +118,28 @@ fn room_for(journal: &[Entry]) -> usize {
         room = room.saturating_add(room_of(entry));
     }
     room
+}
+
+/// The lines of an entry.
+pub fn entry_text(alloc: Global, entry: &Entry) -> Result<Text, NoMemory>
+    ensures { IfOk result (λ text. text ≡ entry_text entry.now) }
+{
+    let mut out = Page::with_room(alloc, room_of(entry));
+    push_entry(&mut out, entry)?;
+    Ok(out.into_text())
+}
+
+/// The line of a job.
+pub fn job_text(alloc: Global, number: u32, block: Ident, end: &JobEnd) -> Result<Text, NoMemory>
+    ensures { IfOk result (λ text. text ≡ job_line number (record { block = block; end = end.now })) }
+{
+    let mut out = Page::new(alloc);
+    let line = JobLine {
+        block,
+        end: end.again(),
+    };
+    push_job(&mut out, number as usize, &line)?;
+    Ok(out.into_text())
 }
 
 /// The text of a run: its journal, its jobs in the order of their numbers, its words, and the kept data in the order in which

@@ -1,5 +1,5 @@
 ghost use Rattle.std.specs.Prelude.{◌≡◌, ◌↔◌, ◌++◌, ◌∷◌, [], ◌+◌, ◌≤◌, ◌<◌, length, take, slice_get, slice_set, Some, IsTrue, IsOk, OnOk};
-ghost use Rattle.std.specs.Prelude.{OnErr};
+ghost use Rattle.std.specs.Prelude.{OnErr, reverse};
 
 use std::alloc::Global;
 use std::marker::Model;
@@ -86,6 +86,14 @@ impl<T> Roomy<T> {
         ensures { result.now ≡ self.now.items }
     {
         self.items.as_slice()
+    }
+
+    /// Turns the items round: the last one comes first. It takes no memory.
+    pub fn reverse(&mut self)
+        ensures items { self.new.items ≡ reverse self.old.items }
+        ensures spare { self.new.spare ≡ self.old.spare }
+    {
+        self.items.as_mut_slice().reverse();
     }
 
     /// The room that is left is given back. It takes no memory.

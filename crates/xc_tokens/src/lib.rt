@@ -18,7 +18,7 @@ mod words;
 pub use escaped::Escaped;
 pub use lines::{TextLine, first_line};
 pub use literals::{are_literals, contents, is_within, repeated};
-pub use numbers::is_digit_byte;
+pub use numbers::{is_digit_byte, spelled_number};
 pub use reason::{beside, both};
 pub use spelled::IdentWord;
 pub use tables::by_word;

@@ -14,7 +14,7 @@ pub(super) fn replaced(
     requires { at + length bytes.now ≤ length file.now }
     ensures { IfOk result (λ next. next ≡ overwritten at bytes.now file.now) }
 {
-    let mut next = Vec::new(alloc);
+    let mut next = Vec::with_capacity(alloc, file.len())?;
     next.extend_from_slice(&file[..at])?;
     next.extend_from_slice(bytes)?;
     next.extend_from_slice(&file[at + bytes.len()..])?;
@@ -25,7 +25,7 @@ pub(super) fn replaced(
 pub(super) fn joined(alloc: Global, front: &[u8], bytes: &[u8]) -> Result<Chunk, NoMemory>
     ensures { IfOk result (λ next. next ≡ front.now ++ bytes.now) }
 {
-    let mut next = Vec::new(alloc);
+    let mut next = Vec::with_capacity(alloc, front.len().saturating_add(bytes.len()))?;
     next.extend_from_slice(front)?;
     next.extend_from_slice(bytes)?;
     Chunk::from_vec(next)
