@@ -20,6 +20,7 @@ pub mod Leaving
 pub mod Lending
 pub mod Lent
 pub mod Lines
+pub mod Named
 pub mod Notes
 pub mod Placed
 pub mod PutBack

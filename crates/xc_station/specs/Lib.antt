@@ -6,6 +6,7 @@ pub mod Finishing
 pub mod Jobs
 pub mod Lent
 pub mod Moments
+pub mod Names
 pub mod Places
 pub mod PutBack
 pub mod Returning

@@ -3,6 +3,7 @@ ghost use Rattle.std.specs.Prelude.{IsTrue, IsNone, MatchOption, Some};
 ghost use Rattle.xc_host.specs.Model.{plan_of};
 ghost use Rattle.xc_model.specs.Setting.{setting};
 ghost use Rattle.xc_station.specs.Jobs.{is_live, job_views};
+ghost use Rattle.xc_station.specs.Names.{IsNameOf, name_at};
 ghost use Rattle.xc_station.specs.Places.{IndexesBlocks};
 ghost use Rattle.xc_station.specs.Stations.{AreAhead, IsNextOf, KeepsEvents};
 ghost use Rattle.xc_station.specs.Stations.{live_at, now_of};
@@ -18,7 +19,7 @@ use crate::job::Job;
 use crate::start::Opening;
 use std::alloc::Global;
 use std::marker::Model;
-use xc_data::{Event, JobLine};
+use xc_data::{Entry, Event, Ident, JobLine};
 use xc_host::Host;
 use xc_journal::Journal;
 use xc_maps::IdentMap;
@@ -93,6 +94,16 @@ impl<H: Host> Model for Station<H> {
         × AllBackSafely s.rules.undo_tries s.jobs.items };
 }
 
+// The name of the job of this number; none where no such job was started.
+fn name_in(started: &[Ident], job: u32) -> Option<Ident>
+    ensures { result ≡ name_at started.now job }
+{
+    if job == 0 {
+        return None;
+    }
+    started.get(job as usize - 1).copied()
+}
+
 impl<H: Host> Station<H> {
     /// Whether the job of this number exists and hasn't ended.
     pub fn live(&self, job: u32) -> bool
@@ -113,6 +124,23 @@ impl<H: Host> Station<H> {
         ensures few { result ≤ 1000 }
     {
         self.jobs.len() as u32
+    }
+
+    /// The journal so far. It takes no memory.
+    pub fn journal(&self) -> &[Entry]
+        ensures { result.now ≡ self.now.journal }
+    {
+        self.journal.as_slice()
+    }
+
+    /// The block of the job of this number; `None` exactly where no such job was started. It takes no memory.
+    pub fn name(&self, job: u32) -> Option<Ident>
+        ensures started { result ≡ name_at self.now.started job }
+
+        // That of a job which is live or has ended is the one that the journal tells.
+        ensures told { 1 ≤ job → job ≤ length self.now.jobs → IsNameOf self.now.opening.script self.now.journal job result }
+    {
+        name_in(self.shared.started.as_slice(), job)
     }
 
     /// The live job with the smallest number above this one. A job that has ended isn't looked at again from the same number on.
