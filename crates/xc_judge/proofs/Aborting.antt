@@ -1,6 +1,6 @@
 -- After an aborted entry: its records were made one after another, and what remains of them leaves a state open to other numbers.
-use Rattle.std.proofs.Common.{inl, inr, ◌≡◌, ◌≢◌, ℕ, ◌+◌, ◌-◌, ◌==◌, Option, Some, List, [], ◌∷◌, ◌++◌, length, ap, sym, ◌∙◌, subst}
-use Rattle.std.specs.Prelude.{if◌then◌else◌, All, IsTrue, map, slice_get, slice_set, unwrap_or}
+use Rattle.std.proofs.Common.{inl, inr, ◌≡◌, ◌≢◌, ℕ, ◌+◌, ◌-◌, Option, Some, List, [], ◌∷◌, ◌++◌, ap, sym, ◌∙◌, subst}
+use Rattle.std.specs.Prelude.{All, IsTrue, map, slice_get, slice_set, unwrap_or}
 use Rattle.std.proofs.lemmas.Bool.{and_from}
 use Rattle.std.proofs.lemmas.List.{append-nil}
 use Rattle.std.proofs.lemmas.List.Elements.{All-append, All-cons, All-nil}
@@ -9,11 +9,9 @@ use Rattle.xc_data.specs.declared.call.Call.{Call}
 use Rattle.xc_data.specs.declared.call.Call.TheVariants as call
 use Rattle.xc_data.specs.declared.call.CallWithAnswer.{CallWithAnswer}
 use Rattle.xc_data.specs.declared.call.Reply.{Reply}
-use Rattle.xc_data.specs.declared.call.Reply.TheVariants as reply
 use Rattle.xc_data.specs.declared.entry.Cause.{Cause}
 use Rattle.xc_data.specs.declared.entry.Cause.TheVariants as cause
 use Rattle.xc_data.specs.declared.private.Place.{Place}
-use Rattle.xc_data.specs.declared.private.Place.TheVariants as place
 use Rattle.xc_data.specs.declared.private.Private.{Private}
 use Rattle.xc_data.specs.declared.undo.Undo.{Undo}
 use Rattle.xc_script.specs.declared.ask.Ask.{Ask}
@@ -24,14 +22,12 @@ use Rattle.xc_world.specs.Ends.{Ending, remains, with_remains}
 use Rattle.xc_world.specs.Fits.{fits}
 use Rattle.xc_world.specs.Run.{BodyResult, BlockState, body, body_fits, opens, step}
 use Rattle.xc_world.specs.Sound.{IsSound}
-use Rattle.xc_world.specs.Trail.{append_record, create_record, done_of, overwrite_record, pair_record, pipe_record, recorded, rename_record}
+use Rattle.xc_world.specs.Trail.{recorded}
 use Rattle.xc_world.specs.World.{World, beginning, no_handles}
 use Rattle.xc_world.proofs.Blocks.{Fits, fit_all, runs_keep}
 use Rattle.xc_world.proofs.EffectsRemains.{remains-sound}
 use Rattle.xc_world.proofs.EffectsTrail.{body-made}
 use Rattle.xc_world.proofs.Joined.{body_last, body_fits_last}
-use Rattle.xc_world.proofs.SoundParts.{chosen_so}
-use Rattle.xc_data.specs.Private.{place_of}
 use Rattle.xc_data.specs.declared.entry.Entry.{Entry}
 use Rattle.xc_data.specs.declared.entry.Outcome.{Outcome}
 use Rattle.xc_data.specs.declared.entry.Outcome.TheVariants.{Aborted}
@@ -42,53 +38,32 @@ use Rattle.xc_model.specs.EntryEnds.{AreLeft, AreLeftBy, AreRecords}
 use Rattle.xc_model.specs.Progress.{words_left}
 use Rattle.xc_judge.specs.Judged.{IsNumbered}
 use Rattle.xc_judge.proofs.Committing.{led}
+use Rattle.xc_judge.proofs.Recording.{each_recorded}
 
 -- ---- the records of one transaction make nothing that another is still to make
 module _ (you : Private) (ty tx : ℕ) (apart : ty ≢ tx) where
-  one_or_none : (n : ℕ) (u : Undo) → SparesNew you ty u → All (SparesNew you ty) (if n == 0 then [] else u ∷ [])
-  one_or_none n u spares =
-      chosen_so (All (SparesNew you ty)) (n == 0) _ _ (λ _. All-nil (SparesNew you ty))
-      (λ _. All-cons (SparesNew you ty) u [] spares (All-nil (SparesNew you ty)))
-
+  -- a record that makes nothing of another, alone
   one : (u : Undo) → SparesNew you ty u → All (SparesNew you ty) (u ∷ [])
   one u spares = All-cons (SparesNew you ty) u [] spares (All-nil (SparesNew you ty))
 
-  overwrite_spares : (w : World) (bytes : List ℕ) (n : ℕ) (p : Place) → All (SparesNew you ty) (overwrite_record w bytes n p)
-  overwrite_spares w bytes n (place.File num at) = one_or_none n _ tt
-  overwrite_spares w bytes n _ = All-nil (SparesNew you ty)
-
-  append_spares : (w : World) (bytes : List ℕ) (n : ℕ) (p : Place) → All (SparesNew you ty) (append_record w bytes n p)
-  append_spares w bytes n (place.File num at) = one_or_none n _ tt
-  append_spares w bytes n _ = All-nil (SparesNew you ty)
-
-  create_spares : (me : Private) (name : List ℕ) (r : Reply) → All (SparesNew you ty) (create_record me tx name r)
-  create_spares me name (reply.Made h) = one _ (λ e. absurd (apart (sym e)))
-  create_spares me name _ = All-nil (SparesNew you ty)
-
-  rename_spares : (from to : List ℕ) (r : Reply) → All (SparesNew you ty) (rename_record from to r)
-  rename_spares from to reply.Done = one _ tt
-  rename_spares from to _ = All-nil (SparesNew you ty)
-
-  pipe_spares : (me : Private) (r : Reply) → All (SparesNew you ty) (pipe_record me tx r)
-  pipe_spares me (reply.Made h) = one _ (λ e. absurd (apart (sym e)))
-  pipe_spares me _ = All-nil (SparesNew you ty)
-
-  pair_spares : (me : Private) (r : Reply) → All (SparesNew you ty) (pair_record me tx r)
-  pair_spares me (reply.MadePair h g) = one _ (λ e. absurd (apart (sym e)))
-  pair_spares me _ = All-nil (SparesNew you ty)
-
+  -- what a call leaves
   recorded_spares : (w : World) (me : Private) (c : Call) (r : Reply) → All (SparesNew you ty) (recorded w me tx c r)
-  recorded_spares w me (call.XWriteOvr h bytes) r = overwrite_spares w bytes (done_of (length bytes) r) (place_of me.places h)
-  recorded_spares w me (call.XWriteSeq h bytes) r = append_spares w bytes (done_of (length bytes) r) (place_of me.places h)
-  recorded_spares w me (call.XCreate name) r = create_spares me name r
-  recorded_spares w me (call.XRename from to) r = rename_spares from to r
-  recorded_spares w me call.XPipe r = pipe_spares me r
-  recorded_spares w me call.XPair r = pair_spares me r
-  recorded_spares w me _ r = All-nil (SparesNew you ty)
+  recorded_spares w me c r =
+      each_recorded (All (SparesNew you ty)) w me tx c r (record {
+        none = All-nil (SparesNew you ty);
+        bytes = λ write file at before after n. one _ tt;
+        tail = λ write file from after n. one _ tt;
+        made = λ name. one _ (λ e. absurd (apart (sym e)));
+        moved = λ from to. one _ tt;
+        pipe = one _ (λ e. absurd (apart (sym e)));
+        pair = one _ (λ e. absurd (apart (sym e)));
+      })
 
+  -- all records of a body are such
   record Spares (r : BodyResult) : Type 0 where
     spares : All (SparesNew you ty) r.trail
 
+  -- so it stays with one call more
   step_spares : (r : BodyResult) (c : CallWithAnswer) → Fits tx r c → Spares r → Spares (step tx r c)
   step_spares r c fit so =
       record {
@@ -126,15 +101,19 @@ pub record AreOwn (w : World) (you : Private) (ty : ℕ) (us : List Undo) : Type
 
 module _ (w : World) (me : Private) (tx : ℕ) (asked : List CallWithAnswer) (sound : IsSound w me tx) (fit : IsTrue (body_fits w me tx asked))
     (you : Private) (ty : ℕ) (apart : ty ≢ tx) where
+  -- the body
   abbrev ran : BodyResult
   ran = body w me tx asked
 
+  -- the records of the calls are such
   own_trail : AreOwn w you ty ran.trail
   own_trail = record { made = body-made w me tx asked sound fit; spares = body_spares you ty tx apart w me asked fit }
 
+  -- and no more are
   own_none : (us more : List Undo) → us ≡ ran.trail ++ more → more ≡ [] → AreOwn w you ty us
   own_none us more is none = subst (AreOwn w you ty) (sym (is ∙ ap (λ m. ran.trail ++ m) none ∙ append-nil ran.trail)) own_trail
 
+  -- with those of one call more
   own_more : (us more : List Undo) (c : Call) (a : Answer) → us ≡ ran.trail ++ more → IsTrue (fits ran.world ran.me tx c a)
       → more ≡ recorded ran.world ran.me tx c (act ran.world ran.me tx c a).reply → AreOwn w you ty us
   own_more us more c a is one left =
@@ -144,10 +123,12 @@ module _ (w : World) (me : Private) (tx : ℕ) (asked : List CallWithAnswer) (so
             (recorded_spares you ty tx apart ran.world ran.me c (act ran.world ran.me tx c a).reply);
       })
 
+  -- with what a call left
   own_left_by : (us more : List Undo) (c : Call) → us ≡ ran.trail ++ more → AreLeftBy ran tx c more → AreOwn w you ty us
   own_left_by us more c is (inl none) = own_none us more is none
   own_left_by us more c is (inr so) = own_more us more c so.0 is so.1 so.2
 
+  -- with what was left of what is asked
   own_left : (us more : List Undo) (last : Ask) → us ≡ ran.trail ++ more → AreLeft ran tx last more → AreOwn w you ty us
   own_left us more (ask.Call c) is left = own_left_by us more c is left
   own_left us more ask.Commit is left = own_none us more is left

@@ -11,6 +11,7 @@ shifted_by : (b : Bool) (from i : ℕ) (o : Option ℕ) → cond b (Some (from +
 shifted_by true from i o = refl
 shifted_by false from i o = refl
 
+-- so the blocker counts from its start
 shifted : (from i : ℕ) (u : Undo) (rs : List Ending) → blocker (from + i) u rs ≡ option_map (λ k. from + k) (position_from (blocks u) i rs)
 shifted from i u [] = refl
 shifted from i u (r ∷ rs) =

@@ -11,11 +11,13 @@ use Rattle.xc_world.specs.World.{World, beginning, no_handles}
 
 -- ---- one of a list
 module _ {X : Type 0} (P : X → Type 0) (p d : X) (at_p : P p) (at_d : P d) where
+  -- each of so many copies is so
   copied : (n i : ℕ) → P (get_or (replicate n p) i d)
   copied zero i = at_d
   copied (suc n) zero = at_p
   copied (suc n) (suc i) = copied n i
 
+  -- and each of a list of which one is so now
   changed : (xs : List X) (at i : ℕ) → ((k : ℕ) → P (get_or xs k d)) → P (get_or (slice_set xs at p) i d)
   changed [] at i old = at_d
   changed (x ∷ xs) zero zero old = at_p
@@ -23,6 +25,7 @@ module _ {X : Type 0} (P : X → Type 0) (p d : X) (at_p : P p) (at_d : P d) whe
   changed (x ∷ xs) (suc at) zero old = old zero
   changed (x ∷ xs) (suc at) (suc i) old = changed xs at i (λ k. old (suc k))
 
+  -- and each of two lists one behind the other
   behind : (xs ys : List X) (i : ℕ) → ((k : ℕ) → P (get_or xs k d)) → ((k : ℕ) → P (get_or ys k d)) → P (get_or (xs ++ ys) i d)
   behind [] ys i front back = back i
   behind (x ∷ xs) ys zero front back = front zero
@@ -75,6 +78,7 @@ pub open_copies : (w : World) (ty n : ℕ) (places : List Place) → OpenWith w 
     → (job : ℕ) → IsSound w (beginning (unwrap_or (slice_get (replicate n places) (job - 1)) no_handles)) ty
 open_copies w ty n places one none = open_from w ty (replicate n places) (λ k. copied (OpenWith w ty) places no_handles one none n k)
 
+-- no handle is open among vacant ones
 vacant_each : (n h : ℕ) → get_or (replicate n Vacant) h Vacant ≡ Vacant
 vacant_each n h = copied (λ p. p ≡ Vacant) Vacant Vacant refl refl n h
 

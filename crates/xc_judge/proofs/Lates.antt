@@ -18,15 +18,18 @@ use Rattle.xc_world.proofs.SoundParts.{chosen_so}
 abbrev KeepsWords : World → Ended → Type 0
 KeepsWords w s = s.world.words ≡ w.words
 
+-- a file that goes keeps the words
 unlinked_words : (w : World) (name : List ℕ) (found : Option Num) → KeepsWords w (unlinked w name found)
 unlinked_words w name None = refl
 unlinked_words w name (Some num) = refl
 
+-- and so does what is shut
 shut_words : (w : World) (o : Object) → KeepsWords w (shut_down w o)
 shut_words w (object.Pipe num) = refl
 shut_words w (object.Pair num) = refl
 shut_words w _ = refl
 
+-- a late call that is done keeps them
 fine_words : (w : World) (c : LateCall) → KeepsWords w (late_fine w c)
 fine_words w (Unlink name) = unlinked_words w name (map.get w.names name)
 fine_words w (Sync num) = refl
@@ -41,11 +44,13 @@ fine_words w (Thread body) =
     chosen_so (KeepsWords w) (not (is_block w body)) _ _ (λ _. refl)
     (λ _. chosen_so (KeepsWords w) (nat_le 1000 (length w.started)) _ _ (λ _. refl) (λ _. refl))
 
+-- one that stops keeps them
 stopped_words : (w : World) (c : LateCall) (n : ℕ) → (stopped w c n).words ≡ w.words
 stopped_words w (WritePipe num bytes) n =
     chosen_so (λ (v : World). v.words ≡ w.words) (n == 0 || (pipe_of w num).shut) _ _ (λ _. refl) (λ _. refl)
 stopped_words w _ n = refl
 
+-- any late call does
 late_words : (w : World) (c : LateCall) (a : LateAnswer) → KeepsWords w (late w c a)
 late_words w c late_answer.Fine = fine_words w c
 late_words w c (late_answer.Fault n) = stopped_words w c n

@@ -20,9 +20,11 @@ abbrev words_saved : Option BodyResult → Option (List ℕ)
 words_saved None = None
 words_saved (Some saved) = Some saved.world.words
 
+-- the words, and those of the save
 abbrev words_at : BlockState → WordState
 words_at b = record { words = b.now.world.words; saved = words_saved b.saved }
 
+-- a back brings those of the save
 words_back : (now : BodyResult) (ws : List ℕ) (saved : Option BodyResult) → now.world.words ≡ ws
     → words_at (record { now = Rattle.xc_world.specs.Run.back_from saved now; saved = None })
     ≡ word_step (record { words = ws; saved = words_saved saved }) call.Back
@@ -41,6 +43,7 @@ step_words tx b c r one = by_call c (act_words b.now.world b.now.me tx c (answer
     by_call call.Back e = words_back _ b.now.world.words b.saved e
     by_call _ e = ap (λ (xs : List ℕ). record { words = xs; saved = words_saved b.saved }) e
 
+-- replies are those of the words
 words_replied : (tx : ℕ) (b : BlockState) (calls : List Call) (replies : List Reply) → AreReplayedOn tx b calls replies
     → AreWordRepliesFrom (words_at b) calls replies
 words_replied tx b [] replies h = h
@@ -50,6 +53,7 @@ words_replied tx b (c ∷ calls) (r ∷ replies) h = (
   subst (λ s. AreWordRepliesFrom s calls replies) (step_words tx b c r h.0) (words_replied tx (block_step tx b (told c r)) calls replies h.1),
 )
 
+-- and the calls lead to these words
 words_run : (tx : ℕ) (b : BlockState) (calls : List Call) (replies : List Reply) → AreReplayedOn tx b calls replies
     → words_at (runs_on tx b (asked_of calls replies)) ≡ fold word_step (words_at b) calls
 words_run tx b [] replies h = refl
@@ -68,6 +72,7 @@ pub body_words : (w : World) (me : Private) (tx : ℕ) (calls : List Call) (repl
     → (body w me tx (asked_of calls replies)).world.words ≡ words_behind w.words calls
 body_words w me tx calls replies all = ap (λ (s : WordState). s.words) (words_run tx (opens w me) calls replies all)
 
+-- calls reply in time
 in_time : (tx : ℕ) (b : BlockState) (calls : List Call) (replies : List Reply) → AreReplayedOn tx b calls replies → AreInTime calls replies
 in_time tx b [] replies h = h
 in_time tx b (c ∷ calls) [] h = absurd h

@@ -1,7 +1,7 @@
 -- The replies of an entry, by its body that is run again.
-use Rattle.std.proofs.Common.{◌≡◌, ℕ, ◌≤◌, Bool, Option, Some, None, length, List, refl, ap, sym, ◌∙◌, subst}
+use Rattle.std.proofs.Common.{◌≡◌, ℕ, ◌≤◌, Bool, length, List, refl, ap, sym, ◌∙◌, subst}
 use Rattle.std.specs.Bool.{Decides}
-use Rattle.std.specs.Prelude.{All, MatchOption}
+use Rattle.std.specs.Prelude.{All}
 use Rattle.xc_data.specs.declared.call.LateCall.{LateCall}
 use Rattle.xc_data.specs.declared.call.LateEnd.{LateEnd}
 use Rattle.xc_script.specs.Blocks.{kept_calls}
@@ -91,15 +91,6 @@ module _ (s : State) (e : Entry) (w : World) (me : Private) (calls : List Call) 
         ready = ready;
         few = few;
       }
-
--- what is not found is not there
-pub not_found : {X : Type 0} (o : Option X) (P : Type 0) → MatchOption o (P → ⊥) (λ _. P) → ((x : X) → o ≡ Some x → ⊥) → P → ⊥
-not_found None P found none = found
-not_found (Some x) P found none = absurd (none x refl)
-
--- what is found is there
-pub if_some_there : {X : Type 0} (o : Option X) (x : X) (P : Type 0) → o ≡ Some x → MatchOption o (P → ⊥) (λ _. P) → P
-if_some_there o x P is found = subst (λ z. MatchOption z (P → ⊥) (λ _. P)) is found
 
 -- few faults of the code's calls are few of the entry's
 pub few_there : (tries : ℕ) (calls there : List Call) (replies others : List Reply) → calls ≡ there → replies ≡ others

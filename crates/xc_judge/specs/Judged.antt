@@ -1,5 +1,5 @@
 -- What is asked of one entry, by the reasons for which it may be false, over a host that tells.
-use Rattle.std.specs.Prelude.{◌≡◌, ℕ, ◌≤◌, ◌<◌, true}
+use Rattle.std.specs.Prelude.{◌≡◌, ℕ, ◌≤◌, true}
 use Rattle.std.specs.declared.option.Option.TheVariants.{Some}
 use Rattle.xc_data.specs.declared.entry.Entry.{Entry}
 use Rattle.xc_script.specs.declared.ask.Ask.{Ask}
@@ -34,7 +34,7 @@ telling rules = record { rules = rules; tells = true }
 -- story: its job goes on with this attempt, whose end was asked
 pub record IsToldBy (rules : Rules) (c : Course) (last : Ask) (e : Entry) : Type 0 where
   pub attempt : (f : Standing) → standing_of c e ≡ Some f → IsAttempt rules.attempts f e
-  pub asked : IsEndAsked last e.outcome
+  pub asked : IsEndAsked last e e.outcome
 
 -- what each reason denies
 abbrev pub Meets : Rules → Course → Ask → Entry → Reason → Type 0
@@ -53,8 +53,3 @@ place_of_reason reason.Late = 2
 place_of_reason reason.Records = 3
 place_of_reason reason.Held = 4
 place_of_reason reason.Story = 5
-
--- the entry doesn't meet this, but all that comes before it
-pub record IsFirstReason (rules : Rules) (c : Course) (last : Ask) (e : Entry) (why : Reason) : Type 0 where
-  pub fails : Meets rules c last e why → ⊥
-  pub before : (other : Reason) → place_of_reason other < place_of_reason why → Meets rules c last e other

@@ -3,8 +3,6 @@ use Rattle.std.specs.Prelude.{◌≡◌, ℕ, ◌≤◌, Bool, true, false, All,
 use Rattle.xc_data.specs.Claims.{held_of}
 use Rattle.xc_data.specs.declared.entry.Cause.{Cause}
 use Rattle.xc_data.specs.declared.entry.Cause.TheVariants as cause
-use Rattle.xc_data.specs.declared.undo.Undo.{Undo}
-use Rattle.xc_data.specs.declared.undo.Undo.TheVariants.{Bytes, Tail, Made, Moved, NewPipe, NewPair}
 use Rattle.xc_data.specs.declared.undo.UndoEnd.{UndoEnd}
 use Rattle.xc_data.specs.declared.undo.UndoEnd.TheVariants.{Undone, Failed, Blocked}
 use Rattle.xc_world.specs.Run.{BodyResult}
@@ -21,15 +19,6 @@ pub record IsRan (ran : Ran) (b : BodyResult) (tx : ℕ) : Type 0 where
   pub sound : IsSound ran.world ran.me tx
   pub ready : All (IsReady ran.world) ran.traced.replied.late
   pub few : length ran.world.words ≤ 4096
-
--- how many bytes a record covers: none where it is not one of a write
-abbrev pub covered_of : Undo → ℕ
-covered_of (Bytes file at before after n) = n
-covered_of (Tail file from after n) = n
-covered_of (Made name num) = 0
-covered_of (Moved from to) = 0
-covered_of (NewPipe num) = 0
-covered_of (NewPair num) = 0
 
 -- whether memory ran out
 abbrev pub is_starved : Cause → Bool

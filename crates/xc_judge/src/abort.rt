@@ -1,7 +1,8 @@
-ghost use Rattle.std.specs.Prelude.{◌≡◌, ◌≢◌, ◌≤◌, ◌<◌, ◌+◌, ◌^◌, ℕ, length, map, slice_get, slice_set, IfOk, OnOk};
+ghost use Rattle.std.specs.Prelude.{◌≡◌, ◌≢◌, ◌<◌, ◌+◌, ◌^◌, ℕ, length, slice_get, slice_set, IfOk, OnOk};
 ghost use Rattle.std.specs.declared.option.Option.TheVariants.{Some};
 ghost use Rattle.xc_data.specs.declared.entry.Outcome.TheVariants.{Aborted};
 ghost use Rattle.xc_judge.specs.Judged.{IsNumbered, IsOpenTo};
+ghost use Rattle.xc_judge.specs.Traced.{undos_of};
 ghost use Rattle.xc_model.specs.Course.{Standing as PlainStanding, after_course, standing_abort};
 ghost use Rattle.xc_model.specs.EntryEnds.{AreRecords};
 ghost use Rattle.xc_model.specs.Machine.{IsPlayedBody};
@@ -74,7 +75,7 @@ impl Progress {
         requires open { IsOpenTo self entry.now.tx }
         requires played { IsPlayedBody self.state entry.now }
         requires records { (last : Ask) × AreRecords (body_of self.state entry.now) entry.now.tx last report.now.cause
-            (map (λ r. r.0) report.now.records) }
+            (undos_of report.now.records) }
         ensures value { IfOk result (λ next. next ≡ after_course self entry.now) }
         ensures open { (ty : ℕ) → (ty ≢ entry.now.tx) → IsOpenTo self ty → IfOk result (λ next. IsOpenTo next ty) }
     {

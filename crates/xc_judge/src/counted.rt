@@ -1,6 +1,6 @@
-ghost use Rattle.std.specs.Prelude.{◌≡◌, ◌≤◌, ◌<◌, ◌+◌, ◌^◌, length};
+ghost use Rattle.std.specs.Prelude.{◌≡◌, ◌≤◌, ◌<◌, ◌+◌, ◌^◌};
 ghost use Rattle.xc_judge.specs.Counts.{counts};
-ghost use Rattle.xc_model.specs.RecordCounts.{all_records, no_records, record_count, records_with, written_count};
+ghost use Rattle.xc_model.specs.RecordCounts.{no_records, record_count, records_with, written_count};
 
 use xc_data::{Call, Chunk, Reply};
 
@@ -42,6 +42,7 @@ fn record_count(call: &Call, reply: &Reply) -> usize
 }
 
 impl Counted {
+    /// Before the first call.
     pub(crate) fn none() -> Counted
         ensures { counts result ≡ no_records }
     {

@@ -9,9 +9,9 @@ ghost use Rattle.xc_model.specs.Progress.{private_of};
 
 use crate::handles::hand_on;
 use crate::progress::push_jobs;
-use crate::started::started;
 use crate::{Progress, Standing};
 use std::alloc::Global;
+use xc_asked::started;
 use xc_data::{Entry, LateEnd, NoMemory, Private};
 use xc_machine::{replay_body, replay_lates};
 

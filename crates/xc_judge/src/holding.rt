@@ -1,5 +1,5 @@
 ghost use Rattle.std.specs.Bool.{Decides};
-ghost use Rattle.std.specs.Prelude.{◌≡◌, ◌≤◌, [], List, IfOk, length};
+ghost use Rattle.std.specs.Prelude.{◌≡◌, ◌≤◌, List, IfOk, length};
 ghost use Rattle.xc_data.specs.Claims.{holding};
 ghost use Rattle.xc_data.specs.declared.claim.Claim.{Claim as PlainClaim};
 ghost use Rattle.xc_judge.specs.Ran.{IsRan};
@@ -19,6 +19,7 @@ use xc_world::push_claims;
 
 // ---- lists of claims
 
+// Two claims are the same.
 fn is_same(a: &Claim, b: &Claim) -> bool
     ensures { Decides result (a.now ≡ b.now) }
 {
@@ -76,14 +77,17 @@ fn holds_part(
     Ok(yes)
 }
 
-// What is asked next claims these objects.
-fn next_claims(claims: &mut ArrayVec<Claim, 2>, ran: &Ran, last: &Ask)
-    requires empty { claims.old.items ≡ [] }
-    requires few { length ran.now.world.words ≤ 4096 }
-    ensures { (b : BodyResult) → ran.now.world ≡ b.world → ran.now.me ≡ b.me → claims.new.items ≡ next_claims b last.now }
-{
-    if let Ask::Call(call) = last {
-        push_claims(claims, call, &ran.me, ran.world.words().len() as u32);
+impl Ran {
+    /// What the call claims that is asked next; nothing where none is.
+    pub(crate) fn wanted(&self, last: &Ask) -> ArrayVec<Claim, 2>
+        requires few { length self.now.world.words ≤ 4096 }
+        ensures { (b : BodyResult) → self.now.world ≡ b.world → self.now.me ≡ b.me → result.items ≡ next_claims b last.now }
+    {
+        let mut claims = ArrayVec::new();
+        if let Ask::Call(call) = last {
+            push_claims(&mut claims, call, &self.me, self.world.words().len() as u32);
+        }
+        claims
     }
 }
 
@@ -103,8 +107,7 @@ impl Progress {
         if !is_starved(cause) {
             return Ok(are_these(held, entry.held.as_slice()));
         }
-        let mut claims = ArrayVec::new();
-        next_claims(&mut claims, ran, last);
+        let claims = ran.wanted(last);
         let alloc = *self.jobs.allocator();
         let yes = holds_part(alloc, held, claims.as_slice(), entry.held.as_slice())?;
         Ok(yes)

@@ -7,12 +7,14 @@ ghost use Rattle.xc_world.specs.Ends.{AreLegal, IsLegalEnd, RestoredFits, blocke
 use std::alloc::Global;
 use xc_data::{Object, Undo, UndoEnd};
 
+// An object is one of these.
 fn is_among(object: &Object, objects: &[Object]) -> bool
     ensures { result ≡ list_any (is_object object.now) objects.now }
 {
     objects.iter().any(|other| object == other)
 }
 
+// Two records are of the same object.
 fn share_object(alloc: Global, a: &Undo, b: &Undo) -> bool
     ensures { result ≡ share_object a.now b.now }
 {
@@ -24,12 +26,14 @@ fn share_object(alloc: Global, a: &Undo, b: &Undo) -> bool
         .any(|object| is_among(object, others.as_slice()))
 }
 
+/// Nothing is left of a record that ended so.
 pub(crate) fn is_undone(end: UndoEnd) -> bool
     ensures { result ≡ is_undone end }
 {
     matches!(end, UndoEnd::Undone { .. })
 }
 
+// A newer record stands in an older one's way.
 fn blocks(alloc: Global, older: &Undo, newer: &(Undo, UndoEnd)) -> bool
     ensures { result ≡ blocks older.now newer.now }
 {

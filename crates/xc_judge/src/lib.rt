@@ -3,24 +3,30 @@
 #![tactic(auto)]
 
 mod abort;
+mod accessors;
 mod counted;
+mod effects;
 mod enter;
+mod entering;
 mod faults;
 mod handles;
 mod holding;
-mod judge;
+mod left;
 mod legal;
 mod numbers;
 mod progress;
 mod ran;
 mod reason;
 mod records;
+mod same;
 mod standing;
-mod started;
+mod step;
+mod stepped;
 mod story;
-mod undo;
+mod undos;
 
 pub use progress::Progress;
 pub use reason::Reason;
 pub use standing::Standing;
+pub use stepped::{Step, Stepped};
 pub use xc_data::NoMemory;

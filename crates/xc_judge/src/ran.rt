@@ -7,7 +7,7 @@ ghost use Rattle.xc_model.specs.Progress.{body_of};
 
 use crate::Progress;
 use crate::faults::are_few_faults;
-use crate::started::kept_count;
+use xc_asked::kept_count;
 use xc_data::{Entry, LateEnd, NoMemory, Outcome, Private};
 use xc_machine::{Traced, World, replay_lates, replay_traced};
 use xc_model::Rules;

@@ -1,10 +1,12 @@
 ghost use Rattle.std.specs.Bool.{Decides};
 ghost use Rattle.std.specs.Prelude.{◌≡◌, ◌≤◌};
-ghost use Rattle.xc_model.specs.EntryEnds.{IsCauseOf, failures_with, is_tried_again};
+ghost use Rattle.xc_model.specs.EntryEnds.{IsCauseOf, IsCaused, failures_with, is_tried_again};
 ghost use Rattle.xc_model.specs.Machine.{IsAttempt, IsEndAsked};
+ghost use Rattle.xc_model.specs.RecordCounts.{all_records, no_records};
 
 use crate::Standing;
-use xc_data::{Call, Cause, Entry, Outcome};
+use crate::faults::records_of;
+use xc_data::{Call, Cause, Entry, Outcome, Report};
 use xc_script::Ask;
 
 // An attempt that is to be tried again.
@@ -29,13 +31,22 @@ fn is_cause_of(cause: &Cause, last: &Ask) -> bool
     }
 }
 
-/// A committed transaction's commit was asked, or what led to the abort.
-pub(crate) fn is_end_asked(last: &Ask, outcome: &Outcome) -> bool
-    ensures { Decides result (IsEndAsked last.now outcome.now) }
+// An entry's abort was caused so: what led there was asked, and a way back got stuck at a record of its block.
+fn is_caused(last: &Ask, entry: &Entry, report: &Report) -> bool
+    ensures { Decides result (IsCaused (all_records no_records entry.now.calls entry.now.replies) last.now report.now) }
 {
-    match outcome {
+    let counted = records_of(entry.calls.as_slice(), entry.replies.as_slice());
+    is_cause_of(&report.cause, last)
+        && counted.is_stuck_in(report.records.as_slice(), &report.cause)
+}
+
+// A committed transaction's commit was asked, or what led to the abort.
+fn is_end_asked(last: &Ask, entry: &Entry) -> bool
+    ensures { Decides result (IsEndAsked last.now entry.now entry.now.outcome) }
+{
+    match &entry.outcome {
         Outcome::Committed { .. } => matches!(last, Ask::Commit),
-        Outcome::Aborted(report) => is_cause_of(&report.cause, last),
+        Outcome::Aborted(report) => is_caused(last, entry, report),
     }
 }
 
@@ -48,7 +59,9 @@ impl Standing {
             Outcome::Aborted(report) if is_tried_again(&report.cause) => {
                 self.failed.len() < attempts as usize
             }
-            _ => self.failed.len() <= attempts as usize,
+            Outcome::Aborted(_) | Outcome::Committed { .. } => {
+                self.failed.len() <= attempts as usize
+            }
         }
     }
 
@@ -59,5 +72,12 @@ impl Standing {
         !self.starved
             && entry.rank == self.first.unwrap_or(entry.tx)
             && self.are_few_failures(attempts, &entry.outcome)
+    }
+
+    /// The same, and its end was asked.
+    pub(crate) fn is_told(&self, attempts: u32, last: &Ask, entry: &Entry) -> bool
+        ensures { Decides result (IsAttempt attempts self.now entry.now × IsEndAsked last.now entry.now entry.now.outcome) }
+    {
+        self.goes_on_with(attempts, entry) && is_end_asked(last, entry)
     }
 }

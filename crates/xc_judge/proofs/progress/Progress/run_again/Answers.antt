@@ -14,7 +14,8 @@ use Rattle.std.specs.Prelude.{All}
 use Rattle.xc_judge.specs.Judged.{telling}
 use Rattle.xc_judge.specs.Ran.{IsRan}
 use Rattle.xc_judge.specs.declared.ran.Ran.{Ran}
-use Rattle.xc_judge.proofs.Replying.{Same, few_there, has_replies, if_some_there, is_ran, not_found, replayed_here, replayed_so, replayed_there}
+use Rattle.xc_judge.proofs.Cases.{found_none, found_some}
+use Rattle.xc_judge.proofs.Replying.{Same, few_there, has_replies, is_ran, replayed_here, replayed_so, replayed_there}
 use Rattle.xc_judge.proofs.progress.Progress.run_again.Goals as goal
 
 pub replay_traced-requires-clause-sound : goal.replay_traced-requires-clause-sound
@@ -40,7 +41,8 @@ returns-in_default c = λ has.
     } in
     let mine = subst (λ (z : Course). HasReplies (telling c.args.rules.now) z e) (sym c.self.view_is) has in
     let all = replayed_so c.args.rules.now c.self.inside.world c.self.inside.handles.items c.self.inside.jobs.items c.self.inside.entered e mine in
-    not_found c.in_ok-traced.field-0 (AreReplayed w me e.tx calls replies) c.in_ok-traced.ensures.decides c.in_default.not-Some
+    found_none c.in_ok-traced.field-0 (AreReplayed w me e.tx calls replies → ⊥) (λ _. AreReplayed w me e.tx calls replies) c.in_default.not-Some
+    c.in_ok-traced.ensures.decides
     (replayed_here s e w me calls replies so all)
 
 pub returns : goal.returns
@@ -64,7 +66,8 @@ returns c =
       replies_are = c.as_slice-replies.ensures;
     } in
     let ran : Ran = record { world = v; me = m; traced = traced } in
-    let all : AreReplayed w me e.tx calls replies = if_some_there c.in_ok-traced.field-0 traced (AreReplayed w me e.tx calls replies) is gave.decides in
+    let all : AreReplayed w me e.tx calls replies =
+    found_some c.in_ok-traced.field-0 traced (AreReplayed w me e.tx calls replies → ⊥) (λ _. AreReplayed w me e.tx calls replies) is gave.decides in
     let yes : c.are_few_faults.result ≡ true = search rules in
     let few = few_there rules_now.undo_tries calls e.calls replies e.replies c.as_slice-calls.ensures c.as_slice-replies.ensures
     (c.are_few_faults.ensures.0 yes) in

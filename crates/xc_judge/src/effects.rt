@@ -1,0 +1,170 @@
+ghost use Rattle.std.specs.Bool.{Decides};
+ghost use Rattle.std.specs.Prelude.{◌≡◌, ◌+◌, map, take, drop};
+ghost use Rattle.xc_judge.specs.Traced.{ends_of, shown_ends};
+ghost use Rattle.xc_lines.specs.declared.shown.Standing.TheVariants as standing;
+ghost use Rattle.xc_sheet.specs.Ends.{effect_shown, kind_shown};
+ghost use Rattle.xc_shown.specs.Shown.{effects_shown, record_shown};
+
+use crate::same::{same_bytes, same_name, same_num};
+use xc_data::{Chunk, Name, Num, Undo, UndoEnd};
+use xc_failure::remaining_from;
+use xc_lines::{Standing, UndoKind};
+
+// ---- their kinds
+
+// A record is of this kind.
+fn has_kind(undo: &Undo, kind: UndoKind) -> bool
+    ensures { Decides result (kind_shown undo.now ≡ kind) }
+{
+    match undo {
+        Undo::Bytes { .. } => matches!(kind, UndoKind::Bytes),
+        Undo::Tail { .. } => matches!(kind, UndoKind::Tail),
+        Undo::Made { .. } => matches!(kind, UndoKind::Made),
+        Undo::Moved { .. } => matches!(kind, UndoKind::Moved),
+        Undo::NewPipe(_) => matches!(kind, UndoKind::Pipe),
+        Undo::NewPair(_) => matches!(kind, UndoKind::Pair),
+    }
+}
+
+/// Records with the ends that are shown have the kinds that are shown.
+pub(crate) fn have_kinds(mut records: &[(Undo, UndoEnd)], mut shown: &[(UndoKind, UndoEnd)]) -> bool
+    requires ends { ends_of records.now ≡ shown_ends shown.now }
+    ensures { Decides result (map record_shown records.entry.now ≡ shown.entry.now) }
+{
+    while let [record, records_behind @ ..] = records {
+        let [kind, shown_behind @ ..] = shown else {
+            return false;
+        };
+        if !has_kind(&record.0, kind.0) {
+            return false;
+        }
+        records = records_behind;
+        shown = shown_behind;
+    }
+    true
+}
+
+// ---- the effects that stand
+
+// The first bytes, or all where those are fewer.
+fn front(bytes: &[u8], n: usize) -> &[u8]
+    ensures { result.now ≡ take n bytes.now }
+{
+    if n >= bytes.len() {
+        return bytes;
+    }
+    &bytes[..n]
+}
+
+// The bytes from a place on, which may lie past the last one.
+fn behind(bytes: &[u8], at: usize) -> &[u8]
+    ensures { result.now ≡ drop at bytes.now }
+{
+    if at >= bytes.len() {
+        return &[];
+    }
+    &bytes[at..]
+}
+
+// The effect of a record is this one, of bytes that were overwritten.
+fn is_overwrite(undo: &Undo, from: u32, num: Num, place: u64, bytes: &Chunk) -> bool
+    ensures { Decides result (effect_shown undo.now from ≡ standing.Bytes num place bytes.now) }
+{
+    match undo {
+        Undo::Bytes {
+            file,
+            at,
+            after,
+            n,
+            ..
+        } => {
+            let stands = behind(front(after.as_slice(), *n as usize), from as usize);
+            *at as u64 + from as u64 == place
+                && same_num(*file, num)
+                && same_bytes(stands, bytes.as_slice())
+        }
+        Undo::Tail { .. } | Undo::Made { .. } | Undo::Moved { .. } => false,
+        Undo::NewPipe(_) | Undo::NewPair(_) => false,
+    }
+}
+
+// It is this one, of bytes behind a file's end.
+fn is_tail(undo: &Undo, k: u32, num: Num, place: u32, bytes: &Chunk) -> bool
+    ensures { Decides result (effect_shown undo.now k ≡ standing.Tail num place bytes.now) }
+{
+    match undo {
+        Undo::Tail {
+            file,
+            from,
+            after,
+            n,
+        } => {
+            let stands = front(after.as_slice(), *n as usize);
+            *from == place && same_num(*file, num) && same_bytes(stands, bytes.as_slice())
+        }
+        Undo::Bytes { .. } | Undo::Made { .. } | Undo::Moved { .. } => false,
+        Undo::NewPipe(_) | Undo::NewPair(_) => false,
+    }
+}
+
+// It is this one, of a file that was made.
+fn is_made(undo: &Undo, k: u32, named: &Name, made: Num) -> bool
+    ensures { Decides result (effect_shown undo.now k ≡ standing.Made named.now made) }
+{
+    match undo {
+        Undo::Made { name, num } => same_num(*num, made) && same_name(name.value(), named),
+        Undo::Bytes { .. } | Undo::Tail { .. } | Undo::Moved { .. } => false,
+        Undo::NewPipe(_) | Undo::NewPair(_) => false,
+    }
+}
+
+// It is this one, of a file that took another name.
+fn is_moved(undo: &Undo, k: u32, old: &Name, new_name: &Name) -> bool
+    ensures { Decides result (effect_shown undo.now k ≡ standing.Moved old.now new_name.now) }
+{
+    match undo {
+        Undo::Moved { from, to } => {
+            same_name(from.value(), old) && same_name(to.value(), new_name)
+        }
+        Undo::Bytes { .. } | Undo::Tail { .. } | Undo::Made { .. } => false,
+        Undo::NewPipe(_) | Undo::NewPair(_) => false,
+    }
+}
+
+// The effect of a record from this place of its bytes on is the one that is shown.
+fn is_effect(undo: &Undo, from: u32, effect: &Standing) -> bool
+    ensures { Decides result (effect_shown undo.now from ≡ effect.now) }
+{
+    match effect {
+        Standing::Bytes { file, at, bytes } => is_overwrite(undo, from, *file, *at, bytes),
+        Standing::Tail {
+            file,
+            from: place,
+            bytes,
+        } => is_tail(undo, from, *file, *place, bytes),
+        Standing::Made { name, num } => is_made(undo, from, name.value(), *num),
+        Standing::Moved { from: old, to } => is_moved(undo, from, old.value(), to.value()),
+        Standing::Pipe(num) => matches!(undo, Undo::NewPipe(other) if same_num(*other, *num)),
+        Standing::Pair(num) => matches!(undo, Undo::NewPair(other) if same_num(*other, *num)),
+    }
+}
+
+/// Records leave these effects.
+pub(crate) fn have_effects(mut records: &[(Undo, UndoEnd)], mut effects: &[Standing]) -> bool
+    ensures { Decides result (effects_shown records.entry.now ≡ effects.entry.now) }
+{
+    while let [record, records_behind @ ..] = records {
+        records = records_behind;
+        let Some(from) = remaining_from(&record.0, &record.1) else {
+            continue;
+        };
+        let [effect, effects_behind @ ..] = effects else {
+            return false;
+        };
+        if !is_effect(&record.0, from, effect) {
+            return false;
+        }
+        effects = effects_behind;
+    }
+    effects.is_empty()
+}

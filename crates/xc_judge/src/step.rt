@@ -1,0 +1,147 @@
+ghost use Rattle.std.specs.Bool.{Decides};
+ghost use Rattle.std.specs.Prelude.{◌≡◌, ◌≢◌, ◌<◌, ◌+◌, ◌^◌, [], ℕ, IfOk, MatchOption, MatchResult};
+ghost use Rattle.xc_data.specs.declared.entry.Entry.{Entry as PlainEntry};
+ghost use Rattle.xc_judge.specs.Judged.{IsNumbered, IsOpenTo, IsToldBy, telling};
+ghost use Rattle.xc_judge.specs.Ran.{IsRan};
+ghost use Rattle.xc_judge.specs.Judgement.{FailsToRun, IsJudgedSo, IsRunSo};
+ghost use Rattle.xc_judge.specs.Stepped.{IsRefusedSo, IsSteppedTo, WhereEntered, WhereRefused};
+ghost use Rattle.xc_model.specs.Machine.{HasRecordsOf};
+ghost use Rattle.xc_model.specs.Progress.{body_of};
+ghost use Rattle.xc_shown.specs.Shown.{Shows, bare};
+
+use crate::ran::Ran;
+use crate::{Progress, Reason, Step, Stepped};
+use arrayvec::ArrayVec;
+use xc_data::{Claim, Entry, NoMemory, Outcome, UndoEnd};
+use xc_lines::{Standing, UndoKind};
+use xc_model::Rules;
+use xc_script::Ask;
+use xc_shown::Shown;
+
+/// An entry that was judged true, and what the next call claims.
+#[derive(Drop)]
+pub(crate) struct Judged {
+    pub(crate) entry: Entry,
+    pub(crate) wanted: ArrayVec<Claim, 2>,
+}
+
+// No record is shown, as it is where a transaction was committed.
+fn are_none(records: &[(UndoKind, UndoEnd)], effects: &[Standing]) -> bool
+    ensures { Decides result ((records.now ≡ []) × (effects.now ≡ [])) }
+{
+    records.is_empty() && effects.is_empty()
+}
+
+impl Progress {
+    // An entry with the records that are shown of it. None where no entry that is shown so has true ones.
+    fn with_records(
+        &self,
+        rules: &Rules,
+        ran: Ran,
+        last: &Ask,
+        shown: Shown,
+    ) -> Result<Option<Entry>, NoMemory>
+        requires ran { IsRan ran (body_of self.now.state shown.entry) shown.entry.tx }
+        requires bare { bare shown.entry ≡ shown.entry }
+        ensures { IfOk result (λ found. MatchOption found
+            ((e : PlainEntry) → Shows shown e → HasRecordsOf (telling rules.now) self.now last.now e e.outcome → ⊥)
+            (λ e. Shows shown e × HasRecordsOf (telling rules.now) self.now last.now e e.outcome)) }
+    {
+        let Outcome::Aborted(report) = &shown.entry.outcome else {
+            if are_none(shown.records.as_slice(), shown.effects.as_slice()) {
+                return Ok(Some(shown.entry));
+            }
+            return Ok(None);
+        };
+        let Some(report) = self.report(rules, ran, last, &report.cause, &shown)? else {
+            return Ok(None);
+        };
+        let Shown { mut entry, .. } = shown;
+        entry.outcome = Outcome::Aborted(report);
+        Ok(Some(entry))
+    }
+
+    // An entry's body, run again, where its job is started and its replies and late ends are true.
+    fn judge_body(&self, rules: &Rules, entry: &Entry) -> Result<Result<Ran, Reason>, NoMemory>
+        requires open { IsOpenTo self.now entry.now.tx }
+        ensures { IfOk result (λ r. MatchResult r (λ ran. IsRunSo rules.now self.now entry.now ran)
+            (FailsToRun rules.now self.now entry.now)) }
+    {
+        let Some(_) = self.standing_of(entry) else {
+            return Ok(Err(Reason::Numbers));
+        };
+        let Some(ran) = self.run_again(rules, entry)? else {
+            return Ok(Err(Reason::Reply));
+        };
+        if !self.has_lates(rules, &ran, entry)? {
+            return Ok(Err(Reason::Late));
+        }
+        Ok(Ok(ran))
+    }
+
+    // An entry whose job is started told its story.
+    fn is_told(&self, rules: &Rules, last: &Ask, entry: &Entry) -> bool
+        requires numbered { IsNumbered self.now entry.now }
+        ensures { Decides result (IsToldBy rules.now self.now last.now entry.now) }
+    {
+        match self.standing_of(entry) {
+            Some(standing) => standing.is_told(rules.attempts, last, entry),
+            None => false,
+        }
+    }
+
+    // An entry as its text shows it: with its records, and what the next call claims, or the first reason for which it is false.
+    fn judge(
+        &self,
+        rules: &Rules,
+        last: &Ask,
+        shown: Shown,
+    ) -> Result<Result<Judged, Reason>, NoMemory>
+        requires open { IsOpenTo self.now shown.entry.tx }
+        requires bare { bare shown.entry ≡ shown.entry }
+        ensures { IfOk result (λ r. MatchResult r (IsJudgedSo rules.now self.now last.now shown)
+            (IsRefusedSo rules.now self.now last.now shown)) }
+    {
+        let ran = match self.judge_body(rules, &shown.entry)? {
+            Ok(ran) => ran,
+            Err(why) => return Ok(Err(why)),
+        };
+        let holds = self.has_held(&ran, last, &shown.entry)?;
+        let wanted = ran.wanted(last);
+        let Some(entry) = self.with_records(rules, ran, last, shown)? else {
+            return Ok(Err(Reason::Records));
+        };
+        if !holds {
+            return Ok(Err(Reason::Held));
+        }
+        if !self.is_told(rules, last, &entry) {
+            return Ok(Err(Reason::Story));
+        }
+        Ok(Ok(Judged { entry, wanted }))
+    }
+
+    /// An entry as its text shows it, judged and entered: where it leads, or the first reason for which it is false. `last` was asked
+    /// after its replies.
+    pub fn step(self, rules: &Rules, last: &Ask, shown: Shown) -> Result<Step, NoMemory>
+        requires open { IsOpenTo self shown.entry.tx }
+        requires room { self.entered + 1 < 2 ^ 32 }
+        requires bare { bare shown.entry ≡ shown.entry }
+        ensures entered { IfOk result (λ step. WhereEntered step (IsSteppedTo rules.now self last.now shown)) }
+        ensures refused { IfOk result (λ step. WhereRefused step (IsRefusedSo rules.now self last.now shown)) }
+        ensures open { (ty : ℕ) → (ty ≢ shown.entry.tx) → IsOpenTo self ty
+            → IfOk result (λ step. WhereEntered step (λ to. IsOpenTo to.progress ty)) }
+    {
+        match self.judge(rules, last, shown)? {
+            Err(why) => Ok(Step::Refused(why)),
+            Ok(judged) => {
+                let Judged { entry, wanted } = judged;
+                let progress = self.enter(&entry)?;
+                Ok(Step::Entered(Stepped {
+                    progress,
+                    entry,
+                    wanted,
+                }))
+            }
+        }
+    }
+}
