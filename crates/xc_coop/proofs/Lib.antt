@@ -1,4 +1,2 @@
-mod Choices
 mod Finishing
 mod Meeting
-mod Numbers

@@ -16,6 +16,3 @@ pub use run::coop_run;
 pub use turns::take_cooperatively;
 pub use xc_outcome::{Finish, LIMIT, Status};
 pub use xc_settings::SettingsErr;
-
-#[cfg(test)]
-mod tests;

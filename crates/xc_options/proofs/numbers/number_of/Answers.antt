@@ -1,6 +1,6 @@
 use Rattle.std.proofs.Common.{arith, sym, ◌∙◌}
-use Rattle.xc_coop.proofs.Numbers.{number_in-inside, number_in-unread}
-use Rattle.xc_coop.proofs.options.number_of.Goals as goal
+use Rattle.xc_options.proofs.Numerals.{number_in-inside, number_in-unread}
+use Rattle.xc_options.proofs.numbers.number_of.Goals as goal
 
 pub returns-in_err-number-clause-value : goal.returns-in_err-number-clause-value
 returns-in_err-number-clause-value c =

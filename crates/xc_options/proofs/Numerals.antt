@@ -7,7 +7,7 @@ use Rattle.clap.specs.Values.{IsUnsignedIn}
 use Rattle.clap.specs.ValueTests.{is_unsigned_in}
 use Rattle.clap.specs.declared.builder.value_parser.ValueParser.TheVariants.{Unsigned}
 use Rattle.clap.proofs.ValueTestLemmas.{Accepts-accepts, accepts-Accepts}
-use Rattle.xc_coop.specs.Options.{number_in}
+use Rattle.xc_options.specs.Options.{number_in}
 
 -- a text that no number from `least` to `most` is spelled by
 refused : (least most : ℕ) (text : List ℕ) → (IsUnsignedIn least most text → ⊥) → number_in least most text ≡ None
