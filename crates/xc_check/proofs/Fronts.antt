@@ -1,0 +1,84 @@
+-- A front of a journal with one entry more, and a journal cut at an entry.
+use Rattle.std.proofs.Common.{◌≡◌, List, [], ◌∷◌, ◌++◌, refl, ap, sym, ◌∙◌}
+use Rattle.std.specs.List.{fold}
+use Rattle.xc_data.specs.declared.entry.Entry.{Entry}
+use Rattle.xc_model.specs.Asked.{AreAskedBy, IsAskedEntry, ScriptJob, after_jobs, last_asked, lasts_from, script_job_of}
+use Rattle.xc_model.specs.Course.{Course, after_course}
+use Rattle.xc_model.specs.Grounds.{Part}
+use Rattle.xc_model.specs.Machine.{AreMachineTrue, IsMachineTrue, Terms, machine_part, machine_parts}
+use Rattle.xc_script.specs.declared.ask.Ask.{Ask}
+use Rattle.xc_text.specs.declared.script.Script.{Script}
+
+-- where a list leads with one more
+pub fold_more : {A B : Type 0} → (f : B → A → B) (init : B) (xs : List A) (x : A) → fold f init (xs ++ x ∷ []) ≡ f (fold f init xs) x
+fold_more f init [] x = refl
+fold_more f init (y ∷ xs) x = fold_more f (f init y) xs x
+
+-- ---- one entry more
+module _ (script : Script) (e : Entry) where
+  -- what was asked last of it, from these jobs on
+  abbrev last_from : List ScriptJob → List Entry → Ask
+  last_from jobs front = last_asked script (script_job_of (fold (after_jobs script) jobs front) e) e.replies
+
+  -- what was asked last of all
+  pub lasts_more : (jobs : List ScriptJob) (front : List Entry)
+      → lasts_from script jobs (front ++ e ∷ []) ≡ lasts_from script jobs front ++ last_from jobs front ∷ []
+  lasts_more jobs [] = refl
+  lasts_more jobs (x ∷ front) =
+      ap (λ (lasts : List Ask). last_asked script (script_job_of jobs x) x.replies ∷ lasts) (lasts_more (after_jobs script jobs x) front)
+
+  -- the machine's part
+  pub machine_more : (t : Terms) (c : Course) (jobs : List ScriptJob) (front : List Entry)
+      → AreMachineTrue t c (lasts_from script jobs front) front → IsMachineTrue t (fold after_course c front) (last_from jobs front) e
+      → AreMachineTrue t c (lasts_from script jobs (front ++ e ∷ [])) (front ++ e ∷ [])
+  machine_more t c jobs [] all one = (one, refl)
+  machine_more t c jobs (x ∷ front) all one = (all.0, machine_more t (after_course c x) (after_jobs script jobs x) front all.1 one)
+
+  -- the script's part
+  pub asked_more : (jobs : List ScriptJob) (front : List Entry) → AreAskedBy script jobs (lasts_from script jobs front) front
+      → IsAskedEntry script (fold (after_jobs script) jobs front) (last_from jobs front) e
+      → AreAskedBy script jobs (lasts_from script jobs (front ++ e ∷ [])) (front ++ e ∷ [])
+  asked_more jobs [] all one = (one, refl)
+  asked_more jobs (x ∷ front) all one = (all.0, asked_more (after_jobs script jobs x) front all.1 one)
+
+  -- what conflicts are judged by
+  pub parts_more : (c : Course) (jobs : List ScriptJob) (front : List Entry)
+      → machine_parts c (lasts_from script jobs (front ++ e ∷ [])) (front ++ e ∷ [])
+      ≡ machine_parts c (lasts_from script jobs front) front
+      ++ machine_part (fold after_course c front).state (last_from jobs front) e ∷ []
+  parts_more c jobs [] = refl
+  parts_more c jobs (x ∷ front) =
+      ap (λ (parts : List Part). machine_part c.state (last_asked script (script_job_of jobs x) x.replies) x ∷ parts)
+      (parts_more (after_course c x) (after_jobs script jobs x) front)
+
+  -- ---- a journal cut at an entry
+  -- what is behind it
+  abbrev cut : List Entry → List Entry → List Entry
+  cut front behind = front ++ e ∷ behind
+
+  -- the machine's part: of the front, and of the entry
+  pub machine_cut : (t : Terms) (c : Course) (jobs : List ScriptJob) (front behind : List Entry)
+      → AreMachineTrue t c (lasts_from script jobs (cut front behind)) (cut front behind)
+      → AreMachineTrue t c (lasts_from script jobs front) front × IsMachineTrue t (fold after_course c front) (last_from jobs front) e
+  machine_cut t c jobs [] behind all = (refl, all.0)
+  machine_cut t c jobs (x ∷ front) behind all =
+      let rest = machine_cut t (after_course c x) (after_jobs script jobs x) front behind all.1 in ((all.0, rest.0), rest.1)
+
+  -- the script's part
+  pub asked_cut : (jobs : List ScriptJob) (front behind : List Entry)
+      → AreAskedBy script jobs (lasts_from script jobs (cut front behind)) (cut front behind)
+      → AreAskedBy script jobs (lasts_from script jobs front) front
+      × IsAskedEntry script (fold (after_jobs script) jobs front) (last_from jobs front) e
+  asked_cut jobs [] behind all = (refl, all.0)
+  asked_cut jobs (x ∷ front) behind all =
+      let rest = asked_cut (after_jobs script jobs x) front behind all.1 in ((all.0, rest.0), rest.1)
+
+-- what was asked last of the entries of a journal is what the script asks
+pub lasts_are : (script : Script) (jobs : List ScriptJob) (lasts : List Ask) (journal : List Entry) → AreAskedBy script jobs lasts journal
+    → lasts ≡ lasts_from script jobs journal
+lasts_are script jobs lasts [] h = h
+lasts_are script jobs [] (e ∷ journal) h = absurd h
+lasts_are script jobs (last ∷ lasts) (e ∷ journal) h =
+    let asked = h.0 in
+    ap (λ (x : Ask). x ∷ lasts) (asked.asked.after ∙ ap (λ o. last_asked script o e.replies) (sym asked.started))
+    ∙ ap (λ (xs : List Ask). last_asked script (script_job_of jobs e) e.replies ∷ xs) (lasts_are script (after_jobs script jobs e) lasts journal h.1)

@@ -1,0 +1,9 @@
+mod Bare
+mod Led
+mod Places
+mod Stepping
+mod Texts
+mod TrueEnds
+mod Truths
+mod Verdicts
+pub mod Fronts

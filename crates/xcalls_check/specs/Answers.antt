@@ -1,0 +1,124 @@
+-- What the program says, and why.
+use Rattle.std.specs.Prelude.{◌≡◌, ◌⊎◌, ◌<◌, ℕ, List, ◌++◌, Option, IsSome, codes, length}
+use Rattle.std.specs.declared.option.Option.TheVariants.{None, Some}
+use Rattle.std.specs.Fmt.{decimal}
+use Rattle.xc_data.specs.Step.{Step}
+use Rattle.xc_edge.specs.Streams.{AppendsPart, AppendsWhole, Came}
+use Rattle.xc_edge.specs.View.{StreamView, HasFailed}
+use Rattle.xc_check.specs.Verdicts.{AcceptsTrueTexts, IsVerdict}
+use Rattle.xc_check.specs.declared.verdict.CheckWhy.{CheckWhy}
+use Rattle.xc_check.specs.declared.verdict.CheckWhy.TheVariants as why
+use Rattle.xc_check.specs.declared.verdict.Verdict.{Verdict}
+use Rattle.xc_check.specs.declared.verdict.Verdict.TheVariants as verdict
+use Rattle.xc_judge.specs.declared.reason.Reason.{Reason}
+use Rattle.xc_judge.specs.declared.reason.Reason.TheVariants as reason
+use Rattle.xc_model.specs.declared.rules.Rules.{Rules}
+use Rattle.xcalls_check.specs.declared.answer.Answer.{Answer}
+use Rattle.xcalls_check.specs.declared.answer.Answer.TheVariants as answer
+use Rattle.xcalls_check.specs.declared.status.CheckStatus.{CheckStatus}
+use Rattle.xcalls_check.specs.declared.status.CheckStatus.TheVariants as status
+use Rattle.xcalls_check.specs.Halves.{script_of, text_of}
+use Rattle.xcalls_check.specs.Settings.{check_settings_of}
+
+-- ---- the lines
+-- why an entry is false
+abbrev pub reason_name : Reason → List ℕ
+reason_name reason.Numbers = codes "numbers"
+reason_name reason.Reply = codes "reply"
+reason_name reason.Late = codes "late"
+reason_name reason.Records = codes "records"
+reason_name reason.Held = codes "held"
+reason_name reason.Story = codes "story"
+
+-- why a text is false
+abbrev pub why_name : CheckWhy → List ℕ
+why_name why.TooLong = codes "toolong"
+why_name why.Script = codes "script"
+why_name why.Form = codes "form"
+why_name (why.Entry r) = reason_name r
+why_name why.Grounds = codes "grounds"
+why_name why.Tail = codes "tail"
+
+-- the line that says no
+abbrev pub no_line : ℕ → CheckWhy → List ℕ
+no_line line why = codes "no line " ++ decimal line ++ codes " " ++ why_name why ++ codes "\n"
+
+-- the line of an answer
+abbrev pub line_of : Answer → List ℕ
+line_of (answer.Judged verdict.Yes) = codes "yes\n"
+line_of (answer.Judged (verdict.No line why)) = no_line line why
+line_of answer.Usage = codes "usage: xcalls_check [--attempts N] [--undo-tries N]\n"
+line_of answer.ReadFault = codes "read fault\n"
+line_of answer.NoMemory = codes "no memory\n"
+
+-- ---- the statuses
+-- the status of an answer
+abbrev pub status_of : Answer → CheckStatus
+status_of (answer.Judged verdict.Yes) = status.Yes
+status_of (answer.Judged (verdict.No line why)) = status.No
+status_of answer.Usage = status.Usage
+status_of answer.ReadFault = status.ReadFault
+status_of answer.NoMemory = status.NoMemory
+
+-- a status as the program's exit status
+abbrev pub status_number : CheckStatus → ℕ
+status_number status.Yes = 0
+status_number status.No = 1
+status_number status.Usage = 2
+status_number status.ReadFault = 3
+status_number status.WriteFault = 4
+status_number status.NoMemory = 5
+
+-- ---- what is said
+-- all was written, and the program ends with the status that was meant; or a front, and it ends with the sink's failure
+abbrev pub IsWritten : CheckStatus → CheckStatus → List ℕ → Step StreamView → Type 0
+IsWritten meant ends line sink =
+    ((ends ≡ meant) × AppendsWhole sink.old sink.new line)
+    ⊎ ((ends ≡ status.WriteFault) × AppendsPart sink.old sink.new line × HasFailed sink.old sink.new)
+
+-- the line of an answer was written so
+abbrev pub IsSaid : Answer → CheckStatus → Step StreamView → Type 0
+IsSaid meant ends sink = IsWritten (status_of meant) ends (line_of meant) sink
+
+-- ---- why it is said
+-- one byte more than a script, the line between and a text of the largest sizes
+abbrev pub most_input : ℕ
+most_input = 68157446
+
+-- what is found of the bytes that came: they are too many, or this is the verdict on their halves
+pub record IsFound (rules : Rules) (input : List ℕ) (found : Verdict) : Type 0 where
+  pub too_long : length input ≡ most_input → found ≡ verdict.No 0 why.TooLong
+  pub judged : length input < most_input → IsVerdict (script_of input) rules (text_of input) found
+  pub only : length input < most_input → AcceptsTrueTexts (script_of input) rules (text_of input) found
+
+-- by the rules that the words choose, this is found of the bytes that came from the source
+pub record IsJudged (rules : Option Rules) (source : Step StreamView) (found : Verdict) : Type 0 where
+  pub chosen : Rules
+  pub input : List ℕ
+  pub rules_are : rules ≡ Some chosen
+  pub came : Came most_input source.old source.new input
+  pub is_found : IsFound chosen input found
+
+-- an answer has its cause: in the rules that the words choose, and in the source before and after it was read
+abbrev pub IsCaused : Option Rules → Step StreamView → Answer → Type 0
+IsCaused rules source (answer.Judged found) = IsJudged rules source found
+IsCaused rules source answer.Usage = rules ≡ None
+IsCaused rules source answer.ReadFault = IsSome rules × HasFailed source.old source.new
+IsCaused rules source answer.NoMemory = Unit {0}
+
+-- an answer was meant that has its cause, and it was said
+pub record IsAnswered (words : List (List ℕ)) (source sink : Step StreamView) (ends : CheckStatus) : Type 0 where
+  pub meant : Answer
+  pub caused : IsCaused (check_settings_of words) source meant
+  pub said : IsSaid meant ends sink
+
+-- the words are refused, but for lack of memory
+abbrev pub IsUsage : Answer → Type 0
+IsUsage (answer.Judged found) = ⊥
+IsUsage answer.Usage = Unit {0}
+IsUsage answer.ReadFault = ⊥
+IsUsage answer.NoMemory = Unit {0}
+
+-- without the words of the command line: this is said of them
+abbrev pub IsWordless : CheckStatus → Step StreamView → Type 0
+IsWordless ends sink = (meant : Answer) × IsUsage meant × IsSaid meant ends sink

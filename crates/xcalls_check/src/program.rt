@@ -1,0 +1,126 @@
+ghost use Rattle.std.specs.Prelude.{◌≡◌, ◌≤◌, IfOk, None, OnErr, Some, map, string_bytes};
+ghost use Rattle.xc_edge.specs.Streams.{ConsumesUpTo};
+ghost use Rattle.xcalls_check.specs.Answers.{IsAnswered, IsCaused, IsFound, IsWordless, most_input};
+ghost use Rattle.xcalls_check.specs.Settings.{check_settings_of};
+
+use crate::answer::Answer;
+use crate::halves::halves;
+use crate::lines::say;
+use crate::settings::check_settings;
+use crate::status::CheckStatus;
+use std::alloc::{AllocGlobal, Global};
+use std::io;
+use xc_check::{CheckWhy, Verdict, check};
+use xc_data::{Chunk, NoMemory};
+use xc_edge::{ReadErr, Sink, Source, read_up_to};
+use xc_model::Rules;
+use xc_options::SettingsErr;
+
+// The most bytes that are read: one more than a script, the line between and a text of the largest sizes.
+const MOST_INPUT: usize = 68_157_446;
+
+// What is found of the bytes that came.
+fn verdict_on(alloc: Global, rules: &Rules, input: &[u8]) -> Result<Verdict, NoMemory>
+    requires rules { 1 ≤ rules.now.attempts }
+    ensures { IfOk result (IsFound rules.now input.now) }
+{
+    if input.len() == MOST_INPUT {
+        return Ok(Verdict::No {
+            line: 0,
+            why: CheckWhy::TooLong,
+        });
+    }
+    let (script, text) = halves(input);
+    check(alloc, &Chunk::new(alloc, script)?, rules, text)
+}
+
+// What is to be said of the source, by these rules.
+fn answer_by<S: Source>(alloc: Global, rules: &Rules, source: &mut S) -> Answer
+    requires rules { 1 ≤ rules.now.attempts }
+    ensures caused { IsCaused (Some rules.now) (record { old = S.told source.old; new = S.told source.new }) result }
+    ensures few { ConsumesUpTo most_input (S.told source.old) (S.told source.new) }
+{
+    let input = match read_up_to(alloc, source, MOST_INPUT) {
+        Ok(input) => input,
+        Err(ReadErr::Failed) => return Answer::ReadFault,
+        Err(ReadErr::NoMemory) => return Answer::NoMemory,
+    };
+    match verdict_on(alloc, rules, input.as_slice()) {
+        Ok(verdict) => Answer::Judged(verdict),
+        Err(NoMemory) => Answer::NoMemory,
+    }
+}
+
+// What is to be said of the words and the source.
+fn answer<S: Source>(alloc: Global, words: &[String], source: &mut S) -> Answer
+    ensures caused { IsCaused (check_settings_of (map string_bytes words.now))
+        (record { old = S.told source.old; new = S.told source.new }) result }
+    ensures unread { check_settings_of (map string_bytes words.now) ≡ None → source.new ≡ source.old }
+    ensures few { ConsumesUpTo most_input (S.told source.old) (S.told source.new) }
+{
+    match check_settings(alloc, words) {
+        Ok(rules) => answer_by(alloc, &rules, source),
+        Err(SettingsErr::Usage) => Answer::Usage,
+        Err(SettingsErr::NoMemory) => Answer::NoMemory,
+    }
+}
+
+/// Reads a script and a printed journal from the source, and writes to the sink whether the journal is true.
+///
+/// `words` are those of the command line after the program's name.
+pub fn check_run<R: AllocGlobal, S: Source, K: Sink>(
+    rt: &R,
+    words: &[String],
+    source: &mut S,
+    sink: &mut K,
+) -> CheckStatus
+    // What was meant has its cause in the words and the bytes that came. It was said, or the sink failed after a front of that.
+    ensures answered { IsAnswered (map string_bytes words.now) (record { old = S.told source.old; new = S.told source.new })
+        (record { old = K.told sink.old; new = K.told sink.new }) result }
+
+    // Nothing is read if the words are refused.
+    ensures unread { check_settings_of (map string_bytes words.now) ≡ None → source.new ≡ source.old }
+
+    // No more than so many bytes are read.
+    ensures few { ConsumesUpTo most_input (S.told source.old) (S.told source.new) }
+{
+    let found = answer(rt.alloc(), words, source);
+    say(rt.alloc(), sink, found)
+}
+
+// The words could not be had: for lack of memory, or since one is no text, which no option takes.
+fn say_wordless<K: Sink>(alloc: Global, sink: &mut K, error: io::Error) -> CheckStatus
+    ensures { IsWordless result (record { old = K.told sink.old; new = K.told sink.new }) }
+{
+    if error.kind() == io::ErrorKind::OutOfMemory {
+        return say(alloc, sink, Answer::NoMemory);
+    }
+    say(alloc, sink, Answer::Usage)
+}
+
+/// Runs the whole program, with the words of its command line if they could be had.
+pub fn run_program<R: AllocGlobal, S: Source, K: Sink>(
+    rt: &R,
+    words: io::Result<Vec<String>>,
+    source: &mut S,
+    sink: &mut K,
+) -> CheckStatus
+    // It is answered as by `check_run`.
+    ensures answered { IfOk words (λ words. IsAnswered (map string_bytes words.items)
+        (record { old = S.told source.old; new = S.told source.new }) (record { old = K.told sink.old; new = K.told sink.new }) result) }
+
+    // Nothing is read if the words are refused.
+    ensures unread { IfOk words (λ words. check_settings_of (map string_bytes words.items) ≡ None → source.new ≡ source.old) }
+
+    // No more than so many bytes are read.
+    ensures few { ConsumesUpTo most_input (S.told source.old) (S.told source.new) }
+
+    // Without its words nothing is read.
+    ensures wordless { OnErr words (
+        IsWordless result (record { old = K.told sink.old; new = K.told sink.new }) × (source.new ≡ source.old)) }
+{
+    match words {
+        Ok(words) => check_run(rt, words.as_slice(), source, sink),
+        Err(error) => say_wordless(rt.alloc(), sink, error),
+    }
+}
