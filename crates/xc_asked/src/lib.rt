@@ -8,8 +8,6 @@ mod same_call;
 mod script_job;
 mod script_jobs;
 mod starts;
-#[cfg(test)]
-mod tests;
 mod walk;
 
 pub use kept::{kept_count, started};

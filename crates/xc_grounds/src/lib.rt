@@ -6,8 +6,6 @@ mod grounds;
 mod numbers;
 mod part;
 mod places;
-#[cfg(test)]
-mod tests;
 
 pub use grounds::first_groundless;
 pub use numbers::first_misnumbered;

@@ -1,5 +1,4 @@
-//! Tests of what a whole run goes through: workers in step, a station whose transactions are finished on demand, and the
-//! top call where a read or a write fails.
+//! Tests of what a whole run goes through: workers in step, and a station whose transactions are finished on demand.
 #![tactic(auto)]
 
 #[cfg(test)]

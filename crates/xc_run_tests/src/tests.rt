@@ -1,4 +1,3 @@
-mod app;
 mod finishing;
 mod pace;
 mod workers;

@@ -5,8 +5,6 @@ mod job_left;
 mod jobs;
 mod kept;
 mod tail;
-#[cfg(test)]
-mod tests;
 mod totals;
 mod words;
 

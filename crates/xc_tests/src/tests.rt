@@ -1,15 +1,10 @@
 mod buffers;
-mod claims;
 mod compensate;
 mod data;
 mod deferred;
 mod file;
-mod journal;
-mod machine;
 mod memhost;
-mod print;
 mod testhost;
-mod words;
 
 use std::alloc::Global;
 use xc_data::{Kind, Name, NoMemory, Num, SharedName};

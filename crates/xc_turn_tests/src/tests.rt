@@ -1,4 +1,3 @@
-mod edge;
 mod notes;
 mod sentinels;
 mod turnstile;

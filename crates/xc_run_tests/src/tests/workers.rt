@@ -1,7 +1,9 @@
 use std::alloc::{AllocError, Global};
+use std::sync::Wait;
 use std::test::Fail;
+use std::thread::Threads;
 use xc_app::{HoldPace, Status, xcalls_run};
-use xc_data::{CallNumbers, Chunk};
+use xc_data::{CallNumbers, Chunk, NoMemory};
 use xc_edge::{MemSink, MemSource};
 use xc_memhost::MemHost;
 
@@ -28,18 +30,31 @@ fn two_workers(alloc: Global) -> Result<Vec<String>, AllocError> {
     Ok(words)
 }
 
+fn source(alloc: Global) -> Result<MemSource, NoMemory> {
+    let script = two_jobs(alloc)?;
+    let bytes = Chunk::new(alloc, script.as_bytes())?;
+    Ok(MemSource::new(bytes, CallNumbers::new(alloc), 4096))
+}
+
+// How the run of both jobs ends, with a worker for each.
+fn run_in_step<R: AllocGlobal + Threads + Wait + Sync>(
+    rt: &R,
+    pace: &HoldPace,
+) -> Result<Status, NoMemory> {
+    let alloc = rt.alloc();
+    let words = two_workers(alloc)?;
+    let mut source = source(alloc)?;
+    let mut sink = MemSink::new(alloc, CallNumbers::new(alloc), 4096, 65_536)?;
+    let host = MemHost::new(alloc);
+    let finish = xcalls_run(rt, words.as_slice(), &mut source, &mut sink, host, pace);
+    Ok(finish.status)
+}
+
 // After each of their forty turns the jobs wait for one another: none ends before the other has come as far.
 #[test]
 fn two_workers_keep_in_step(rt: HostRuntime) -> Result<(), Fail> {
-    let script = two_jobs(rt.alloc())?;
-    let none = CallNumbers::new(rt.alloc());
-    let mut source = MemSource::new(Chunk::new(rt.alloc(), script.as_bytes())?, none, 4096);
-    let mut sink = MemSink::new(rt.alloc(), CallNumbers::new(rt.alloc()), 4096, 65_536)?;
-    let words = two_workers(rt.alloc())?;
     let pace = HoldPace::new(40, 1_000_000_000);
-    let host = MemHost::new(rt.alloc());
-    let finish = xcalls_run(&rt, words.as_slice(), &mut source, &mut sink, host, &pace);
-    assert!(rt; finish.status == Status::Done);
+    assert!(rt; run_in_step(&rt, &pace)? == Status::Done);
     assert!(rt; pace.met());
     Ok(())
 }
