@@ -1,0 +1,4 @@
+pub mod Blocks
+pub mod Gained
+pub mod Told
+pub mod Lines

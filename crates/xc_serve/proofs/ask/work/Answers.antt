@@ -1,0 +1,35 @@
+use Rattle.std.proofs.Common.{[], ◌∷◌, ◌++◌, ℕ, inr, refl, subst}
+use Rattle.std.specs.declared.option.Option.{Option}
+use Rattle.std.specs.declared.option.Option.TheVariants.{Some}
+use Rattle.xc_data.specs.declared.entry.Event.TheVariants.{Picked}
+use Rattle.xc_serve.specs.Answers.{closing, texts, turns_of}
+use Rattle.xc_serve.specs.Gains.{Gains}
+use Rattle.xc_serve.proofs.Gained.{gains_further}
+use Rattle.xc_serve.proofs.ask.work.Goals as goal
+
+pub returns : goal.returns
+returns g c =
+    let j = c.in-Some.job in
+    let w = c.work_told-pass.ensures in
+    let mid = c.pick_told-pass.result.0 in
+    let turns = turns_of j (w.before ++ w.last ∷ []) in
+    record {
+      events = Picked (Some j) ∷ turns;
+      entries = w.entries;
+      answer = texts w.entries ++ closing j w.block w.last;
+      gains = gains_further c.args.pass mid c.work_told-pass.result.0 (Picked (Some j) ∷ []) turns [] w.entries
+          (subst (λ (o : Option ℕ). Gains c.args.pass mid (Picked o ∷ []) []) c.in-Some.is c.pick_told-pass.ensures) w.gains;
+      is = inr (record {
+        job = j;
+        before = w.before;
+        last = w.last;
+        block = w.block;
+        gained = refl;
+        went_on = w.went_on;
+        ends = w.ends;
+        own = w.own;
+        said = refl;
+      });
+      told_is = c.all_told.ensures (texts w.entries ++ closing j w.block w.last) w.text;
+      starved = λ none. (λ e. cc, λ e. cc);
+    }
