@@ -1,0 +1,4 @@
+pub mod Headline
+pub mod Lines
+pub mod Options
+pub mod Parts
