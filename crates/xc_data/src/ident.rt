@@ -87,7 +87,8 @@ impl Ident {
 
     /// Its bytes, without the padding.
     pub fn as_slice(&self) -> &[u8]
-        ensures { result.now ≡ self.now }
+        ensures value { result.now ≡ self.now }
+        ensures name { IsTrue (is_ident self.now) }
     {
         &self.bytes[..self.len as usize]
     }
