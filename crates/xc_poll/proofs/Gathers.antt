@@ -10,11 +10,13 @@ use Rattle.std.specs.declared.option.Option.TheVariants.{None, Some}
 use Rattle.xc_data.specs.declared.entry.Entry.{Entry}
 use Rattle.xc_data.specs.declared.entry.Event.{Event}
 use Rattle.xc_data.specs.declared.entry.Event.TheVariants.{Picked}
+use Rattle.xc_runner.specs.Tries.{HasTried}
+use Rattle.xc_runner.specs.declared.tries.Tried.{Tried}
+use Rattle.xc_runner.specs.declared.tries.Tried.TheVariants.{Answered, Held}
 use Rattle.xc_turnstile.specs.Known.{Known}
 use Rattle.xc_turnstile.specs.Views.{BeginsWith, longer}
 use Rattle.xc_poll.specs.Askings.{HasAsked, asked_of}
 use Rattle.xc_poll.specs.Crews.{BeginsWithEvents}
-use Rattle.xc_poll.specs.Polls.{GainsOnce}
 
 module _ (a b : List Entry) where
   begins_by : (t : Bool) → nat_lt (length a) (length b) ≡ t → BeginsWith a b ⊎ BeginsWith b a → BeginsWith (if t then b else a) a
@@ -30,10 +32,11 @@ module _ (a b : List Entry) where
 pub events_further : (a b c : List Event) → BeginsWithEvents b a → BeginsWithEvents c b → BeginsWithEvents c a
 events_further a b c p q = (p.0 ++ q.0, q.1 ∙ ap (λ (es : List Event). es ++ q.0) p.1 ∙ append_assoc a p.0 q.0)
 
--- an asking that entered
-pub asked_gains : (old new : Known) (job : Option ℕ) → GainsOnce old new (Picked job) → HasAsked old new (asked_of job)
-asked_gains old new None h = h
-asked_gains old new (Some job) h = h
+-- an asking
+pub asked_so : (old new : Known) (tried : Tried (Option ℕ)) → HasTried (λ job. Picked job) old new tried → HasAsked old new (asked_of tried)
+asked_so old new (Answered None) h = h
+asked_so old new (Answered (Some job)) h = h
+asked_so old new (Held word) h = h
 
 -- ---- one task more: those before place i were polled, and the others are as they were
 module _ {A : Type 0} (old items : List A) (i : ℕ) (lt : i < length items) (rest : drop i items ≡ drop i old) where

@@ -11,22 +11,19 @@ use Rattle.xc_data.specs.declared.entry.Event.TheVariants.{Turned}
 use Rattle.xc_data.specs.declared.entry.JobEnd.{JobEnd}
 use Rattle.xc_data.specs.declared.entry.Turn.{Turn}
 use Rattle.xc_data.specs.declared.entry.Turn.TheVariants as turn
-use Rattle.xc_turnstile.specs.Insides.{PassGoesOn, IsInside, IsNext}
-use Rattle.xc_turnstile.proofs.Passes.{goes_further, gains}
+use Rattle.xc_runner.specs.Tries.{IsHeldOff}
+use Rattle.xc_runner.proofs.Steps.{held_outside, outside_goes}
+use Rattle.xc_turnstile.specs.Insides.{PassGoesOn}
+use Rattle.xc_turnstile.proofs.Passes.{goes_further}
 use Rattle.xc_turnstile.proofs.Fronts.{starts_self}
 use Rattle.xc_turnstile.specs.declared.view.View.{View}
 use Rattle.xc_turnstile.specs.Known.{Known}
-use Rattle.xc_station.specs.Events.{IsEvent, meaning_of}
-use Rattle.xc_station.specs.Stations.{StationView}
-use Rattle.xc_turnstile.specs.Meanings.{Meaning}
-use Rattle.xc_turnstile.specs.Views.{left_view, lost_view}
 use Rattle.atomic_table.specs.Seated.{TableId}
 use Rattle.xc_poll.specs.Tasks.{Task, known_of}
-use Rattle.xc_poll.specs.Polls.{AllWent, AllButLastWent, GainsOnce, GainsTurn, HasGone, HasReason, HasStopped, HasTaken, IsPolled, IsRound}
+use Rattle.xc_poll.specs.Polls.{AllWent, AllButLastWent, GainsTurn, HasGone, HasReason, HasStopped, IsPolled, IsRound}
 use Rattle.xc_poll.specs.Polls.{last_of, said, said_by, stop_of, turns_of}
 use Rattle.xc_poll.specs.declared.round.Stop.{Stop}
 use Rattle.xc_poll.specs.declared.round.Stop.TheVariants as stop
-use Rattle.xc_poll.specs.declared.round.Taken.TheVariants as taken
 use Rattle.xc_poll.specs.declared.round.Waits.{Waits}
 use Rattle.xc_poll.specs.declared.round.Waits.TheVariants as waits
 
@@ -79,31 +76,6 @@ goes_nowhere a =
       added = [];
       mine = sym (append-nil a.view.mine);
     }
-
--- ---- one event
--- an event of a station leads on
-pub event_next : {H : Type 0} (old new : StationView H) (event : Event) → IsEvent old new event → IsNext meaning_of old new event
-event_next old new event is =
-    record {
-      front = is.front;
-      origin = λ i. record { script = (is.origin.opening i).script; faults = (is.origin.opening i).faults; rules = is.origin.rules i };
-      count = is.count;
-      last = is.last;
-    }
-
-module _ {X : Type 0} (m : Meaning X) (pass hold : Known) (x y : X) (event : Event) (inside : IsInside m pass hold x) where
-  -- the pass behind a leaving with one event more, where the entering found nobody inside
-  pub gains_once : inside.lost ≡ pass.view.lost → IsNext m x y event → (left : Known) → left.table ≡ hold.table
-      → left.view ≡ left_view (m.journal y) (m.count y) (m.last y) hold.view → GainsOnce pass left event
-  gains_once same next left table view =
-      let was = view ∙ ap (left_view (m.journal y) (m.count y) (m.last y)) inside.view in
-      let all = gains m pass hold x y event inside next left table view in
-      record {
-        goes = all.goes;
-        events = all.gains;
-        won = ap (λ (v : View). v.won) was;
-        lost = ap (λ (v : View). v.lost) was ∙ same;
-      }
 
 -- ---- several
 pub gone_nowhere : (a : Known) (job : ℕ) → HasGone a a job 0
@@ -178,30 +150,18 @@ went_on (Some (turn.Busy object holder)) e = absurd (subst IsSome e tt)
 went_on (Some turn.NoMemory) e = absurd (subst IsSome e tt)
 went_on (Some (turn.Ended end)) e = absurd (subst IsSome e tt)
 
--- a pass that found another inside goes on
-pub lost_goes : (b c : Known) → c.table ≡ b.table → c.view ≡ lost_view b.view → PassGoesOn b c
-lost_goes b c table view =
-    record {
-      table = table;
-      shares = ap (λ (v : View). v.shares) view;
-      origin = ap (λ (v : View). v.origin) view;
-      seen = ([], ap (λ (v : View). v.seen) view ∙ sym (append-nil b.view.seen));
-      added = [];
-      mine = ap (λ (v : View). v.mine) view ∙ sym (append-nil b.view.mine);
-    }
-
 -- turns that stop since another was inside
-pub round_held : (a b c : Known) (job share count word : ℕ) → HasGone a b job count → count < share → HasTaken b c job (taken.Held word)
+pub round_held : (a b c : Known) (job share count word : ℕ) → HasGone a b job count → count < share → IsHeldOff b c word
     → IsRound a c job share (stop.Waits (waits.Held word))
 round_held a b c job share count word h below k =
     record {
       answers = h.answers;
-      events = ap (λ (v : View). v.events) k.2 ∙ h.events;
+      events = ap (λ (v : View). v.events) k.view ∙ h.events;
       few = omega (arith, h.long, below);
       went = all_but_self h.answers h.went;
-      won = ap (λ (v : View). v.won) k.2 ∙ (h.won ∙ ap (λ n. a.view.won + n) (sym h.long));
-      goes = goes_further a b c h.goes (lost_goes b c k.0 k.2);
-      stopped = (h.went, omega (arith, h.long, below), k.1, ap (λ (v : View). v.lost) k.2 ∙ ap (λ n. n + 1) h.lost);
+      won = ap (λ (v : View). v.won) k.view ∙ (h.won ∙ ap (λ n. a.view.won + n) (sym h.long));
+      goes = goes_further a b c h.goes (outside_goes b c (held_outside b c word k));
+      stopped = (h.went, omega (arith, h.long, below), k.odd, ap (λ (v : View). v.lost) k.view ∙ ap (λ n. n + 1) h.lost);
     }
 
 -- turns that stop since all of the share were taken

@@ -30,7 +30,7 @@ rise_more low high n (m ∷ ms) h lt = (h.0, rise_more m high n ms h.1 lt)
 
 -- the shares, with what an asking leaves
 asked_keeps : (old new : Known) (last : Asked) → HasAsked old new last → (new.table ≡ old.table) × (new.view.shares ≡ old.view.shares)
-asked_keeps old new (asked.Held word) h = (h.0, ap (λ (v : View). v.shares) h.2)
+asked_keeps old new (asked.Held word) h = (h.table, ap (λ (v : View). v.shares) h.view)
 asked_keeps old new (asked.Job job) h = (h.goes.table, h.goes.shares)
 asked_keeps old new asked.Nothing h = (h.goes.table, h.goes.shares)
 
@@ -171,12 +171,12 @@ by_asked : (old : Crew) (left : Known) (last : Asked) → HasAsked old.asking le
     → GoesBy old (record old { asking = left }) (asked_events last) (asked_lost last)
 by_asked old left (asked.Held word) h =
     record {
-      table = h.0;
-      origin = ap (λ (v : View). v.origin) h.2;
-      seen = subst (λ (es : List _). BeginsWith es old.asking.view.seen) (sym (ap (λ (v : View). v.seen) h.2)) (starts_self old.asking.view.seen);
-      shares = ap (λ (v : View). v.shares + shares_of old.tasks) h.2;
-      gains = ap (λ (v : View). v.events) h.2 ∙ sym (append-nil old.asking.view.events);
-      loses = ap (λ (v : View). v.lost) h.2;
+      table = h.table;
+      origin = ap (λ (v : View). v.origin) h.view;
+      seen = subst (λ (es : List _). BeginsWith es old.asking.view.seen) (sym (ap (λ (v : View). v.seen) h.view)) (starts_self old.asking.view.seen);
+      shares = ap (λ (v : View). v.shares + shares_of old.tasks) h.view;
+      gains = ap (λ (v : View). v.events) h.view ∙ sym (append-nil old.asking.view.events);
+      loses = ap (λ (v : View). v.lost) h.view;
       stay = stay_all old.tasks;
     }
 by_asked old left (asked.Job job) h =

@@ -1,12 +1,14 @@
 -- The askings of a round: jobs are handed out, and each that is taken in gets half of the pass with the most shares.
-use Rattle.std.specs.Prelude.{◌≡◌, ℕ, ◌+◌, ◌%◌, ◌<◌, ◌≤◌, ◌⊎◌, false, List, [], ◌∷◌, ◌++◌, length, get_or, map, All, Option, MatchOption}
+use Rattle.std.specs.Prelude.{◌≡◌, ℕ, ◌+◌, ◌<◌, ◌≤◌, ◌⊎◌, false, List, [], ◌∷◌, ◌++◌, length, get_or, map, All, Option, MatchOption}
 use Rattle.std.specs.declared.option.Option.TheVariants.{None, Some}
 use Rattle.xc_data.specs.declared.entry.Event.{Event}
 use Rattle.xc_data.specs.declared.entry.Event.TheVariants.{Picked}
+use Rattle.xc_runner.specs.Tries.{GainsOnce, IsHeldOff}
+use Rattle.xc_runner.specs.declared.tries.Tried.{Tried}
+use Rattle.xc_runner.specs.declared.tries.Tried.TheVariants.{Answered, Held}
 use Rattle.xc_turnstile.specs.Known.{Known}
-use Rattle.xc_turnstile.specs.Views.{given_half, kept_half, lost_view}
+use Rattle.xc_turnstile.specs.Views.{given_half, kept_half}
 use Rattle.xc_poll.specs.Crews.{Crew}
-use Rattle.xc_poll.specs.Polls.{GainsOnce}
 use Rattle.xc_poll.specs.Tasks.{Task}
 use Rattle.xc_poll.specs.declared.asking.Asked.{Asked}
 use Rattle.xc_poll.specs.declared.asking.Asked.TheVariants as asked
@@ -14,14 +16,15 @@ use Rattle.xc_poll.specs.declared.asking.Asked.TheVariants as asked
 -- ---- one asking
 -- another was inside; or a job was handed out; or none is left
 abbrev pub HasAsked : Known → Known → Asked → Type 0
-HasAsked old new (asked.Held word) = (new.table ≡ old.table) × (word % 2 ≡ 1) × (new.view ≡ lost_view old.view)
+HasAsked old new (asked.Held word) = IsHeldOff old new word
 HasAsked old new (asked.Job job) = GainsOnce old new (Picked (Some job))
 HasAsked old new asked.Nothing = GainsOnce old new (Picked None)
 
--- what one that entered was answered
-abbrev pub asked_of : Option ℕ → Asked
-asked_of None = asked.Nothing
-asked_of (Some job) = asked.Job job
+-- what a step that doesn't wait says to one that asks
+abbrev pub asked_of : Tried (Option ℕ) → Asked
+asked_of (Answered (Some job)) = asked.Job job
+asked_of (Answered None) = asked.Nothing
+asked_of (Held word) = asked.Held word
 
 -- ---- a pass for a job
 -- half of a pass, which has two shares at least, is given away

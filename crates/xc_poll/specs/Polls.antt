@@ -13,12 +13,10 @@ use Rattle.xc_data.specs.declared.entry.Turn.{Turn}
 use Rattle.xc_data.specs.declared.entry.Turn.TheVariants as turn
 use Rattle.xc_turnstile.specs.Insides.{PassGoesOn}
 use Rattle.xc_turnstile.specs.Known.{Known}
-use Rattle.xc_turnstile.specs.Views.{lost_view}
+use Rattle.xc_runner.specs.Tries.{GainsOnce}
 use Rattle.xc_poll.specs.Tasks.{Task}
 use Rattle.xc_poll.specs.declared.round.Stop.{Stop}
 use Rattle.xc_poll.specs.declared.round.Stop.TheVariants as stop
-use Rattle.xc_poll.specs.declared.round.Taken.{Taken}
-use Rattle.xc_poll.specs.declared.round.Taken.TheVariants as taken
 use Rattle.xc_poll.specs.declared.round.Waits.{Waits}
 use Rattle.xc_poll.specs.declared.round.Waits.TheVariants as waits
 
@@ -89,21 +87,9 @@ stop_of (Some (turn.Busy object holder)) = Some (stop.Waits (waits.Met object ho
 stop_of (Some turn.NoMemory) = Some (stop.Waits waits.Memory)
 stop_of (Some (turn.Ended end)) = Some (stop.Ended (Some end))
 
--- a pass behind an entering with one event, where nobody else was found inside
-pub record GainsOnce (old new : Known) (event : Event) : Type 0 where
-  pub goes : PassGoesOn old new
-  pub events : new.view.events ≡ old.view.events ++ event ∷ []
-  pub won : new.view.won ≡ old.view.won + 1
-  pub lost : new.view.lost ≡ old.view.lost
-
 -- with one turn
 abbrev pub GainsTurn : Known → Known → ℕ → Option Turn → Type 0
 GainsTurn old new job answer = GainsOnce old new (Turned job answer)
-
--- a pass behind a try to take a turn
-abbrev pub HasTaken : Known → Known → ℕ → Taken → Type 0
-HasTaken old new job (taken.Turn answer) = GainsTurn old new job answer
-HasTaken old new job (taken.Held word) = (new.table ≡ old.table) × (word % 2 ≡ 1) × (new.view ≡ lost_view old.view)
 
 -- so many turns were taken, and each went
 pub record HasGone (old new : Known) (job count : ℕ) : Type 0 where

@@ -2,8 +2,9 @@ ghost use Rattle.std.specs.Prelude.{◌≡◌};
 ghost use Rattle.xc_poll.specs.Askings.{HasAsked, asked_of};
 
 use xc_host::Host;
+use xc_runner::{Tried, try_pick};
 use xc_station::Station;
-use xc_turnstile::{Entered, Pass, Turnstile};
+use xc_turnstile::{Pass, Turnstile};
 
 /// What an asking for a job was answered.
 #[derive(Clone, Copy, Debug, PartialEq, Eq)]
@@ -16,13 +17,14 @@ pub enum Asked {
     Nothing,
 }
 
-// What an asking that entered was answered.
-fn asked_of(job: Option<u32>) -> Asked
-    ensures { result ≡ asked_of job }
+// What an asking was answered.
+fn asked_of(tried: Tried<Option<u32>>) -> Asked
+    ensures { result ≡ asked_of tried }
 {
-    match job {
-        Some(job) => Asked::Job(job),
-        None => Asked::Nothing,
+    match tried {
+        Tried::Answered(Some(job)) => Asked::Job(job),
+        Tried::Answered(None) => Asked::Nothing,
+        Tried::Held(word) => Asked::Held(word),
     }
 }
 
@@ -34,12 +36,6 @@ pub(crate) fn ask<H: Host>(
     requires { pass.table ≡ shop.now.table.shared.table_id }
     ensures { HasAsked pass result.0 result.1 }
 {
-    match shop.try_enter(pass) {
-        Entered::Inside(value, hold) => {
-            let mut station = value;
-            let job = station.next_job();
-            (shop.leave(station, hold), asked_of(job))
-        }
-        Entered::Held(back, word) => (back, Asked::Held(word)),
-    }
+    let (pass, tried) = try_pick(shop, pass);
+    (pass, asked_of(tried))
 }

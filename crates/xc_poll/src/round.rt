@@ -1,10 +1,11 @@
 ghost use Rattle.std.specs.Prelude.{◌≡◌, ◌≤◌};
-ghost use Rattle.xc_poll.specs.Polls.{HasTaken, IsRound, stop_of};
+ghost use Rattle.xc_poll.specs.Polls.{IsRound, stop_of};
 
 use xc_data::{JobEnd, Object, Turn};
 use xc_host::Host;
+use xc_runner::{Tried, try_turn};
 use xc_station::Station;
-use xc_turnstile::{Entered, Pass, Turnstile};
+use xc_turnstile::{Pass, Turnstile};
 
 /// Why a task has to be polled again.
 #[derive(Debug, Drop, PartialEq, Eq)]
@@ -36,36 +37,11 @@ impl Waits {
     }
 }
 
-/// What a try to take a turn gave.
-pub(crate) enum Taken {
-    Turn(Option<Turn>),
-    Held(u64),
-}
-
 /// Where the turns of a poll stop.
 pub(crate) enum Stop {
     /// The job has ended; no end where it had ended before.
     Ended(Option<JobEnd>),
     Waits(Waits),
-}
-
-// Takes one turn of the job, where nobody is inside.
-fn take_turn<H: Host>(
-    shop: &Turnstile<Box<Station<H>>>,
-    pass: Pass<Box<Station<H>>>,
-    job: u32,
-) -> (Pass<Box<Station<H>>>, Taken)
-    requires { pass.table ≡ shop.now.table.shared.table_id }
-    ensures { HasTaken pass result.0 job result.1 }
-{
-    match shop.try_enter(pass) {
-        Entered::Inside(value, hold) => {
-            let mut station = value;
-            let answer = station.try_turn(job);
-            (shop.leave(station, hold), Taken::Turn(answer))
-        }
-        Entered::Held(back, word) => (back, Taken::Held(word)),
-    }
 }
 
 // Where the turns stop behind this answer; none where they go on.
@@ -98,11 +74,11 @@ pub(crate) fn take_turns<H: Host>(
     let mut mine = pass;
     let mut count: u32 = 0;
     while count < share {
-        let (back, taken) = take_turn(shop, mine, job);
+        let (back, tried) = try_turn(shop, mine, job);
         mine = back;
-        let answer = match taken {
-            Taken::Held(word) => return (mine, Stop::Waits(Waits::Held(word))),
-            Taken::Turn(answer) => answer,
+        let answer = match tried {
+            Tried::Held(word) => return (mine, Stop::Waits(Waits::Held(word))),
+            Tried::Answered(answer) => answer,
         };
         if let Some(stop) = stop_of(&answer) {
             return (mine, stop);

@@ -7,6 +7,7 @@ ghost use Rattle.xc_runner.specs.Walks.{FindsNoneLeft, Leads, is_last, over, pic
 
 use crate::backoff::Backoff;
 use crate::pace::Pace;
+use crate::tries::{Tried, try_pick, try_turn};
 use std::sync::Wait;
 use xc_data::Turn;
 use xc_host::Host;
@@ -48,7 +49,7 @@ pub fn enter<V: Chronicle, R: Wait>(rt: &R, turnstile: &Turnstile<V>, pass: Pass
     unreachable!()
 }
 
-/// Takes the next job, in one entering. It may wait.
+/// Takes the next job, in one entering. It waits while others are inside.
 pub fn pick<H: Host, R: Wait>(
     rt: &R,
     turnstile: &Turnstile<Box<Station<H>>>,
@@ -57,12 +58,23 @@ pub fn pick<H: Host, R: Wait>(
     requires { pass.table ≡ turnstile.now.table.shared.table_id }
     ensures { GainsEvent pass result.0 (Picked result.1) }
 {
-    let (mut station, hold) = enter(rt, turnstile, pass);
-    let job = station.next_job();
-    (turnstile.leave(station, hold), job)
+    let mut mine = pass;
+    let mut backoff = Backoff::new();
+    for _ in rt.forever() {
+        if !turnstile.is_held() {
+            let (back, tried) = try_pick(turnstile, mine);
+            mine = back;
+            match tried {
+                Tried::Answered(job) => return (mine, job),
+                Tried::Held(_) => {}
+            }
+        }
+        backoff.wait(rt);
+    }
+    unreachable!()
 }
 
-/// Takes one turn of a job, in one entering. It answers what `try_turn` does, and may wait.
+/// Takes one turn of a job, in one entering. It answers what `try_turn` does, and waits while others are inside.
 pub fn turn<H: Host, R: Wait>(
     rt: &R,
     turnstile: &Turnstile<Box<Station<H>>>,
@@ -72,9 +84,20 @@ pub fn turn<H: Host, R: Wait>(
     requires { pass.table ≡ turnstile.now.table.shared.table_id }
     ensures { GainsEvent pass result.0 (Turned job result.1) }
 {
-    let (mut station, hold) = enter(rt, turnstile, pass);
-    let answer = station.try_turn(job);
-    (turnstile.leave(station, hold), answer)
+    let mut mine = pass;
+    let mut backoff = Backoff::new();
+    for _ in rt.forever() {
+        if !turnstile.is_held() {
+            let (back, tried) = try_turn(turnstile, mine, job);
+            mine = back;
+            match tried {
+                Tried::Answered(answer) => return (mine, answer),
+                Tried::Held(_) => {}
+            }
+        }
+        backoff.wait(rt);
+    }
+    unreachable!()
 }
 
 // Whether a job takes no further turn after this answer.

@@ -1,23 +1,9 @@
-use Rattle.std.proofs.Common.{refl, arith, subst, sym}
-use Rattle.xc_data.specs.declared.entry.Event.TheVariants.{Picked}
-use Rattle.xc_station.specs.Events.{IsEvent, meaning_of}
-use Rattle.xc_station.specs.Stations.{StationView}
-use Rattle.xc_turnstile.specs.Insides.{IsInside}
+use Rattle.std.proofs.Common.{subst, sym}
 use Rattle.xc_poll.specs.Askings.{HasAsked}
-use Rattle.xc_poll.proofs.Gathers.{asked_gains}
-use Rattle.xc_poll.proofs.Rounds.{event_next, gains_once}
+use Rattle.xc_poll.proofs.Gathers.{asked_so}
 use Rattle.xc_poll.proofs.asking.ask.Goals as goal
 
-pub returns-in-Inside : goal.returns-in-Inside
-returns-in-Inside g c =
-    let was = c.in-Inside.value.value in
-    let is = c.next_job-job.new.self in
-    let event = Picked c.next_job-job.result in
-    let e = c.in-Inside.ensures in
-    let inside : IsInside meaning_of c.args.pass c.in-Inside.hold was =
-    record { table = e.0; begins = e.1; origin = e.2; lost = c.args.pass.view.lost; more = omega arith; view = e.3 } in
-    subst (HasAsked c.args.pass c.leave.result) (sym c.asked_of.ensures)
-    (asked_gains c.args.pass c.leave.result c.next_job-job.result
-    (gains_once meaning_of c.args.pass c.in-Inside.hold was is event inside refl
-    (event_next was is event (subst (λ (s : StationView g.row.H.Denot). IsEvent s is event) c.deref_mut.ensures.value c.next_job-job.ensures.event))
-    c.leave.result c.leave.ensures.table c.leave.ensures.view))
+pub returns : goal.returns
+returns g c =
+    subst (HasAsked c.args.pass c.try_pick-pass.result.0) (sym c.asked_of.ensures)
+    (asked_so c.args.pass c.try_pick-pass.result.0 c.try_pick-pass.result.1 c.try_pick-pass.ensures)

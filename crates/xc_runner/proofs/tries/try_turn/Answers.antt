@@ -3,8 +3,8 @@ use Rattle.xc_data.specs.declared.entry.Event.TheVariants.{Turned}
 use Rattle.xc_station.specs.Events.{IsEvent, meaning_of}
 use Rattle.xc_station.specs.Stations.{StationView}
 use Rattle.xc_turnstile.specs.Insides.{IsInside}
-use Rattle.xc_poll.proofs.Rounds.{event_next, gains_once}
-use Rattle.xc_poll.proofs.round.take_turn.Goals as goal
+use Rattle.xc_runner.proofs.Steps.{event_next, gains_once}
+use Rattle.xc_runner.proofs.tries.try_turn.Goals as goal
 
 pub returns-in-Inside : goal.returns-in-Inside
 returns-in-Inside g c =

@@ -1,0 +1,69 @@
+-- Steps that don't wait, and those that wait for one that enters.
+use Rattle.std.proofs.Common.{◌≡◌, ℕ, ◌+◌, ◌≤◌, [], ◌∷◌, ◌++◌, List, refl, sym, ap, ◌∙◌, arith}
+use Rattle.std.proofs.lemmas.List.{append-nil}
+use Rattle.xc_data.specs.declared.entry.Event.{Event}
+use Rattle.xc_station.specs.Events.{IsEvent, meaning_of}
+use Rattle.xc_station.specs.Stations.{StationView}
+use Rattle.xc_turnstile.specs.Insides.{PassGoesOn, GainsEvent, IsInside, IsNext, IsOutside}
+use Rattle.xc_turnstile.specs.Known.{Known}
+use Rattle.xc_turnstile.specs.Meanings.{Meaning}
+use Rattle.xc_turnstile.specs.Views.{left_view}
+use Rattle.xc_turnstile.specs.declared.view.View.{View}
+use Rattle.xc_turnstile.proofs.Passes.{gains, goes_further, outside_further}
+use Rattle.xc_runner.specs.Tries.{GainsOnce, IsHeldOff}
+
+-- ---- one event
+-- an event of a station leads on
+pub event_next : {H : Type 0} (old new : StationView H) (event : Event) → IsEvent old new event → IsNext meaning_of old new event
+event_next old new event is =
+    record {
+      front = is.front;
+      origin = λ i. record { script = (is.origin.opening i).script; faults = (is.origin.opening i).faults; rules = is.origin.rules i };
+      count = is.count;
+      last = is.last;
+    }
+
+module _ {X : Type 0} (m : Meaning X) (pass hold : Known) (x y : X) (event : Event) (inside : IsInside m pass hold x) where
+  -- the pass behind a leaving with one event more, where the entering found nobody inside
+  pub gains_once : inside.lost ≡ pass.view.lost → IsNext m x y event → (left : Known) → left.table ≡ hold.table
+      → left.view ≡ left_view (m.journal y) (m.count y) (m.last y) hold.view → GainsOnce pass left event
+  gains_once same next left table view =
+      let was = view ∙ ap (left_view (m.journal y) (m.count y) (m.last y)) inside.view in
+      let all = gains m pass hold x y event inside next left table view in
+      record {
+        goes = all.goes;
+        events = all.gains;
+        won = ap (λ (v : View). v.won) was;
+        lost = ap (λ (v : View). v.lost) was ∙ same;
+      }
+
+-- ---- a pass that waits
+-- one that lost now and then goes on
+pub outside_goes : (a b : Known) → IsOutside a b → PassGoesOn a b
+outside_goes a b p =
+    record {
+      table = p.table;
+      shares = ap (λ (v : View). v.shares) p.view;
+      origin = ap (λ (v : View). v.origin) p.view;
+      seen = ([], ap (λ (v : View). v.seen) p.view ∙ sym (append-nil a.view.seen));
+      added = [];
+      mine = ap (λ (v : View). v.mine) p.view ∙ sym (append-nil a.view.mine);
+    }
+
+-- a pass that lost once more
+pub held_outside : (a b : Known) (word : ℕ) → IsHeldOff a b word → IsOutside a b
+held_outside a b word h = record { table = h.table; lost = a.view.lost + 1; more = omega arith; view = h.view }
+
+-- one that was held off once more
+pub waits_further : (a b c : Known) (word : ℕ) → IsOutside a b → IsHeldOff b c word → IsOutside a c
+waits_further a b c word p h = outside_further a b c p (held_outside b c word h)
+
+-- the step that enters behind that
+pub gains_behind : (a b c : Known) (event : Event) → IsOutside a b → GainsOnce b c event → GainsEvent a c event
+gains_behind a b c event p q =
+    record {
+      goes = goes_further a b c (outside_goes a b p) q.goes;
+      gains = q.events ∙ ap (λ (v : View). v.events ++ event ∷ []) p.view;
+      won = q.won ∙ ap (λ (v : View). v.won + 1) p.view;
+      lost = omega (arith, q.lost, p.more, ap (λ (v : View). v.lost) p.view);
+    }
