@@ -1,5 +1,5 @@
 ghost use Rattle.std.specs.Prelude.{◌≡◌};
-ghost use Rattle.std.specs.Io.{ReadsAtMost};
+ghost use Rattle.std.specs.Io.{ReadsAtMost, WritesAtMost};
 ghost use Rattle.xc_links.specs.Tcp.{untold, untold_links};
 
 use crate::{Duplex, Links};
@@ -24,6 +24,16 @@ fn read_again(stream: &mut TcpStream, into: &mut [u8]) -> io::Result<usize>
 {
     match stream.read(into) {
         Err(error) if error.kind() == ErrorKind::Interrupted => stream.read(into),
+        other => other,
+    }
+}
+
+// Writes once more where a signal came in between.
+fn write_again(stream: &mut TcpStream, piece: &[u8]) -> io::Result<usize>
+    ensures { WritesAtMost result piece.now }
+{
+    match stream.write(piece) {
+        Err(error) if error.kind() == ErrorKind::Interrupted => stream.write(piece),
         other => other,
     }
 }
@@ -61,7 +71,7 @@ impl Duplex for TcpLink {
     }
 
     fn write(&mut self, piece: &[u8]) -> Result<usize, Failed> {
-        match self.stream.write(piece) {
+        match write_again(&mut self.stream, piece) {
             Ok(0) | Err(_) => {
                 self.faults = self.faults.saturating_add(1);
                 Err(Failed)
