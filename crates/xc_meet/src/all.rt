@@ -15,11 +15,12 @@ use xc_serve::serve_one;
 use xc_station::Station;
 use xc_turnstile::{Pass, Turnstile};
 
-/// Accepts so many links, one after another, and serves each in a thread of its own, or here where none can be had. An accept that
-/// fails is the last. The sessions are entered backwards, the last one first. All passes are met. It may wait.
+/// Accepts so many links, one after another, and serves each while a thread of its own awaits the next; where no thread can be had,
+/// each is served before the next is awaited. An accept that fails is the last. The sessions are entered backwards, the last one first.
+/// All passes are met. It may wait.
 pub fn serve_all<
     L: Duplex + Send + Drop,
-    Ls: Links<Link = L> + Drop,
+    Ls: Links<Link = L> + Send + Drop,
     H: Host + Send,
     R: Threads + Wait + Sync,
 >(
@@ -47,8 +48,17 @@ pub fn serve_all<
     };
     let (rest, own) = part(shop, pass);
     let left = count - 1;
-    let (served, others) = join(
+    let (others, served) = join(
         rt,
+        || -> (Pass<Box<Station<H>>>, Ls, Roomy<Session<L>>)
+            requires sync { IsSync R.row }
+            requires table { rest.table ≡ shop.now.table.shared.table_id }
+            requires shares { (2 ^ 25 * left ≤ rest.view.shares) × (rest.view.shares ≤ 2 ^ 32) }
+            requires none { backwards.items ≡ [] }
+            requires room { left ≤ backwards.spare }
+            ensures { Leaves L.told (record { old = rest; new = result.0 }) (record { old = Ls.told links; new = Ls.told result.1 })
+                (record { old = backwards; new = result.2 }) left }
+        { serve_all(rt, alloc, shop, rest, links, backwards, left) },
         || -> (Pass<Box<Station<H>>>, Session<L>)
             requires { IsSync R.row × (own.table ≡ shop.now.table.shared.table_id) }
             ensures { IsSession own result.0 (L.told link) (L.told result.1.link) result.1.end }
@@ -59,15 +69,6 @@ pub fn serve_all<
             link.finish();
             (served.pass, Session { link, end })
         },
-        || -> (Pass<Box<Station<H>>>, Ls, Roomy<Session<L>>)
-            requires sync { IsSync R.row }
-            requires table { rest.table ≡ shop.now.table.shared.table_id }
-            requires shares { (2 ^ 25 * left ≤ rest.view.shares) × (rest.view.shares ≤ 2 ^ 32) }
-            requires none { backwards.items ≡ [] }
-            requires room { left ≤ backwards.spare }
-            ensures { Leaves L.told (record { old = rest; new = result.0 }) (record { old = Ls.told links; new = Ls.told result.1 })
-                (record { old = backwards; new = result.2 }) left }
-        { serve_all(rt, alloc, shop, rest, links, backwards, left) },
     );
     let (own, session) = served;
     let (met, links, mut backwards) = others;

@@ -16,7 +16,7 @@ use xc_turnstile::Turnstile;
 // The same with the station in its box, and with room for the sessions.
 fn serve_boxed<
     L: Duplex + Send + Drop,
-    Ls: Links<Link = L> + Drop,
+    Ls: Links<Link = L> + Send + Drop,
     H: Host + Send,
     R: Threads + Wait + Sync,
 >(
@@ -53,7 +53,7 @@ fn serve_boxed<
 /// sessions, the station's box or a turnstile, no link is accepted and both come back as they were. It may wait.
 pub fn serve_sessions<
     L: Duplex + Send + Drop,
-    Ls: Links<Link = L> + Drop,
+    Ls: Links<Link = L> + Send + Drop,
     H: Host + Send,
     R: Threads + Wait + Sync,
 >(
