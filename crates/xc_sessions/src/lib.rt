@@ -12,7 +12,7 @@ mod usage;
 
 pub use chosen::ServeChosen;
 pub use options::{serve_port, serve_settings};
-pub use program::{port_of_words, run_program};
+pub use program::{run_program, with_port};
 pub use run::serve_run;
 pub use serve::{Serve, ServeStatus};
 pub use xc_meet::Session;

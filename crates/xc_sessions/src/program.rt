@@ -1,8 +1,8 @@
-ghost use Rattle.std.specs.Prelude.{◌≡◌, IfOk, None, OnErr, map, string_bytes};
+ghost use Rattle.std.specs.Prelude.{◌≡◌, IfOk, None, Ok, OnErr, map, string_bytes};
 ghost use Rattle.xc_outcome.specs.Said.{IsWordless};
 ghost use Rattle.xc_sessions.specs.Headline.{AreServed, IsServed, IsWordlessRun, wanted_of};
 ghost use Rattle.xc_sessions.specs.Lines.{usage_line};
-ghost use Rattle.xc_sessions.specs.Options.{serve_settings_of};
+ghost use Rattle.xc_sessions.specs.Options.{port_of, serve_settings_of};
 ghost use Rattle.xc_sessions.specs.declared.serve.Serve.{Serve as Served};
 
 use crate::usage::usage;
@@ -11,6 +11,7 @@ use std::alloc::{AllocGlobal, Global};
 use std::sync::Wait;
 use std::thread::Threads;
 use std::{io, mem};
+use xc_data::NoMemory;
 use xc_edge::{Sink, Source};
 use xc_host::Host;
 use xc_links::{Duplex, Links};
@@ -28,11 +29,22 @@ fn say_wordless<K: Sink>(sink: &mut K, error: io::Error) -> Status
     write_due(sink, Status::Usage, &usage())
 }
 
-/// The port on which links are awaited: that of the words, or 7040 where they can't be had, are refused or name none.
-pub fn port_of_words(alloc: Global, words: &io::Result<Vec<String>>) -> u16 {
-    match words {
-        Ok(words) => serve_port(alloc, words.as_slice()).unwrap_or(DEFAULT_PORT),
-        Err(_) => DEFAULT_PORT,
+/// The words with the port on which links are awaited: 7040 where they can't be had, are refused or name none. Where memory is wanting
+/// to read them, they are handed on as words that could not be had, so that no link is awaited on another port.
+pub fn with_port(alloc: Global, words: io::Result<Vec<String>>) -> (io::Result<Vec<String>>, u16)
+    ensures words { IfOk result.0 (λ given. words ≡ Ok given) }
+    ensures port { IfOk result.0 (λ given. result.1 ≡ port_of (serve_settings_of (map string_bytes given.items))) }
+    ensures wordless { OnErr words (result.0 ≡ words) }
+{
+    let Ok(words) = words else {
+        return (words, DEFAULT_PORT);
+    };
+    match serve_port(alloc, words.as_slice()) {
+        Ok(port) => (Ok(words), port),
+        Err(NoMemory) => (
+            Err(io::Error::from(io::ErrorKind::OutOfMemory)),
+            DEFAULT_PORT,
+        ),
     }
 }
 
@@ -46,7 +58,7 @@ pub fn run_program<
     K: Sink,
     H: Host + Send,
     M: Duplex + Send + Drop,
-    L: Links<Link = M> + Drop,
+    L: Links<Link = M> + Send + Drop,
 >(
     rt: &R,
     words: io::Result<Vec<String>>,

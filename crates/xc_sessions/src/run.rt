@@ -31,7 +31,7 @@ fn work<
     R: AllocGlobal + Threads + Wait + Sync,
     H: Host + Send,
     M: Duplex + Send + Drop,
-    L: Links<Link = M> + Drop,
+    L: Links<Link = M> + Send + Drop,
 >(rt: &R, station: Station<H>, links: L, count: u32) -> Worked<H, M, L>
     requires journal { station.journal ≡ [] }
     requires at_most { count ≤ 64 }
@@ -100,7 +100,7 @@ pub fn serve_run<
     K: Sink,
     H: Host + Send,
     M: Duplex + Send + Drop,
-    L: Links<Link = M> + Drop,
+    L: Links<Link = M> + Send + Drop,
 >(rt: &R, words: &[String], source: &mut S, sink: &mut K, host: H, links: L) -> Serve<H, M, L>
     // The headline, a status with its cause, completeness, and the host that is given back: all as without sessions. The status is
     // another one only where an accept failed, or memory was wanting for the sessions.
