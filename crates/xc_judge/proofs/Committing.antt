@@ -1,9 +1,8 @@
 -- What the code has after a committed entry is what the entry leads to.
-use Rattle.std.proofs.Common.{rules, arith, length-append, ◌≡◌, ℕ, ◌+◌, ◌-◌, Option, Some, None, List, ◌++◌, length, replicate, ap, sym, ◌∙◌, subst}
-use Rattle.std.specs.Prelude.{map, slice_get, slice_set, IsSome, MatchOption}
+use Rattle.std.proofs.Common.{arith, length-append, ◌≡◌, ◌≢◌, ℕ, ◌+◌, ◌-◌, Option, Some, List, ◌++◌, length, replicate, ap, sym, ◌∙◌, subst}
+use Rattle.std.specs.Prelude.{map, slice_get, slice_set}
 use Rattle.std.proofs.lemmas.List.{length-map, length-replicate, length-set}
 use Rattle.xc_data.specs.declared.call.Call.{Call}
-use Rattle.xc_data.specs.declared.call.LateCall.{LateCall}
 use Rattle.xc_data.specs.declared.call.LateEnd.{LateEnd}
 use Rattle.xc_data.specs.declared.call.Reply.{Reply}
 use Rattle.xc_data.specs.declared.entry.Entry.{Entry}
@@ -13,9 +12,11 @@ use Rattle.xc_data.specs.declared.private.Place.{Place}
 use Rattle.xc_data.specs.declared.private.Private.{Private}
 use Rattle.xc_data.specs.declared.script.Outline.{Outline}
 use Rattle.xc_script.specs.Blocks.{kept_calls}
-use Rattle.xc_world.specs.Run.{BodyResult, asked_of, body, late_asked_of}
+use Rattle.xc_world.specs.Run.{asked_of, body, late_asked_of}
 use Rattle.xc_world.specs.Opening.{bare, opening, opening_handles}
+use Rattle.xc_world.specs.Sound.{IsSound}
 use Rattle.xc_world.specs.World.{State, World}
+use Rattle.xc_world.proofs.EffectsBody.{body-sound, body-others_sound}
 use Rattle.xc_world.proofs.SoundOpening.{opening_words}
 use Rattle.xc_machine.specs.Replay.{AreReplayed, AreEnded, led_by}
 use Rattle.xc_machine.proofs.MachineReplay.{from_body, to_body, from_lates, led_to, to_lates}
@@ -25,6 +26,7 @@ use Rattle.xc_model.specs.Machine.{IsPlayedBody}
 use Rattle.xc_model.specs.Progress.{body_of, private_of, run_of, started_blocks, words_left}
 use Rattle.xc_model.specs.WordCalls.{words_behind}
 use Rattle.xc_judge.specs.Judged.{IsNumbered}
+use Rattle.xc_judge.specs.Ran.{IsLedOn}
 use Rattle.xc_judge.proofs.Lates.{lates_words}
 use Rattle.xc_judge.proofs.PlainReplies.{body_words}
 
@@ -97,50 +99,39 @@ module _ (w : World) (hs : List (List Place)) (js : List Standing) (n : ℕ) (e 
       ∙ sym (after_commit c e f late numbered.in_turn.started outcome)
 
   -- the same of what the code has of the entry and of the place of its job
-  pub has_committed : (calls : List Call) (replies : List Reply) (me m : Private) (v x : World) (made : List LateCall) (handles : List (List Place))
-      (jobs : List Standing) (started : List (List ℕ)) (at count : ℕ) → calls ≡ e.calls → replies ≡ e.replies → me ≡ me_at → at ≡ e.job - 1
-      → m ≡ (body w me e.tx (asked_of calls replies)).me → v ≡ (body w me e.tx (asked_of calls replies)).world
-      → made ≡ (body w me e.tx (asked_of calls replies)).late → x ≡ led_by v made late
-      → started ≡ started_blocks (kept_calls calls replies) late → count ≡ length started
+  pub has_committed : (calls : List Call) (replies : List Reply) (m : Private) (x : World) (handles : List (List Place)) (jobs : List Standing)
+      (started : List (List ℕ)) (at count : ℕ) → IsLedOn x m (body_of (record { world = w; handles = hs }) e) late → calls ≡ e.calls
+      → replies ≡ e.replies → at ≡ e.job - 1 → started ≡ started_blocks (kept_calls calls replies) late → count ≡ length started
       → handles ≡ slice_set hs at m.places ++ replicate count m.places
       → ((f : Standing) → slice_get js at ≡ Some f
       → jobs ≡ slice_set js at (standing_anew f.block (n + 1)) ++ map (λ block. standing_anew block (n + 1)) started)
       → HasCommitted m x handles jobs
-  has_committed calls replies me m v x made handles jobs started at count calls_are replies_are begins place m_is v_is made_is x_is started_is count_is
-      handles_are jobs_are =
-      let same : body w me e.tx (asked_of calls replies) ≡ body w me_at e.tx (asked_of e.calls e.replies) =
-      λ i. body w (begins i) e.tx (asked_of (calls_are i) (replies_are i)) in
+  has_committed calls replies m x handles jobs started at count so calls_are replies_are place started_is count_is handles_are jobs_are =
       let began : started ≡ blocks = started_is ∙ (λ i. started_blocks (kept_calls (calls_are i) (replies_are i)) late) in
-      let world = v_is ∙ ap (λ (r : BodyResult). r.world) same in
-      let lates_made = made_is ∙ ap (λ (r : BodyResult). r.late) same in
+      let places = m.places in
       record {
-        me_is = m_is ∙ ap (λ (r : BodyResult). r.me) same;
-        world_is = x_is ∙ (λ i. led_by (world i) (lates_made i) late);
-        handles_are = handles_are ∙ (λ i. slice_set hs (place i) m.places ++ replicate ((count_is ∙ ap length began) i) m.places);
+        me_is = so.me_is;
+        world_is = so.world_is;
+        handles_are = handles_are ∙ (λ i. slice_set hs (place i) places ++ replicate ((count_is ∙ ap length began) i) places);
         jobs_are = λ f there.
             jobs_are f (ap (slice_get js) place ∙ there)
             ∙ (λ i. slice_set js (place i) (standing_anew f.block (n + 1)) ++ map (λ block. standing_anew block (n + 1)) (began i));
       }
 
--- a body that is played is replayed by what the code has of it
-pub replayed_at : (s : State) (e : Entry) (w : World) (me : Private) (calls : List Call) (replies : List Reply) → w ≡ s.world
-    → me ≡ private_of s e.job → calls ≡ e.calls → replies ≡ e.replies → IsPlayedBody s e → AreReplayed w me e.tx calls replies
-replayed_at s e w me calls replies world begins calls_are replies_are played =
-    let all = replayed_from s e played in
-    subst (λ z. AreReplayed z me e.tx calls replies) (sym world)
-    (subst (λ z. AreReplayed s.world z e.tx calls replies) (sym begins)
-    (subst (λ z. AreReplayed s.world (private_of s e.job) e.tx z replies) (sym calls_are)
-    (subst (λ z. AreReplayed s.world (private_of s e.job) e.tx e.calls z) (sym replies_are) all)))
+-- ---- open to other numbers
+-- a body and late calls that led on from it leave others sound
+pub led_others : (s : State) (e : Entry) (late : List LateEnd) (x : World) (m you : Private) (ty : ℕ) → IsSound s.world (private_of s e.job) e.tx
+    → IsPlayedBody s e → IsLedOn x m (body_of s e) late → (ty ≢ e.tx) → IsSound s.world you ty → IsSound x you ty
+led_others s e late x m you ty sound played so apart before =
+    so.sound you ty
+    (body-others_sound s.world (private_of s e.job) you e.tx ty (asked_of e.calls e.replies) sound played.fits before apart)
 
--- and its late calls end as recorded
-pub ended_at : (s : State) (e : Entry) (late : List LateEnd) (w v : World) (me : Private) (calls : List Call) (replies : List Reply) (made : List LateCall)
-    → w ≡ s.world → me ≡ private_of s e.job → calls ≡ e.calls → replies ≡ e.replies → v ≡ (body w me e.tx (asked_of calls replies)).world
-    → made ≡ (body w me e.tx (asked_of calls replies)).late → IsCommit s e late → AreEnded v made late
-ended_at s e late w v me calls replies made world begins calls_are replies_are v_is made_is so =
-    let same : body w me e.tx (asked_of calls replies) ≡ body_of s e =
-    λ i. body (world i) (begins i) e.tx (asked_of (calls_are i) (replies_are i)) in
-    subst (λ z. AreEnded z made late) (sym (v_is ∙ ap (λ (r : BodyResult). r.world) same))
-    (subst (λ z. AreEnded (body_of s e).world z late) (sym (made_is ∙ ap (λ (r : BodyResult). r.late) same)) (ended_from s e late so))
+-- and its own private state too
+pub led_own : (s : State) (e : Entry) (late : List LateEnd) (x : World) (m : Private) → IsSound s.world (private_of s e.job) e.tx → IsPlayedBody s e
+    → IsLedOn x m (body_of s e) late → IsSound x m e.tx
+led_own s e late x m sound played so =
+    subst (λ (me : Private). IsSound x me e.tx) (sym so.me_is)
+    (so.sound (body_of s e).me e.tx (body-sound s.world (private_of s e.job) e.tx (asked_of e.calls e.replies) sound played.fits))
 
 -- as many handles as jobs
 pub as_many_jobs : (hs handles : List (List Place)) (js changed jobs : List Standing) (p : List Place) (at count since : ℕ) (f : Standing)
@@ -155,11 +146,6 @@ as_many_jobs hs handles js changed jobs p at count since f started same handles_
     let g = ap length changed_is ∙ length-set js at f in
     let h = length-map started anew in
     omega (arith, same, a, b, c, d, g, h, count_is)
-
--- what is found is some
-pub is_some_where : {X : Type 0} (o : Option X) (P : Type 0) → MatchOption o (P → ⊥) (λ _. P) → P → IsSome o
-is_some_where None P found p = absurd (found p)
-is_some_where (Some x) P found p = search rules
 
 -- ---- before the first entry
 -- what the code has is where a journal begins

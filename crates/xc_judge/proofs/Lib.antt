@@ -11,6 +11,7 @@ mod Behind
 mod Newest
 mod Parts
 mod Cases
+mod Keeping
 mod Stopped
 mod Leaving
 mod Lengths

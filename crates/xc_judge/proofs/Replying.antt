@@ -75,10 +75,10 @@ module _ (s : State) (e : Entry) (w : World) (me : Private) (calls : List Call) 
   same_body = λ i. body (so.world i) (so.begins i) e.tx (asked_of (so.calls_are i) (so.replies_are i))
 
   -- so what it left and gave is what the entry's did
-  pub is_ran : (ran : Ran) → ran.world ≡ (body w me e.tx (asked_of calls replies)).world → ran.me ≡ (body w me e.tx (asked_of calls replies)).me
+  pub is_ran : (ran : Ran) → ran.world ≡ (body w me e.tx (asked_of calls replies)).world → ran.me.value ≡ (body w me e.tx (asked_of calls replies)).me
       → ran.traced.replied.late ≡ (body w me e.tx (asked_of calls replies)).late
       → ran.traced.replied.held.items ≡ held_of (body w me e.tx (asked_of calls replies)).touched
-      → ran.traced.trail ≡ (body w me e.tx (asked_of calls replies)).trail → IsSound ran.world ran.me e.tx
+      → ran.traced.trail ≡ (body w me e.tx (asked_of calls replies)).trail → IsSound ran.world ran.me.value e.tx
       → All (IsReady ran.world) ran.traced.replied.late → length ran.world.words ≤ 4096 → IsRan ran (body_of s e) e.tx
   is_ran ran world mine late held trail sound ready few =
       record {

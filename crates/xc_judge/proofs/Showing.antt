@@ -25,6 +25,17 @@ use Rattle.xc_judge.specs.declared.reason.Reason.TheVariants as reason
 use Rattle.xc_judge.proofs.Newest.{stuck_alike}
 use Rattle.xc_judge.proofs.Tracing.{shown_ends_are}
 
+-- its job is started, and its replies and late ends are true
+pub record IsPlayed (rules : Rules) (c : Course) (e : Entry) : Type 0 where
+  pub numbered : IsNumbered c e
+  pub replies : HasReplies (telling rules) c e
+  pub lates : HasLates (telling rules) c e e.outcome
+
+-- so it is where its body was run again, and its late calls end so
+pub played_so : (rules : Rules) (c : Course) (e : Entry) (ran : Ran) → IsRunSo rules c e ran → HasLates (telling rules) c e e.outcome
+    → IsPlayed rules c e
+played_so rules c e ran run lates = record { numbered = run.numbered; replies = run.replies; lates = lates }
+
 -- ---- nothing but its records looks at more than is shown
 module _ (rules : Rules) (c : Course) (last : Ask) (e : Entry) where
   -- replies
@@ -68,9 +79,9 @@ module _ (rules : Rules) (c : Course) (last : Ask) (e : Entry) where
       }
 
   -- so it is true where it is so as far as it is shown, and its records and its story are true
-  bare_true : (ran : Ran) → IsRunSo rules c (bare e) ran → IsHeld (body_of c.state e) last (bare_outcome e.outcome) e.held
+  bare_true : IsPlayed rules c (bare e) → IsHeld (body_of c.state e) last (bare_outcome e.outcome) e.held
       → IsToldBy rules c last e → HasRecordsOf (telling rules) c last e e.outcome → IsMachineTrue (telling rules) c last e
-  bare_true ran run held told records =
+  bare_true run held told records =
       let turn = run.numbered.in_turn in
       let f = run.numbered.standing in
       record {
@@ -97,11 +108,11 @@ abbrev pub HeldSo : Course → Ask → Entry → Type 0
 HeldSo c last e = IsHeld (body_of c.state e) last e.outcome e.held
 
 -- an entry that is shown so is true
-pub judged_true : (rules : Rules) (c : Course) (last : Ask) (shown : Shown) (e : Entry) (ran : Ran) → Shows shown e → IsRunSo rules c shown.entry ran
+pub judged_true : (rules : Rules) (c : Course) (last : Ask) (shown : Shown) (e : Entry) → Shows shown e → IsPlayed rules c shown.entry
     → HeldSo c last shown.entry → IsToldBy rules c last e → HasRecordsOf (telling rules) c last e e.outcome → IsMachineTrue (telling rules) c last e
-judged_true rules c last shown e ran shows run held told records =
+judged_true rules c last shown e shows run held told records =
     let same = shown_bare shown e shows in
-    bare_true rules c last e ran (subst (λ z. IsRunSo rules c z ran) same run) (subst (HeldSo c last) same held) told records
+    bare_true rules c last e (subst (IsPlayed rules c) same run) (subst (HeldSo c last) same held) told records
 
 -- ---- its story looks at nothing of its records but their ends
 -- the end of another entry with the same calls, which is shown so, was asked too
@@ -140,33 +151,33 @@ told_alike rules c last shown e d at_e at_d told =
 -- ---- the first reason for which it is refused
 module _ (rules : Rules) (c : Course) (last : Ask) (shown : Shown) where
   -- what comes before its records is so
-  before_records : (ran : Ran) → IsRunSo rules c shown.entry ran → (other : Reason) → place_of_reason other < 3 → MeetsSo rules c last shown other
-  before_records ran run reason.Numbers less = run.numbered
-  before_records ran run reason.Reply less = run.replies
-  before_records ran run reason.Late less = run.lates
-  before_records ran run reason.Records less = absurd (omega (arith, less))
-  before_records ran run reason.Held less = absurd (omega (arith, less))
-  before_records ran run reason.Story less = absurd (omega (arith, less))
+  before_records : IsPlayed rules c shown.entry → (other : Reason) → place_of_reason other < 3 → MeetsSo rules c last shown other
+  before_records run reason.Numbers less = run.numbered
+  before_records run reason.Reply less = run.replies
+  before_records run reason.Late less = run.lates
+  before_records run reason.Records less = absurd (omega (arith, less))
+  before_records run reason.Held less = absurd (omega (arith, less))
+  before_records run reason.Story less = absurd (omega (arith, less))
 
   -- and what comes behind them
-  before_held : (ran : Ran) → IsRunSo rules c shown.entry ran → MeetsSo rules c last shown reason.Records → (other : Reason) → place_of_reason other < 4
+  before_held : IsPlayed rules c shown.entry → MeetsSo rules c last shown reason.Records → (other : Reason) → place_of_reason other < 4
       → MeetsSo rules c last shown other
-  before_held ran run records reason.Numbers less = run.numbered
-  before_held ran run records reason.Reply less = run.replies
-  before_held ran run records reason.Late less = run.lates
-  before_held ran run records reason.Records less = records
-  before_held ran run records reason.Held less = absurd (omega (arith, less))
-  before_held ran run records reason.Story less = absurd (omega (arith, less))
+  before_held run records reason.Numbers less = run.numbered
+  before_held run records reason.Reply less = run.replies
+  before_held run records reason.Late less = run.lates
+  before_held run records reason.Records less = records
+  before_held run records reason.Held less = absurd (omega (arith, less))
+  before_held run records reason.Story less = absurd (omega (arith, less))
 
   -- and what comes before its story
-  before_story : (ran : Ran) → IsRunSo rules c shown.entry ran → MeetsSo rules c last shown reason.Records → MeetsSo rules c last shown reason.Held
+  before_story : IsPlayed rules c shown.entry → MeetsSo rules c last shown reason.Records → MeetsSo rules c last shown reason.Held
       → (other : Reason) → place_of_reason other < 5 → MeetsSo rules c last shown other
-  before_story ran run records held reason.Numbers less = run.numbered
-  before_story ran run records held reason.Reply less = run.replies
-  before_story ran run records held reason.Late less = run.lates
-  before_story ran run records held reason.Records less = records
-  before_story ran run records held reason.Held less = held
-  before_story ran run records held reason.Story less = absurd (omega (arith, less))
+  before_story run records held reason.Numbers less = run.numbered
+  before_story run records held reason.Reply less = run.replies
+  before_story run records held reason.Late less = run.lates
+  before_story run records held reason.Records less = records
+  before_story run records held reason.Held less = held
+  before_story run records held reason.Story less = absurd (omega (arith, less))
 
   -- before its replies
   before_reply : IsNumbered c shown.entry → (other : Reason) → place_of_reason other < 1 → MeetsSo rules c last shown other
@@ -197,20 +208,20 @@ module _ (rules : Rules) (c : Course) (last : Ask) (shown : Shown) where
   refused_run reason.Story fails = absurd fails
 
   -- its records do
-  pub refused_records : (ran : Ran) → IsRunSo rules c shown.entry ran
+  pub refused_records : IsPlayed rules c shown.entry
       → ((e : Entry) → Shows shown e → HasRecordsOf (telling rules) c last e e.outcome → ⊥) → IsRefusedSo rules c last shown reason.Records
-  refused_records ran run none = record { fails = λ some. none some.0 some.1 some.2; before = before_records ran run }
+  refused_records run none = record { fails = λ some. none some.0 some.1 some.2; before = before_records run }
 
   -- what was held does
-  pub refused_held : (ran : Ran) → IsRunSo rules c shown.entry ran → (e : Entry) → Shows shown e → HasRecordsOf (telling rules) c last e e.outcome
+  pub refused_held : IsPlayed rules c shown.entry → (e : Entry) → Shows shown e → HasRecordsOf (telling rules) c last e e.outcome
       → (HeldSo c last shown.entry → ⊥) → IsRefusedSo rules c last shown reason.Held
-  refused_held ran run e shows records fails = record { fails = fails; before = before_held ran run (e, shows, records) }
+  refused_held run e shows records fails = record { fails = fails; before = before_held run (e, shows, records) }
 
   -- its story does
-  pub refused_story : (ran : Ran) → IsRunSo rules c shown.entry ran → (e : Entry) → Shows shown e → HasRecordsOf (telling rules) c last e e.outcome
+  pub refused_story : IsPlayed rules c shown.entry → (e : Entry) → Shows shown e → HasRecordsOf (telling rules) c last e e.outcome
       → HeldSo c last shown.entry → (IsToldBy rules c last e → ⊥) → IsRefusedSo rules c last shown reason.Story
-  refused_story ran run e shows records held fails =
+  refused_story run e shows records held fails =
       record {
         fails = λ some. fails (told_alike rules c last shown some.0 e some.1 shows some.2);
-        before = before_story ran run (e, shows, records) held;
+        before = before_story run (e, shows, records) held;
       }

@@ -1,5 +1,5 @@
 -- How an entry is judged, part by part.
-use Rattle.std.specs.Prelude.{◌≡◌}
+use Rattle.std.specs.Prelude.{◌≡◌, Option}
 use Rattle.xc_data.specs.declared.entry.Entry.{Entry}
 use Rattle.xc_script.specs.declared.ask.Ask.{Ask}
 use Rattle.xc_shown.specs.Shown.{Shows}
@@ -7,20 +7,19 @@ use Rattle.xc_shown.specs.declared.shown.Shown.{Shown}
 use Rattle.xc_model.specs.declared.rules.Rules.{Rules}
 use Rattle.xc_model.specs.Course.{Course}
 use Rattle.xc_model.specs.EntryEnds.{next_claims}
-use Rattle.xc_model.specs.Machine.{HasLates, HasReplies, IsMachineTrue}
+use Rattle.xc_model.specs.Machine.{HasLates, HasRecordsOf, HasReplies, IsMachineTrue}
 use Rattle.xc_model.specs.Progress.{body_of}
 use Rattle.xc_judge.specs.Judged.{IsNumbered, telling}
-use Rattle.xc_judge.specs.Ran.{IsRan}
+use Rattle.xc_judge.specs.Ran.{IsKept, IsRan}
 use Rattle.xc_judge.specs.declared.ran.Ran.{Ran}
 use Rattle.xc_judge.specs.declared.reason.Reason.{Reason}
 use Rattle.xc_judge.specs.declared.reason.Reason.TheVariants as reason
 use Rattle.xc_judge.specs.declared.step.Judged.{Judged}
 
--- its job is started, its replies and late ends are true, and its body left and gave this
+-- its job is started, its replies are true, and its body left and gave this
 pub record IsRunSo (rules : Rules) (c : Course) (e : Entry) (ran : Ran) : Type 0 where
   pub numbered : IsNumbered c e
   pub replies : HasReplies (telling rules) c e
-  pub lates : HasLates (telling rules) c e e.outcome
   pub body : IsRan ran (body_of c.state e) e.tx
 
 -- the first of these that it denies
@@ -32,8 +31,19 @@ FailsToRun rules c e reason.Records = ⊥
 FailsToRun rules c e reason.Held = ⊥
 FailsToRun rules c e reason.Story = ⊥
 
--- an entry that is shown so is true, and so much the next call claims
+-- no entry that is shown so has true records
+abbrev pub HasNoRecords : Rules → Course → Ask → Shown → Type 0
+HasNoRecords rules c last shown = (e : Entry) → Shows shown e → HasRecordsOf (telling rules) c last e e.outcome → ⊥
+
+-- an entry that is shown so has true ones, and if it committed it is kept where its calls led
+pub record IsFoundSo (rules : Rules) (c : Course) (last : Ask) (shown : Shown) (found : Entry × Option Ran) : Type 0 where
+  pub shows : Shows shown found.0
+  pub records : HasRecordsOf (telling rules) c last found.0 found.0.outcome
+  pub kept : IsKept found.1 (body_of c.state found.0) found.0.outcome
+
+-- an entry that is shown so is true, its calls led there if it committed, and so much the next call claims
 pub record IsJudgedSo (rules : Rules) (c : Course) (last : Ask) (shown : Shown) (to : Judged) : Type 0 where
   pub shows : Shows shown to.entry
   pub true : IsMachineTrue (telling rules) c last to.entry
+  pub kept : IsKept to.kept (body_of c.state to.entry) to.entry.outcome
   pub wanted : to.wanted.items ≡ next_claims (body_of c.state to.entry) last

@@ -81,7 +81,7 @@ impl Ran {
     /// What the call claims that is asked next; nothing where none is.
     pub(crate) fn wanted(&self, last: &Ask) -> ArrayVec<Claim, 2>
         requires few { length self.now.world.words ≤ 4096 }
-        ensures { (b : BodyResult) → self.now.world ≡ b.world → self.now.me ≡ b.me → result.items ≡ next_claims b last.now }
+        ensures { (b : BodyResult) → self.now.world ≡ b.world → self.now.me.value ≡ b.me → result.items ≡ next_claims b last.now }
     {
         let mut claims = ArrayVec::new();
         if let Ask::Call(call) = last {

@@ -77,12 +77,12 @@ fn front_of(mut whole: Undo, count: usize) -> Option<Undo>
 impl Ran {
     // The record that a call would leave whole, if any.
     fn whole(&self, tx: u32, call: &Call) -> Result<Option<Undo>, NoMemory>
-        requires sound { IsSound self.now.world self.now.me tx }
-        ensures { IfOk result (λ found. MatchOption found (whole_records self.now.world self.now.me tx call.now ≡ [])
-            (λ undo. whole_records self.now.world self.now.me tx call.now ≡ undo ∷ [])) }
+        requires sound { IsSound self.now.world self.now.me.value tx }
+        ensures { IfOk result (λ found. MatchOption found (whole_records self.now.world self.now.me.value tx call.now ≡ [])
+            (λ undo. whole_records self.now.world self.now.me.value tx call.now ≡ undo ∷ [])) }
     {
         let mut world = self.world.copy()?;
-        let mut me = self.me;
+        let mut me = *self.me;
         let reply = world.act(&mut me, tx, call, Answer::Fine)?;
         self.world.record_of(&self.me, tx, call, &reply)
     }
@@ -96,11 +96,11 @@ impl Ran {
         end: UndoEnd,
         effect: Option<&Standing>,
     ) -> Result<Option<Undo>, NoMemory>
-        requires sound { IsSound self.now.world self.now.me tx }
+        requires sound { IsSound self.now.world self.now.me.value tx }
         ensures { let seen : NewestShown = record { end = end; effect = option_copied effect.entry } in
             IfOk result (λ found. MatchOption found
-            (IsNotLeft (begins self.now.world self.now.me) tx (ask.Call call.now) seen)
-            (IsLeftLast (begins self.now.world self.now.me) tx (ask.Call call.now) seen)) }
+            (IsNotLeft (begins self.now.world self.now.me.value) tx (ask.Call call.now) seen)
+            (IsLeftLast (begins self.now.world self.now.me.value) tx (ask.Call call.now) seen)) }
     {
         let Some(whole) = self.whole(tx, call)? else {
             return Ok(None);

@@ -1,7 +1,7 @@
-ghost use Rattle.std.specs.Bool.{Decides};
+ghost use Rattle.std.specs.Bool.{Decides, OnTrue};
 ghost use Rattle.std.specs.Prelude.{◌≤◌, IfOk, MatchOption};
 ghost use Rattle.xc_judge.specs.Judged.{IsOpenTo, telling};
-ghost use Rattle.xc_judge.specs.Ran.{IsRan};
+ghost use Rattle.xc_judge.specs.Ran.{IsLedOn, IsLedOnBy, IsRan};
 ghost use Rattle.xc_model.specs.Machine.{HasLateEnds, HasLates, HasReplies};
 ghost use Rattle.xc_model.specs.Progress.{body_of};
 
@@ -12,11 +12,12 @@ use xc_data::{Entry, LateEnd, NoMemory, Outcome, Private};
 use xc_machine::{Traced, World, replay_lates, replay_traced};
 use xc_model::Rules;
 
-/// An entry's body, run again from where the journal led: the world and the private state that it left, and what it gave.
+/// An entry's body, run again from where the journal led: the world and the private state that it left, and what it gave. The late
+/// calls of an entry that committed lead on from that world. Its 256 handles are large: they stand in a box.
 #[derive(Drop)]
 pub(crate) struct Ran {
     pub(crate) world: World,
-    pub(crate) me: Private,
+    pub(crate) me: Box<Private>,
     pub(crate) traced: Traced,
 }
 
@@ -30,7 +31,10 @@ impl Progress {
     {
         let (calls, replies) = (entry.calls.as_slice(), entry.replies.as_slice());
         let alloc = *self.jobs.allocator();
-        let mut me = self.begin(entry);
+        // A `?` would move the value of a failure, which is large.
+        let Ok(mut me) = Box::new(alloc, self.begin(entry)) else {
+            return Err(NoMemory);
+        };
         let mut world = self.world.copy()?;
         let Some(traced) = replay_traced(alloc, &mut world, &mut me, entry.tx, calls, replies)?
         else {
@@ -42,35 +46,38 @@ impl Progress {
         Ok(Some(Ran { world, me, traced }))
     }
 
-    // The late calls that an entry's body left end so, one after another.
+    // The late calls that an entry's body left end so, one after another. They lead on from there.
     fn ends_so(
         &self,
         rules: &Rules,
-        ran: &Ran,
+        ran: &mut Ran,
         entry: &Entry,
         late: &[LateEnd],
     ) -> Result<bool, NoMemory>
-        requires ran { IsRan ran.now (body_of self.now.state entry.now) entry.now.tx }
-        ensures { IfOk result (λ yes. Decides yes (HasLateEnds (telling rules.now) self.now entry.now late.now)) }
+        requires ran { IsRan ran.old (body_of self.now.state entry.now) entry.now.tx }
+        ensures decides { IfOk result (λ yes. Decides yes (HasLateEnds (telling rules.now) self.now entry.now late.now)) }
+        ensures leads { IfOk result (λ yes. OnTrue yes
+            (IsLedOn ran.new.world ran.new.me.value (body_of self.now.state entry.now) late.now)) }
     {
         let count = kept_count(entry.calls.as_slice(), entry.replies.as_slice());
         if late.len() != count {
             return Ok(false);
         }
-        let mut world = ran.world.copy()?;
-        let yes = replay_lates(&mut world, ran.traced.replied.late.as_slice(), late)?;
+        let yes = replay_lates(&mut ran.world, ran.traced.replied.late.as_slice(), late)?;
         Ok(yes)
     }
 
-    /// The late calls of an entry that committed end as it says.
+    /// The late calls of an entry that committed end as it says, and lead on from its body.
     pub(crate) fn has_lates(
         &self,
         rules: &Rules,
-        ran: &Ran,
+        ran: &mut Ran,
         entry: &Entry,
     ) -> Result<bool, NoMemory>
-        requires ran { IsRan ran.now (body_of self.now.state entry.now) entry.now.tx }
-        ensures { IfOk result (λ yes. Decides yes (HasLates (telling rules.now) self.now entry.now entry.now.outcome)) }
+        requires ran { IsRan ran.old (body_of self.now.state entry.now) entry.now.tx }
+        ensures decides { IfOk result (λ yes. Decides yes (HasLates (telling rules.now) self.now entry.now entry.now.outcome)) }
+        ensures leads { IfOk result (λ yes. OnTrue yes
+            (IsLedOnBy ran.new (body_of self.now.state entry.now) entry.now.tx entry.now.outcome)) }
     {
         match &entry.outcome {
             Outcome::Committed { late } => {

@@ -1,13 +1,11 @@
 ghost use Rattle.std.specs.Bool.{Decides};
 ghost use Rattle.std.specs.Prelude.{◌≡◌, ◌≢◌, ◌<◌, ◌+◌, ◌^◌, [], ℕ, IfOk, MatchOption, MatchResult};
-ghost use Rattle.xc_data.specs.declared.entry.Entry.{Entry as PlainEntry};
-ghost use Rattle.xc_judge.specs.Judged.{IsNumbered, IsOpenTo, IsToldBy, telling};
-ghost use Rattle.xc_judge.specs.Ran.{IsRan};
-ghost use Rattle.xc_judge.specs.Judgement.{FailsToRun, IsJudgedSo, IsRunSo};
+ghost use Rattle.xc_judge.specs.Judged.{IsNumbered, IsOpenTo, IsToldBy};
+ghost use Rattle.xc_judge.specs.Ran.{IsLedOnBy};
+ghost use Rattle.xc_judge.specs.Judgement.{FailsToRun, HasNoRecords, IsFoundSo, IsJudgedSo, IsRunSo};
 ghost use Rattle.xc_judge.specs.Stepped.{IsRefusedSo, IsSteppedTo, WhereEntered, WhereRefused};
-ghost use Rattle.xc_model.specs.Machine.{HasRecordsOf};
 ghost use Rattle.xc_model.specs.Progress.{body_of};
-ghost use Rattle.xc_shown.specs.Shown.{Shows, bare};
+ghost use Rattle.xc_shown.specs.Shown.{bare};
 
 use crate::ran::Ran;
 use crate::{Progress, Reason, Step, Stepped};
@@ -18,10 +16,11 @@ use xc_model::Rules;
 use xc_script::Ask;
 use xc_shown::Shown;
 
-/// An entry that was judged true, and what the next call claims.
+/// An entry that was judged true, where its calls led if it committed, and what the next call claims.
 #[derive(Drop)]
 pub(crate) struct Judged {
     pub(crate) entry: Entry,
+    pub(crate) kept: Option<Ran>,
     pub(crate) wanted: ArrayVec<Claim, 2>,
 }
 
@@ -33,23 +32,23 @@ fn are_none(records: &[(UndoKind, UndoEnd)], effects: &[Standing]) -> bool
 }
 
 impl Progress {
-    // An entry with the records that are shown of it. None where no entry that is shown so has true ones.
+    // An entry with the records that are shown of it, and where its calls led if it committed. None where no entry that is shown so
+    // has true ones.
     fn with_records(
         &self,
         rules: &Rules,
         ran: Ran,
         last: &Ask,
         shown: Shown,
-    ) -> Result<Option<Entry>, NoMemory>
-        requires ran { IsRan ran (body_of self.now.state shown.entry) shown.entry.tx }
+    ) -> Result<Option<(Entry, Option<Ran>)>, NoMemory>
+        requires ran { IsLedOnBy ran (body_of self.now.state shown.entry) shown.entry.tx shown.entry.outcome }
         requires bare { bare shown.entry ≡ shown.entry }
-        ensures { IfOk result (λ found. MatchOption found
-            ((e : PlainEntry) → Shows shown e → HasRecordsOf (telling rules.now) self.now last.now e e.outcome → ⊥)
-            (λ e. Shows shown e × HasRecordsOf (telling rules.now) self.now last.now e e.outcome)) }
+        ensures { IfOk result (λ found. MatchOption found (HasNoRecords rules.now self.now last.now shown)
+            (IsFoundSo rules.now self.now last.now shown)) }
     {
         let Outcome::Aborted(report) = &shown.entry.outcome else {
             if are_none(shown.records.as_slice(), shown.effects.as_slice()) {
-                return Ok(Some(shown.entry));
+                return Ok(Some((shown.entry, Some(ran))));
             }
             return Ok(None);
         };
@@ -58,10 +57,10 @@ impl Progress {
         };
         let Shown { mut entry, .. } = shown;
         entry.outcome = Outcome::Aborted(report);
-        Ok(Some(entry))
+        Ok(Some((entry, None)))
     }
 
-    // An entry's body, run again, where its job is started and its replies and late ends are true.
+    // An entry's body, run again, where its job is started and its replies are true.
     fn judge_body(&self, rules: &Rules, entry: &Entry) -> Result<Result<Ran, Reason>, NoMemory>
         requires open { IsOpenTo self.now entry.now.tx }
         ensures { IfOk result (λ r. MatchResult r (λ ran. IsRunSo rules.now self.now entry.now ran)
@@ -73,9 +72,6 @@ impl Progress {
         let Some(ran) = self.run_again(rules, entry)? else {
             return Ok(Err(Reason::Reply));
         };
-        if !self.has_lates(rules, &ran, entry)? {
-            return Ok(Err(Reason::Late));
-        }
         Ok(Ok(ran))
     }
 
@@ -102,13 +98,16 @@ impl Progress {
         ensures { IfOk result (λ r. MatchResult r (IsJudgedSo rules.now self.now last.now shown)
             (IsRefusedSo rules.now self.now last.now shown)) }
     {
-        let ran = match self.judge_body(rules, &shown.entry)? {
+        let mut ran = match self.judge_body(rules, &shown.entry)? {
             Ok(ran) => ran,
             Err(why) => return Ok(Err(why)),
         };
         let holds = self.has_held(&ran, last, &shown.entry)?;
         let wanted = ran.wanted(last);
-        let Some(entry) = self.with_records(rules, ran, last, shown)? else {
+        if !self.has_lates(rules, &mut ran, &shown.entry)? {
+            return Ok(Err(Reason::Late));
+        }
+        let Some((entry, kept)) = self.with_records(rules, ran, last, shown)? else {
             return Ok(Err(Reason::Records));
         };
         if !holds {
@@ -117,7 +116,11 @@ impl Progress {
         if !self.is_told(rules, last, &entry) {
             return Ok(Err(Reason::Story));
         }
-        Ok(Ok(Judged { entry, wanted }))
+        Ok(Ok(Judged {
+            entry,
+            kept,
+            wanted,
+        }))
     }
 
     /// An entry as its text shows it, judged and entered: where it leads, or the first reason for which it is false. `last` was asked
@@ -134,8 +137,12 @@ impl Progress {
         match self.judge(rules, last, shown)? {
             Err(why) => Ok(Step::Refused(why)),
             Ok(judged) => {
-                let Judged { entry, wanted } = judged;
-                let progress = self.enter(&entry)?;
+                let Judged {
+                    entry,
+                    kept,
+                    wanted,
+                } = judged;
+                let progress = self.enter(&entry, kept)?;
                 Ok(Step::Entered(Stepped {
                     progress,
                     entry,

@@ -61,8 +61,8 @@ impl Ran {
         shown: &[(UndoKind, UndoEnd)],
         effects: &[Standing],
     ) -> Result<bool, NoMemory>
-        requires sound { IsSound self.old.world self.old.me tx }
-        ensures { (b : BodyResult) → self.old.world ≡ b.world → self.old.me ≡ b.me → self.old.traced.trail ≡ b.trail
+        requires sound { IsSound self.old.world self.old.me.value tx }
+        ensures { (b : BodyResult) → self.old.world ≡ b.world → self.old.me.value ≡ b.me → self.old.traced.trail ≡ b.trail
             → let seen : ReportShown = record { cause = cause.now; records = shown.now; effects = effects.now } in
             IfOk result (λ yes. MatchBool yes (AreTraced b tx last.now seen self.new.traced.trail) (AreNotTraced b tx last.now seen)) }
     {

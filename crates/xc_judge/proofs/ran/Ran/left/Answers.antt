@@ -12,28 +12,29 @@ use Rattle.xc_judge.proofs.ran.Ran.left.Goals as goal
 pub returns-in_default : goal.returns-in_default
 returns-in_default c =
     let ran = c.args.self.now in
-    not_whole ran.world ran.me c.args.tx c.args.call.now (option_copied c.args.effect) c.args.end
-    (found_none c.in_ok-whole.field-0 (whole_records ran.world ran.me c.args.tx c.args.call.now ≡ [])
-    (λ u. whole_records ran.world ran.me c.args.tx c.args.call.now ≡ u ∷ []) c.in_default.not-Some c.in_ok-whole.ensures)
+    not_whole ran.world ran.me.value c.args.tx c.args.call.now (option_copied c.args.effect) c.args.end
+    (found_none c.in_ok-whole.field-0 (whole_records ran.world ran.me.value c.args.tx c.args.call.now ≡ [])
+    (λ u. whole_records ran.world ran.me.value c.args.tx c.args.call.now ≡ u ∷ []) c.in_default.not-Some c.in_ok-whole.ensures)
 
 pub returns-in-Undone : goal.returns-in-Undone
 returns-in-Undone c =
     let ran = c.args.self.now in
     let effect = option_copied c.args.effect in
-    let whole = found_some c.in_ok-whole.field-0 c.in-Some.whole (whole_records ran.world ran.me c.args.tx c.args.call.now ≡ [])
-    (λ u. whole_records ran.world ran.me c.args.tx c.args.call.now ≡ u ∷ []) c.in-Some.is c.in_ok-whole.ensures in
-    subst (λ (e : UndoEnd). IsLeftLast (begins ran.world ran.me) c.args.tx (ask.Call c.args.call.now) (record { end = e; effect = effect }) c.in-Some.whole)
+    let whole = found_some c.in_ok-whole.field-0 c.in-Some.whole (whole_records ran.world ran.me.value c.args.tx c.args.call.now ≡ [])
+    (λ u. whole_records ran.world ran.me.value c.args.tx c.args.call.now ≡ u ∷ []) c.in-Some.is c.in_ok-whole.ensures in
+    subst (λ (e : UndoEnd).
+    IsLeftLast (begins ran.world ran.me.value) c.args.tx (ask.Call c.args.call.now) (record { end = e; effect = effect }) c.in-Some.whole)
     (sym c.in-Undone.is)
-    (left_undone ran.world ran.me c.args.tx c.args.call.now effect c.in-Undone.faults c.in-Some.whole whole)
+    (left_undone ran.world ran.me.value c.args.tx c.args.call.now effect c.in-Undone.faults c.in-Some.whole whole)
 
 pub returns-in-Failed : goal.returns-in-Failed
 returns-in-Failed c =
     let ran = c.args.self.now in
     let effect = option_copied c.args.effect in
-    let whole = found_some c.in_ok-whole.field-0 c.in-Some.whole (whole_records ran.world ran.me c.args.tx c.args.call.now ≡ [])
-    (λ u. whole_records ran.world ran.me c.args.tx c.args.call.now ≡ u ∷ []) c.in-Some.is c.in_ok-whole.ensures in
+    let whole = found_some c.in_ok-whole.field-0 c.in-Some.whole (whole_records ran.world ran.me.value c.args.tx c.args.call.now ≡ [])
+    (λ u. whole_records ran.world ran.me.value c.args.tx c.args.call.now ≡ u ∷ []) c.in-Some.is c.in_ok-whole.ensures in
     subst (λ (e : UndoEnd). MatchOption c.front_of.result
-    (IsNotLeft (begins ran.world ran.me) c.args.tx (ask.Call c.args.call.now) (record { end = e; effect = effect }))
-    (IsLeftLast (begins ran.world ran.me) c.args.tx (ask.Call c.args.call.now) (record { end = e; effect = effect }))) (sym c.in-Failed.is)
-    (by_front ran.world ran.me c.args.tx c.args.call.now effect c.in-Failed.done c.in-Failed.faults c.in-Some.whole c.count_shown.result c.front_of.result
+    (IsNotLeft (begins ran.world ran.me.value) c.args.tx (ask.Call c.args.call.now) (record { end = e; effect = effect }))
+    (IsLeftLast (begins ran.world ran.me.value) c.args.tx (ask.Call c.args.call.now) (record { end = e; effect = effect }))) (sym c.in-Failed.is)
+    (by_front ran.world ran.me.value c.args.tx c.args.call.now effect c.in-Failed.done c.in-Failed.faults c.in-Some.whole c.count_shown.result c.front_of.result
     whole c.count_shown.ensures c.front_of.ensures)

@@ -58,12 +58,12 @@ returns-in_default-2 c = λ b world mine trail.
     let both = c.is_one_more.ensures.0 more in
     let count = c.len-count.ensures in
     let there : NewestShown = newest (get_or shown c.len-count.result past).1 effect in
-    let none = found_none c.in_ok-left.field-0 (IsNotLeft (begins ran.world ran.me) c.args.tx (ask.Call call) there)
-    (IsLeftLast (begins ran.world ran.me) c.args.tx (ask.Call call) there) c.in_default-2.not-Some c.in_ok-left.ensures in
+    let none = found_none c.in_ok-left.field-0 (IsNotLeft (begins ran.world ran.me.value) c.args.tx (ask.Call call) there)
+    (IsLeftLast (begins ran.world ran.me.value) c.args.tx (ask.Call call) there) c.in_default-2.not-Some c.in_ok-left.ensures in
     not_left_so b c.args.tx c.args.last.now seen ran.traced.trail trail
-    (λ e. c.if-shown-count.false (e ∙ sym count)) (both.1 ∙ ap (λ n. n + 1) count) ran.world ran.me world mine call c.in-Call.is past effect
+    (λ e. c.if-shown-count.false (e ∙ sym count)) (both.1 ∙ ap (λ n. n + 1) count) ran.world ran.me.value world mine call c.in-Call.is past effect
     c.last.ensures.value
-    (subst (λ n. IsNotLeft (begins ran.world ran.me) c.args.tx (ask.Call call) (newest (get_or shown n past).1 effect)) count none)
+    (subst (λ n. IsNotLeft (begins ran.world ran.me.value) c.args.tx (ask.Call call) (newest (get_or shown n past).1 effect)) count none)
 
 pub returns : goal.returns
 returns c = λ b world mine trail.
@@ -76,9 +76,9 @@ returns c = λ b world mine trail.
     let both = c.is_one_more.ensures.0 more in
     let count = c.len-count.ensures in
     let there : NewestShown = newest (get_or shown c.len-count.result past).1 effect in
-    let some = found_some c.in_ok-left.field-0 c.in-Some.left (IsNotLeft (begins ran.world ran.me) c.args.tx (ask.Call call) there)
-    (IsLeftLast (begins ran.world ran.me) c.args.tx (ask.Call call) there) c.in-Some.is c.in_ok-left.ensures in
+    let some = found_some c.in_ok-left.field-0 c.in-Some.left (IsNotLeft (begins ran.world ran.me.value) c.args.tx (ask.Call call) there)
+    (IsLeftLast (begins ran.world ran.me.value) c.args.tx (ask.Call call) there) c.in-Some.is c.in_ok-left.ensures in
     traced_left b c.args.tx c.args.last.now seen ran.traced.trail trail
-    (λ e. c.if-shown-count.false (e ∙ sym count)) (both.1 ∙ ap (λ n. n + 1) count) ran.world ran.me world mine call c.in-Call.is past effect
+    (λ e. c.if-shown-count.false (e ∙ sym count)) (both.1 ∙ ap (λ n. n + 1) count) ran.world ran.me.value world mine call c.in-Call.is past effect
     c.last.ensures.value c.in-Some.left c.push.new.self both.0 c.in_ok-push.ensures.ok
-    (subst (λ n. IsLeftLast (begins ran.world ran.me) c.args.tx (ask.Call call) (newest (get_or shown n past).1 effect) c.in-Some.left) count some)
+    (subst (λ n. IsLeftLast (begins ran.world ran.me.value) c.args.tx (ask.Call call) (newest (get_or shown n past).1 effect) c.in-Some.left) count some)
