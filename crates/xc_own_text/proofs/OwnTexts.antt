@@ -1,13 +1,17 @@
 -- The text of a run is that of a true end.
-use Rattle.std.proofs.Common.{◌≡◌, ◌∙◌, ℕ, List, Ok, refl, ap, sym, subst}
+use Rattle.std.proofs.Common.{◌≡◌, ◌∙◌, ◌<◌, ◌^◌, ℕ, List, Ok, length, refl, ap, sym, subst, arith}
+use Rattle.std.specs.List.{AllByRecursion}
 use Rattle.std.specs.Prelude.{IsTrue}
+use Rattle.xc_data.specs.declared.entry.Entry.{Entry}
 use Rattle.xc_check.specs.TrueTexts.{IsTrueAsPrinted, IsTrueText, telling}
 use Rattle.xc_host.specs.Model.{HostModel}
 use Rattle.xc_model.specs.Setting.{setting}
 use Rattle.xc_model.specs.declared.rules.Rules.{Rules}
 use Rattle.xc_outcome.specs.Runs.{IsEndOver, end_text}
 use Rattle.xc_station.specs.declared.start.End.{End}
+use Rattle.xc_text.proofs.Keeping.{in_limits, parsed}
 use Rattle.xc_text.specs.Scripts.{parse_of}
+use Rattle.xc_own_text.proofs.Counts.{all_answered, as_many_words}
 use Rattle.xc_text.specs.declared.script.Script.{Script}
 
 -- the script that bytes are read as is one
@@ -32,8 +36,34 @@ module _ {H : Type 0} (model : HostModel H) (rules : Rules) (host : H) (end : En
         front = record { order = over.kept; contents = model.contents end.host; front = state.host };
       }
 
+  -- of the script that its bytes are read as
+  pub own_end : (bytes : List ℕ) (read : Script) → parse_of bytes ≡ Ok end.opening.script → parse_of bytes ≡ Ok read
+      → IsTrueAsPrinted (telling read rules) end.journal.items end.jobs end.words end.kept
+  own_end bytes read is other =
+      subst (λ s. IsTrueAsPrinted s end.journal.items end.jobs end.words end.kept)
+      (tells_so end.opening.script read rules model.tells (one_script bytes end.opening.script read is other) told) true_as_printed
+
   pub own_text : (bytes : List ℕ) (read : Script) → parse_of bytes ≡ Ok end.opening.script → parse_of bytes ≡ Ok read
       → IsTrueText (telling read rules) (end_text end)
   own_text bytes read is other =
-      subst (λ s. IsTrueText s (end_text end)) (tells_so end.opening.script read rules model.tells (one_script bytes end.opening.script read is other) told)
-      (record { journal = end.journal.items; jobs = end.jobs; words = end.words; kept = end.kept; is_true = true_as_printed; printed = refl })
+      record {
+        journal = end.journal.items;
+        jobs = end.jobs;
+        words = end.words;
+        kept = end.kept;
+        is_true = own_end bytes read is other;
+        printed = refl;
+      }
+
+  -- ---- what its ranges rest on
+  pub own_words : (bytes : List ℕ) → parse_of bytes ≡ Ok end.opening.script → length end.words < 2 ^ 32
+  own_words bytes is =
+      omega (
+        arith,
+        ap length over.whole.words,
+        as_many_words end.opening.script end.journal.items,
+        (in_limits end.opening.script (parsed bytes end.opening.script is)).words,
+      )
+
+  pub own_replies : AllByRecursion (λ (e : Entry). length e.replies ≡ length e.calls) end.journal.items
+  own_replies = all_answered _ _ over.whole.journal.lasts end.journal.items over.whole.journal.machine.entries
