@@ -22,11 +22,11 @@ pub record Records : Type 0 where
   -- the newer ones, with their ends
   pub ended : List Ending
 
--- a record that is stored: it covers a front of the new bytes; an overwrite has as many old ones, and an
--- append stayed within a file's limit
+-- a record that is stored: it covers a front of the new bytes, whose places in the file are a u32's; an overwrite has as many
+-- old ones
 abbrev pub IsRecord : Undo → Type 0
 IsRecord (Bytes file at before after n) = (1 ≤ n) × (n ≤ length after) × (length before ≡ length after) × (at + length after < 2 ^ 32)
-IsRecord (Tail file from after n) = (1 ≤ n) × (n ≤ length after) × (from + length after ≤ 65536)
+IsRecord (Tail file from after n) = (1 ≤ n) × (n ≤ length after) × (from + length after < 2 ^ 32)
 IsRecord (Made name num) = Unit {0}
 IsRecord (Moved from to) = Unit {0}
 IsRecord (NewPipe num) = Unit {0}

@@ -20,7 +20,7 @@ ghost use Rattle.xc_file.specs.Writing.{moved_on};
 use crate::checks::{OpenFile, open_file};
 use crate::moving::move_on;
 use xc_compensate::Stack;
-use xc_data::{Chunk, MOST_FILE_BYTES, NoMemory, Num, Private, Reply, Undo};
+use xc_data::{Chunk, NoMemory, Num, Private, Reply, Undo};
 use xc_host::{Fault, Host, HostErr};
 
 /// How many bytes are appended, and what stopped the append there.
@@ -33,7 +33,8 @@ struct Appended {
 // The length of a file that has room for n bytes more.
 fn end_of<H: Host>(host: &mut H, file: Num, n: u32) -> Result<Option<u32>, Fault>
     requires there { IsThere H.model host.old file }
-    ensures room { IfOk result (λ found. IfSome found (λ from. from + n ≤ 65536)) }
+    ensures room { IfOk result (λ found. IfSome found (λ from. from + n < 2 ^ 32)) }
+    ensures fits { IsTrue H.model.tells → IfOk result (λ found. IfSome found (λ from. from + n ≤ 65536)) }
     ensures value { IsTrue H.model.tells → IfOk result (λ found. MatchOption found
         (65536 < length (file_in (H.model.contents host.old) file) + n)
         (λ from. from ≡ length (file_in (H.model.contents host.old) file))) }
@@ -41,7 +42,7 @@ fn end_of<H: Host>(host: &mut H, file: Num, n: u32) -> Result<Option<u32>, Fault
     ensures looks { Looks H.model (record { old = host.old; new = host.new }) (is_err result) }
 {
     let len = host.len(file)?;
-    if len as u64 + n as u64 > MOST_FILE_BYTES {
+    if len as u64 + n as u64 > host.most_file_bytes() as u64 {
         return Ok(None);
     }
     Ok(Some(len))
@@ -72,7 +73,7 @@ fn append_whole<H: Host>(host: &mut H, file: Num, bytes: &[u8]) -> Appended
 // Pushes the record of an append that does all the bytes.
 fn push_tail(undo: &mut Stack, file: Num, from: u32, bytes: &Chunk) -> Result<(), NoMemory>
     requires some { 0 < length bytes.now }
-    requires room { from + length bytes.now ≤ 65536 }
+    requires room { from + length bytes.now < 2 ^ 32 }
     requires none { undo.old.ended ≡ [] }
     ensures ok { OnOk result (undo.new
         ≡ record { pending = undo.old.pending ++ tail file from bytes.now (length bytes.now); ended = [] }) }
@@ -97,7 +98,8 @@ fn append_recorded<H: Host>(
     bytes: &Chunk,
 ) -> Appended
     requires some { 0 < length bytes.now }
-    requires room { from + length bytes.now ≤ 65536 }
+    requires room { from + length bytes.now < 2 ^ 32 }
+    requires fits { IsTrue H.model.tells → from + length bytes.now ≤ 65536 }
     requires there { IsThere H.model host.old file }
     requires end { IsTrue H.model.tells → from ≡ length (file_in (H.model.contents host.old) file) }
     requires none { undo.old.ended ≡ [] }

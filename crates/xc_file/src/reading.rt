@@ -71,7 +71,7 @@ pub(crate) fn read_whole<H: Host>(
     Ok(bytes)
 }
 
-// Asks for a byte after the last place that a number can name. No file has one there.
+// Asks for one byte, where a read would go past the last place that a number can name. A file of a host that tells has none there.
 fn read_past<H: Host>(host: &mut H, file: Num, at: u32) -> Result<Reply, NoMemory>
     requires there { IsThere H.model host.old file }
     ensures end { IfOk result (λ reply. (reply ≡ End) ⊎ (reply ≡ Fault 0)) }

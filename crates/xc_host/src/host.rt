@@ -30,6 +30,10 @@ pub trait Host: Drop {
     fn faults(&self) -> u64
         ensures { result ≡ model.fault_count self.now };
 
+    /// The most bytes that an append may give a file. It never changes, and takes no memory.
+    fn most_file_bytes(&self) -> u32
+        ensures told { IsTrue model.tells → result ≡ 65536 };
+
     /// Holds exactly the prologue's objects, whatever it held. It never answers a fault, and a host
     /// that tells takes every script.
     fn open_with(&mut self, prologue: &Prologue) -> Result<(), OpenErr>
@@ -77,7 +81,8 @@ pub trait Host: Drop {
         ensures answered { Answers model Kind.WriteAt (record { old = self.old; new = self.new }) (without_memory result)
             (λ n c. wrote c file at (take n bytes.now)) };
 
-    /// Appends a front of the bytes, and answers its length. A file has at most 65,536 bytes.
+    /// Appends a front of the bytes, and answers its length. Who calls it keeps a file within
+    /// `most_file_bytes` bytes.
     fn append(&mut self, file: Num, bytes: &[u8]) -> Result<u32, HostErr>
         requires there { IsTrue model.tells → has_file (model.contents self.old) file ≡ true }
         requires fits { IsTrue model.tells → length (file_in (model.contents self.old) file) + length bytes.now ≤ 65536 }

@@ -1,18 +1,21 @@
-# A file grows to 65,536 bytes, and no further. What is longer can be read and written over at its front.
+# A file grows to 4,294,967,295 bytes, and no further. An abort cuts it again.
 job main
 tx
 x_open a -> f
 x_write_seq f "0123456789"
-x_write_seq f "012345"
-x_write_seq f "6"
-x_len f -> n
-x_open b -> g
-x_len g
-x_write_ovr g "HE"
-x_read g 3
-x_write_seq g "!"
-x_seek g 65536
-x_read g 3
-x_seek g 65537
+x_write_seq f "0"
+x_len f
+abort
+commit
+tx
+x_open a -> f
+x_write_seq f "0123456789a"
+x_write_seq f "01234"
+x_open a -> g
+x_write_seq g "56789"
+x_write_seq f "!"
+x_len f
+x_read f 4
+x_read g 4
 commit
 end

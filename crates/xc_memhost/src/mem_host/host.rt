@@ -20,7 +20,7 @@ ghost use Rattle.xc_world.specs.Sound.{is_there};
 use super::MemHost;
 use crate::faults::{Faults, grained};
 use crate::objects::Objects;
-use xc_data::{Chunk, Kind, Name, Num, Object, Prologue};
+use xc_data::{Chunk, Kind, MOST_FILE_BYTES, Name, Num, Object, Prologue};
 use xc_host::{Fault, Host, HostErr, HostState, KindCounts, OpenErr, Took};
 
 impl Host for MemHost {
@@ -28,6 +28,10 @@ impl Host for MemHost {
 
     fn faults(&self) -> u64 {
         self.faults
+    }
+
+    fn most_file_bytes(&self) -> u32 {
+        MOST_FILE_BYTES as u32
     }
 
     fn open_with(&mut self, prologue: &Prologue) -> Result<(), OpenErr>

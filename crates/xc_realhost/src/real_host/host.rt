@@ -24,6 +24,10 @@ impl<R: Files<File = File> + Net + AllocGlobal + Drop> Host for RealHost<R> {
         self.counts.faults
     }
 
+    fn most_file_bytes(&self) -> u32 {
+        u32::MAX
+    }
+
     fn open_with(&mut self, prologue: &Prologue) -> Result<(), OpenErr> {
         if !prologue.objects.is_empty() || !prologue.faults.is_empty() || prologue.grain.is_some() {
             return Err(OpenErr::NotScripted);

@@ -3,7 +3,7 @@ ghost use Rattle.xc_host.specs.Contents.{nothing};
 ghost use Rattle.xc_host.specs.Counting.{calls_of};
 
 use super::{Asked, TestHost};
-use xc_data::{Chunk, Kind, Name, Num, Object, Prologue};
+use xc_data::{Chunk, Kind, MOST_FILE_BYTES, Name, Num, Object, Prologue};
 use xc_host::{Fault, Host, HostErr, HostState, KindCounts, OpenErr, Took};
 
 impl Host for TestHost {
@@ -18,6 +18,10 @@ impl Host for TestHost {
 
     fn faults(&self) -> u64 {
         self.faults
+    }
+
+    fn most_file_bytes(&self) -> u32 {
+        MOST_FILE_BYTES as u32
     }
 
     fn open_with(&mut self, prologue: &Prologue) -> Result<(), OpenErr> {
