@@ -31,10 +31,7 @@ impl Progress {
     {
         let (calls, replies) = (entry.calls.as_slice(), entry.replies.as_slice());
         let alloc = *self.jobs.allocator();
-        // A `?` would move the value of a failure, which is large.
-        let Ok(mut me) = Box::new(alloc, self.begin(entry)) else {
-            return Err(NoMemory);
-        };
+        let mut me = Box::new(alloc, self.begin(entry))?;
         let mut world = self.world.copy()?;
         let Some(traced) = replay_traced(alloc, &mut world, &mut me, entry.tx, calls, replies)?
         else {

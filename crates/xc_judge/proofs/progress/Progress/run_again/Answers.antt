@@ -22,12 +22,12 @@ pub replay_traced-requires-clause-sound : goal.replay_traced-requires-clause-sou
 replay_traced-requires-clause-sound c =
     let tx = c.args.entry.now.tx in
     let world = c.in_ok-world.ensures ∙ ap (λ (z : Course). z.state.world) c.self.view_is in
-    let begun = c.deref_mut.ensures.value ∙ c.in-Ok.ensures.ok ∙ c.begin.ensures in
+    let begun = c.deref_mut.ensures.value ∙ c.in_ok-me.ensures.ok ∙ c.begin.ensures in
     subst (λ (w : World). IsSound w c.deref_mut.result.now tx) (sym world)
     (subst (λ (me : Private). IsSound c.args.self.now.state.world me tx) (sym begun) (c.requires.open c.args.entry.now.job))
 
-pub returns-in_default-2 : goal.returns-in_default-2
-returns-in_default-2 c = λ has.
+pub returns-in_default : goal.returns-in_default
+returns-in_default c = λ has.
     let e = c.args.entry.now in
     let calls = c.as_slice-calls.result.now in
     let replies = c.as_slice-replies.result.now in
@@ -36,13 +36,13 @@ returns-in_default-2 c = λ has.
     let s : State = record { world = c.self.inside.world; handles = c.self.inside.handles.items } in
     let so : Same s e w me calls replies = record {
       world = c.in_ok-world.ensures;
-      begins = c.deref_mut.ensures.value ∙ c.in-Ok.ensures.ok ∙ c.begin.ensures ∙ ap (λ (z : Course). private_of z.state e.job) (sym c.self.view_is);
+      begins = c.deref_mut.ensures.value ∙ c.in_ok-me.ensures.ok ∙ c.begin.ensures ∙ ap (λ (z : Course). private_of z.state e.job) (sym c.self.view_is);
       calls_are = c.as_slice-calls.ensures;
       replies_are = c.as_slice-replies.ensures;
     } in
     let mine = subst (λ (z : Course). HasReplies (telling c.args.rules.now) z e) (sym c.self.view_is) has in
     let all = replayed_so c.args.rules.now c.self.inside.world c.self.inside.handles.items c.self.inside.jobs.items c.self.inside.entered e mine in
-    found_none c.in_ok-traced.field-0 (AreReplayed w me e.tx calls replies → ⊥) (λ _. AreReplayed w me e.tx calls replies) c.in_default-2.not-Some
+    found_none c.in_ok-traced.field-0 (AreReplayed w me e.tx calls replies → ⊥) (λ _. AreReplayed w me e.tx calls replies) c.in_default.not-Some
     c.in_ok-traced.ensures.decides
     (replayed_here s e w me calls replies so all)
 
@@ -62,11 +62,11 @@ returns c =
     let s : State = record { world = c.self.inside.world; handles = c.self.inside.handles.items } in
     let so : Same s e w me calls replies = record {
       world = c.in_ok-world.ensures;
-      begins = c.deref_mut.ensures.value ∙ c.in-Ok.ensures.ok ∙ c.begin.ensures ∙ ap (λ (z : Course). private_of z.state e.job) (sym c.self.view_is);
+      begins = c.deref_mut.ensures.value ∙ c.in_ok-me.ensures.ok ∙ c.begin.ensures ∙ ap (λ (z : Course). private_of z.state e.job) (sym c.self.view_is);
       calls_are = c.as_slice-calls.ensures;
       replies_are = c.as_slice-replies.ensures;
     } in
-    let ran : Ran = record { world = v; me = record c.in-Ok.me { value = m }; traced = traced } in
+    let ran : Ran = record { world = v; me = record c.in_ok-me.me { value = m }; traced = traced } in
     let all : AreReplayed w me e.tx calls replies =
     found_some c.in_ok-traced.field-0 traced (AreReplayed w me e.tx calls replies → ⊥) (λ _. AreReplayed w me e.tx calls replies) is gave.decides in
     let yes : c.are_few_faults.result ≡ true = search rules in
