@@ -98,10 +98,10 @@ gone_further a b c job count answer h k e =
       answers = h.answers ++ answer ∷ [];
       went = went_more h.answers answer h.went e;
       long = length-append h.answers (answer ∷ []) ∙ ap (λ n. n + 1) h.long;
-      events = events_more _ _ _ job h.answers answer h.events k.events;
+      events = events_more _ _ _ job h.answers answer h.events k.gains.gained;
       won = omega (arith, k.won, h.won);
       lost = k.lost ∙ h.lost;
-      goes = goes_further a b c h.goes k.goes;
+      goes = goes_further a b c h.goes k.gains.goes;
     }
 
 -- the stop that is there
@@ -129,11 +129,11 @@ round_stopped a b c job share count answer at h below k is =
     let long = length-append h.answers (answer ∷ []) ∙ ap (λ n. n + 1) h.long in
     record {
       answers = h.answers ++ answer ∷ [];
-      events = events_more _ _ _ job h.answers answer h.events k.events;
+      events = events_more _ _ _ job h.answers answer h.events k.gains.gained;
       few = omega (arith, long, below);
       went = all_but h.answers answer h.went;
       won = omega (arith, k.won, h.won, long);
-      goes = goes_further a b c h.goes k.goes;
+      goes = goes_further a b c h.goes k.gains.goes;
       stopped = stopped_by share (h.answers ++ answer ∷ []) answer at _ _ (last_more h.answers answer None) (k.lost ∙ h.lost) is;
     }
 

@@ -31,8 +31,8 @@ rise_more low high n (m ∷ ms) h lt = (h.0, rise_more m high n ms h.1 lt)
 -- the shares, with what an asking leaves
 asked_keeps : (old new : Known) (last : Asked) → HasAsked old new last → (new.table ≡ old.table) × (new.view.shares ≡ old.view.shares)
 asked_keeps old new (asked.Held word) h = (h.table, ap (λ (v : View). v.shares) h.view)
-asked_keeps old new (asked.Job job) h = (h.goes.table, h.goes.shares)
-asked_keeps old new asked.Nothing h = (h.goes.table, h.goes.shares)
+asked_keeps old new (asked.Job job) h = (h.gains.goes.table, h.gains.goes.shares)
+asked_keeps old new asked.Nothing h = (h.gains.goes.table, h.gains.goes.shares)
 
 -- behind an asking
 pub sound_asked : (home : TableId) (asking left : Known) (tasks : List Task) (top share : ℕ) (last : Asked)
@@ -181,21 +181,21 @@ by_asked old left (asked.Held word) h =
     }
 by_asked old left (asked.Job job) h =
     record {
-      table = h.goes.table;
-      origin = h.goes.origin;
-      seen = h.goes.seen;
-      shares = ap (λ n. n + shares_of old.tasks) h.goes.shares;
-      gains = h.events;
+      table = h.gains.goes.table;
+      origin = h.gains.goes.origin;
+      seen = h.gains.goes.seen;
+      shares = ap (λ n. n + shares_of old.tasks) h.gains.goes.shares;
+      gains = h.gains.gained;
       loses = omega (arith, h.lost);
       stay = stay_all old.tasks;
     }
 by_asked old left asked.Nothing h =
     record {
-      table = h.goes.table;
-      origin = h.goes.origin;
-      seen = h.goes.seen;
-      shares = ap (λ n. n + shares_of old.tasks) h.goes.shares;
-      gains = h.events;
+      table = h.gains.goes.table;
+      origin = h.gains.goes.origin;
+      seen = h.gains.goes.seen;
+      shares = ap (λ n. n + shares_of old.tasks) h.gains.goes.shares;
+      gains = h.gains.gained;
       loses = omega (arith, h.lost);
       stay = stay_all old.tasks;
     }

@@ -1,13 +1,15 @@
 -- Steps that don't wait, and those that wait for one that enters.
-use Rattle.std.proofs.Common.{◌≡◌, ℕ, ◌+◌, ◌≤◌, [], ◌∷◌, ◌++◌, List, refl, sym, ap, ◌∙◌, arith}
+use Rattle.std.proofs.Common.{◌≡◌, ℕ, ◌+◌, ◌≤◌, [], ◌∷◌, ◌++◌, List, length, drop, refl, sym, ap, ◌∙◌, arith}
+use Rattle.std.proofs.Math.ListN.{drop_of_length-le}
 use Rattle.std.proofs.lemmas.List.{append-nil}
+use Rattle.xc_data.specs.declared.entry.Entry.{Entry}
 use Rattle.xc_data.specs.declared.entry.Event.{Event}
 use Rattle.xc_station.specs.Events.{IsEvent, meaning_of}
 use Rattle.xc_station.specs.Stations.{StationView}
-use Rattle.xc_turnstile.specs.Insides.{PassGoesOn, GainsEvent, IsInside, IsNext, IsOutside}
+use Rattle.xc_turnstile.specs.Insides.{PassGoesOn, Gains, GainsEvent, IsInside, IsNext, IsOutside}
 use Rattle.xc_turnstile.specs.Known.{Known}
 use Rattle.xc_turnstile.specs.Meanings.{Meaning}
-use Rattle.xc_turnstile.specs.Views.{left_view}
+use Rattle.xc_turnstile.specs.Views.{left_view, numbered}
 use Rattle.xc_turnstile.specs.declared.view.View.{View}
 use Rattle.xc_turnstile.proofs.Passes.{gains, goes_further, outside_further}
 use Rattle.xc_runner.specs.Tries.{GainsOnce, IsHeldOff}
@@ -31,11 +33,21 @@ module _ {X : Type 0} (m : Meaning X) (pass hold : Known) (x y : X) (event : Eve
       let was = view ∙ ap (left_view (m.journal y) (m.count y) (m.last y)) inside.view in
       let all = gains m pass hold x y event inside next left table view in
       record {
-        goes = all.goes;
-        events = all.gains;
+        entries = all.entries;
+        gains = all.gains;
         won = ap (λ (v : View). v.won) was;
         lost = ap (λ (v : View). v.lost) was ∙ same;
       }
+
+  -- where no entry was added, it has its own as before
+  pub mine_quietly : m.journal y ≡ m.journal x → (left : Known) → left.view ≡ left_view (m.journal y) (m.count y) (m.last y) hold.view
+      → left.view.mine ≡ pass.view.mine
+  mine_quietly same left view =
+      let was = view ∙ ap (left_view (m.journal y) (m.count y) (m.last y)) inside.view in
+      let none : drop (length (m.journal x)) (m.journal y) ≡ [] =
+      ap (drop (length (m.journal x))) same ∙ drop_of_length-le (m.journal x) (omega arith) in
+      ap (λ (v : View). v.mine) was
+      ∙ (ap (λ (es : List Entry). pass.view.mine ++ numbered (length (m.journal x)) es) none ∙ append-nil pass.view.mine)
 
 -- ---- a pass that waits
 -- one that lost now and then goes on
@@ -58,12 +70,22 @@ held_outside a b word h = record { table = h.table; lost = a.view.lost + 1; more
 pub waits_further : (a b c : Known) (word : ℕ) → IsOutside a b → IsHeldOff b c word → IsOutside a c
 waits_further a b c word p h = outside_further a b c p (held_outside b c word h)
 
+-- what is gained behind that
+pub behind : (a b c : Known) (events : List Event) (entries : List (ℕ × Entry)) → IsOutside a b → Gains b c events entries → Gains a c events entries
+behind a b c events entries p q =
+    record {
+      goes = goes_further a b c (outside_goes a b p) q.goes;
+      gained = q.gained ∙ ap (λ (v : View). v.events ++ events) p.view;
+      mine = q.mine ∙ ap (λ (v : View). v.mine ++ entries) p.view;
+      stand = q.stand;
+    }
+
 -- the step that enters behind that
 pub gains_behind : (a b c : Known) (event : Event) → IsOutside a b → GainsOnce b c event → GainsEvent a c event
 gains_behind a b c event p q =
     record {
-      goes = goes_further a b c (outside_goes a b p) q.goes;
-      gains = q.events ∙ ap (λ (v : View). v.events ++ event ∷ []) p.view;
+      entries = q.entries;
+      gains = behind a b c (event ∷ []) q.entries p q.gains;
       won = q.won ∙ ap (λ (v : View). v.won + 1) p.view;
       lost = omega (arith, q.lost, p.more, ap (λ (v : View). v.lost) p.view);
     }

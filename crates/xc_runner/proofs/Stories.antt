@@ -25,7 +25,7 @@ leads_further r s t old mid new p q =
 
 -- one event
 leads_once : (s t : Stage) (event : Event) (old new : Known) → GainsEvent old new event → walk s event ≡ t → Leads s old new t
-leads_once s t event old new gained way = record { gained = event ∷ []; events = gained.gains; won = gained.won; leads = way }
+leads_once s t event old new gained way = record { gained = event ∷ []; events = gained.gains.gained; won = gained.won; leads = way }
 
 -- a turn of the job that was taken: the worker goes on with the job, or takes the next one
 pub leads_turn : (job : ℕ) (answer : Option Turn) (last : Bool) (old new : Known) → GainsEvent old new (Turned job answer) → last ≡ is_last answer

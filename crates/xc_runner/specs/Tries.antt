@@ -1,7 +1,8 @@
 -- What a step that doesn't wait gives.
-use Rattle.std.specs.Prelude.{◌≡◌, ℕ, ◌+◌, ◌%◌, ◌++◌, ◌∷◌, []}
+use Rattle.std.specs.Prelude.{◌≡◌, ℕ, ◌+◌, ◌%◌, List, ◌∷◌, []}
+use Rattle.xc_data.specs.declared.entry.Entry.{Entry}
 use Rattle.xc_data.specs.declared.entry.Event.{Event}
-use Rattle.xc_turnstile.specs.Insides.{PassGoesOn}
+use Rattle.xc_turnstile.specs.Insides.{Gains}
 use Rattle.xc_turnstile.specs.Known.{Known}
 use Rattle.xc_turnstile.specs.Views.{lost_view}
 use Rattle.xc_runner.specs.declared.tries.Tried.{Tried}
@@ -9,8 +10,8 @@ use Rattle.xc_runner.specs.declared.tries.Tried.TheVariants.{Answered, Held}
 
 -- a pass behind an entering with one event, where nobody else was found inside
 pub record GainsOnce (old new : Known) (event : Event) : Type 0 where
-  pub goes : PassGoesOn old new
-  pub events : new.view.events ≡ old.view.events ++ event ∷ []
+  pub entries : List (ℕ × Entry)
+  pub gains : Gains old new (event ∷ []) entries
   pub won : new.view.won ≡ old.view.won + 1
   pub lost : new.view.lost ≡ old.view.lost
 

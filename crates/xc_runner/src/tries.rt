@@ -22,7 +22,8 @@ pub fn try_pick<H: Host>(
     pass: Pass<Box<Station<H>>>,
 ) -> (Pass<Box<Station<H>>>, Tried<Option<u32>>)
     requires { pass.table ≡ turnstile.now.table.shared.table_id }
-    ensures { HasTried (λ job. Picked job) pass result.0 result.1 }
+    ensures tried { HasTried (λ job. Picked job) pass result.0 result.1 }
+    ensures mine { result.0.view.mine ≡ pass.view.mine }
 {
     match turnstile.try_enter(pass) {
         Entered::Inside(value, hold) => {

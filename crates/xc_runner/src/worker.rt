@@ -56,7 +56,10 @@ pub fn pick<H: Host, R: Wait>(
     pass: Pass<Box<Station<H>>>,
 ) -> (Pass<Box<Station<H>>>, Option<u32>)
     requires { pass.table ≡ turnstile.now.table.shared.table_id }
-    ensures { GainsEvent pass result.0 (Picked result.1) }
+    ensures gains { GainsEvent pass result.0 (Picked result.1) }
+
+    // A pick adds no entry.
+    ensures mine { result.0.view.mine ≡ pass.view.mine }
 {
     let mut mine = pass;
     let mut backoff = Backoff::new();

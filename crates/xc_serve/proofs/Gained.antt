@@ -8,15 +8,14 @@ use Rattle.xc_data.specs.declared.entry.Event.{Event}
 use Rattle.xc_station.specs.Events.{IsEvent, meaning_of}
 use Rattle.xc_station.specs.Stations.{StationView}
 use Rattle.xc_turnstile.specs.declared.view.View.{View}
-use Rattle.xc_turnstile.specs.Insides.{IsInside, IsNext}
+use Rattle.xc_turnstile.specs.Insides.{Gains, GainsEvent, IsInside, IsNext}
 use Rattle.xc_turnstile.specs.Known.{Known}
 use Rattle.xc_turnstile.specs.Meanings.{Meaning, boxed}
 use Rattle.xc_turnstile.specs.Views.{AreAtPlaces, added, entered_view, left_view, numbered}
-use Rattle.xc_turnstile.proofs.Passes.{gains, goes_further}
+use Rattle.xc_turnstile.proofs.Passes.{gains_at, goes_further}
 use Rattle.xc_turnstile.proofs.Fronts.{numbered_stands, stands_append, stands_longer, starts_self}
 use Rattle.xc_print.specs.Entries.{journal_text}
 use Rattle.xc_serve.specs.Answers.{texts}
-use Rattle.xc_serve.specs.Gains.{Gains}
 
 -- ---- one entering
 -- an event of a station leads on
@@ -35,28 +34,18 @@ unboxed m pass hold b h = record { table = h.table; begins = h.begins; origin = 
 
 module _ {X : Type 0} (m : Meaning X) (pass hold : Known) (x y : X) (event : Event) (inside : IsInside m pass hold x) (next : IsNext m x y event)
     (left : Known) (table : left.table ≡ hold.table) (view : left.view ≡ left_view (m.journal y) (m.count y) (m.last y) hold.view) where
-  -- the event, and the entries that were added
-  pub gains_at : Gains pass left (event ∷ []) (added (length (m.journal x)) (m.journal y))
-  gains_at =
-      let was : left.view ≡ left_view (m.journal y) (m.count y) (m.last y)
-      (entered_view (m.journal x) (m.count x) (record pass.view { lost = inside.lost })) =
-      view ∙ ap (left_view (m.journal y) (m.count y) (m.last y)) inside.view in
-      let once = gains m pass hold x y event inside next left table view in
-      let n = length (m.journal x) in
-      record {
-        goes = once.goes;
-        gained = once.gains;
-        mine = ap (λ (v : View). v.mine) was;
-        stand = subst (λ (es : List Entry). AreAtPlaces es (added n (m.journal y))) (sym (ap (λ (v : View). v.seen) was))
-            (numbered_stands (drop n (m.journal y)) (m.journal y) n refl);
-      }
-
   -- the event alone, where no entry was added
   pub gains_quietly : m.journal y ≡ m.journal x → Gains pass left (event ∷ []) []
   gains_quietly same =
       let none : drop (length (m.journal x)) (m.journal y) ≡ [] =
       ap (drop (length (m.journal x))) same ∙ drop_of_length-le (m.journal x) (omega arith) in
-      subst (λ (es : List (ℕ × Entry)). Gains pass left (event ∷ []) es) (ap (numbered (length (m.journal x))) none) gains_at
+      subst (λ (es : List (ℕ × Entry)). Gains pass left (event ∷ []) es) (ap (numbered (length (m.journal x))) none)
+      (gains_at m pass hold x y event inside next left table view)
+
+-- the same, by what it has of its own
+pub gains_no_entry : (old new : Known) (event : Event) → GainsEvent old new event → new.view.mine ≡ old.view.mine → Gains old new (event ∷ []) []
+gains_no_entry old new event g mine =
+    record { goes = g.gains.goes; gained = g.gains.gained; mine = mine ∙ sym (append-nil old.view.mine); stand = tt }
 
 -- ---- several
 -- nothing is gained

@@ -28,7 +28,8 @@ use Rattle.xc_serve.specs.declared.serve.Next.TheVariants as next
 use Rattle.xc_serve.specs.declared.serve.SessionEnd.{SessionEnd}
 use Rattle.xc_serve.specs.declared.serve.SessionEnd.TheVariants as end
 use Rattle.xc_serve.specs.Answers.{IsAnswer, looked_up, not_yet_line, text_at}
-use Rattle.xc_serve.specs.Gains.{Gains, IsFollowed}
+use Rattle.xc_turnstile.specs.Insides.{Gains}
+use Rattle.xc_serve.specs.Gains.{IsFollowed}
 use Rattle.xc_serve.specs.Sessions.{EndsIn, Exchange, GoesOn, HasServed, IsAsked, IsExchange, IsServing, IsSession, Takes}
 use Rattle.xc_serve.specs.Sessions.{answers_of, entries_of, events_of, reads}
 use Rattle.xc_serve.specs.Serving.{IsSaid, IsSaidIf, IsServed}

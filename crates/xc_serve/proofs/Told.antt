@@ -19,7 +19,8 @@ use Rattle.xc_print.specs.Entries.{entry_text, journal_text}
 use Rattle.xc_data.specs.declared.memory.NoMemory.{NoMemory}
 use Rattle.xc_serve.specs.declared.answer.Answer.{Answer}
 use Rattle.xc_serve.specs.Answers.{IsLook, looked_up, not_yet_line, text_at, texts, turns_of}
-use Rattle.xc_serve.specs.Gains.{Gains, Grows, HasGone, IsMade, IsText, IsTold, IsToldJob, IsToldTurn, closing_if}
+use Rattle.xc_turnstile.specs.Insides.{Gains}
+use Rattle.xc_serve.specs.Gains.{Grows, HasGone, IsMade, IsText, IsTold, IsToldJob, IsToldTurn, closing_if}
 use Rattle.xc_serve.proofs.Gained.{gains_further, gains_nothing, journal_text-append, texts_added}
 
 -- ---- texts

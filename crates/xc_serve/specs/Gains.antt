@@ -7,9 +7,9 @@ use Rattle.xc_data.specs.declared.entry.Event.{Event}
 use Rattle.xc_data.specs.declared.entry.Event.TheVariants.{Turned}
 use Rattle.xc_data.specs.declared.entry.Turn.{Turn}
 use Rattle.xc_text.specs.declared.script.Script.{Script}
-use Rattle.xc_turnstile.specs.Insides.{PassGoesOn}
+use Rattle.xc_turnstile.specs.Insides.{Gains}
 use Rattle.xc_turnstile.specs.Known.{Known}
-use Rattle.xc_turnstile.specs.Views.{AreAtPlaces, added}
+use Rattle.xc_turnstile.specs.Views.{added}
 use Rattle.xc_runner.specs.Walks.{is_last}
 use Rattle.xc_data.specs.declared.memory.NoMemory.{NoMemory}
 use Rattle.xc_serve.specs.declared.answer.Answer.{Answer}
@@ -17,13 +17,6 @@ use Rattle.xc_serve.specs.declared.answer.Answer.TheVariants as answer
 use Rattle.xc_serve.specs.declared.order.Order.{Order}
 use Rattle.xc_serve.specs.declared.order.Order.TheVariants as order
 use Rattle.xc_serve.specs.Answers.{IsAnswer, IsOwn, IsOwnIn, answer_bytes, closing, texts, turns_of}
-
--- it goes on, with these events and these entries more, which stand at their places in what it has seen
-pub record Gains (old new : Known) (events : List Event) (entries : List (ℕ × Entry)) : Type 0 where
-  pub goes : PassGoesOn old new
-  pub gained : new.view.events ≡ old.view.events ++ events
-  pub mine : new.view.mine ≡ old.view.mine ++ entries
-  pub stand : AreAtPlaces new.view.seen entries
 
 -- a text is this one, or was lost for lack of memory
 abbrev pub IsText : Option (List ℕ) → List ℕ → Type 0

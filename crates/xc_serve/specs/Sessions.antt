@@ -15,7 +15,7 @@ use Rattle.xc_serve.specs.declared.order.Order.TheVariants as order
 use Rattle.xc_serve.specs.declared.serve.SessionEnd.{SessionEnd}
 use Rattle.xc_serve.specs.declared.serve.SessionEnd.TheVariants as end
 use Rattle.xc_serve.specs.Answers.{IsAnswer}
-use Rattle.xc_serve.specs.Gains.{Gains}
+use Rattle.xc_turnstile.specs.Insides.{Gains}
 use Rattle.xc_serve.specs.Orders.{order_of}
 
 -- a line that was read; what the pass gained for it; and its answer

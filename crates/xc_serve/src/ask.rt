@@ -1,9 +1,10 @@
 ghost use Rattle.std.specs.Prelude.{◌≡◌, ◌≤◌, ℕ, List, [], ◌∷◌, IfOk, length, slice_get};
-ghost use Rattle.xc_data.specs.declared.entry.Event.TheVariants.{Picked, Looked};
+ghost use Rattle.xc_data.specs.declared.entry.Event.TheVariants.{Looked};
 ghost use Rattle.xc_serve.specs.Answers.{seen_line, text_at};
-ghost use Rattle.xc_serve.specs.Gains.{Gains, IsFollowed, IsMade, IsText, IsTold};
+ghost use Rattle.xc_serve.specs.Gains.{IsFollowed, IsMade, IsText, IsTold};
 ghost use Rattle.xc_serve.specs.declared.order.Order.TheVariants as Asked;
 ghost use Rattle.xc_station.specs.Events.{IsEvent};
+ghost use Rattle.xc_turnstile.specs.Insides.{Gains};
 
 use crate::answer::Answer;
 use crate::job::work_told;
@@ -13,23 +14,9 @@ use std::sync::Wait;
 use xc_data::{Entry, NoMemory, Text};
 use xc_host::Host;
 use xc_print::entry_text;
-use xc_runner::enter;
+use xc_runner::{enter, pick};
 use xc_station::Station;
 use xc_turnstile::{Pass, Turnstile};
-
-// Takes the next job, in one entering.
-fn pick_told<H: Host, R: Wait>(
-    rt: &R,
-    shop: &Turnstile<Box<Station<H>>>,
-    pass: Pass<Box<Station<H>>>,
-) -> (Pass<Box<Station<H>>>, Option<u32>)
-    requires { pass.table ≡ shop.now.table.shared.table_id }
-    ensures { Gains pass result.0 (Picked result.1 ∷ []) [] }
-{
-    let (mut station, hold) = enter(rt, shop, pass);
-    let job = station.next_job();
-    (shop.leave(station, hold), job)
-}
 
 // Looks how long the journal is, in one entering.
 fn look_told<H: Host, R: Wait>(
@@ -95,7 +82,7 @@ fn work<H: Host, R: Wait>(
     requires { pass.table ≡ shop.now.table.shared.table_id }
     ensures { IsFollowed pass result.0 Asked.Work result.1 }
 {
-    let (pass, job) = pick_told(rt, shop, pass);
+    let (pass, job) = pick(rt, shop, pass);
     let Some(job) = job else {
         return (pass, Some(Answer::NoJob));
     };

@@ -1,15 +1,15 @@
 -- What a pass keeps over an entering with one event, and over several.
-use Rattle.std.proofs.Common.{◌≡◌, ◌≢◌, ℕ, ◌+◌, ◌%◌, ◌^◌, ◌≤◌, ◌==◌, Bool, false, List, ◌++◌, Option, length, sym, ap, ◌∙◌, subst}
+use Rattle.std.proofs.Common.{◌≡◌, ◌≢◌, ℕ, ◌+◌, ◌%◌, ◌^◌, ◌≤◌, ◌==◌, Bool, false, List, [], ◌∷◌, ◌++◌, Option, length, drop, refl, sym, ap, ◌∙◌, subst}
 use Rattle.std.proofs.Common.{arith, append_assoc, if◌then◌else◌}
 use Rattle.std.proofs.lemmas.Bool.{ne_eqb}
 use Rattle.xc_data.specs.declared.entry.Entry.{Entry}
 use Rattle.xc_data.specs.declared.entry.Event.{Event}
 use Rattle.xc_turnstile.specs.declared.view.View.{View}
-use Rattle.xc_turnstile.specs.Insides.{IsInside, IsOutside, IsNext, PassGoesOn, GainsEvent}
+use Rattle.xc_turnstile.specs.Insides.{IsInside, IsOutside, IsNext, PassGoesOn, Gains, GainsEvent}
 use Rattle.xc_turnstile.specs.Known.{Known}
 use Rattle.xc_turnstile.specs.Meanings.{Meaning}
-use Rattle.xc_turnstile.specs.Views.{BeginsWith, added, entered_view, event_of, left_view}
-use Rattle.xc_turnstile.proofs.Fronts.{starts_trans}
+use Rattle.xc_turnstile.specs.Views.{AreAtPlaces, BeginsWith, added, entered_view, event_of, left_view}
+use Rattle.xc_turnstile.proofs.Fronts.{numbered_stands, starts_trans}
 
 -- one more, modulo 2^64, is another number
 counts_on : (n : ℕ) → (n + 1) % 2 ^ 64 ≢ n
@@ -17,13 +17,15 @@ counts_on n e = omega (arith, e)
 
 -- an event leads on from what was handed out
 module _ {X : Type 0} (m : Meaning X) (pass hold : Known) (x y : X) (event : Event) (inside : IsInside m pass hold x) (next : IsNext m x y event) where
-  -- the pass after a leaving with y
-  pub gains : (left : Known) → left.table ≡ hold.table → left.view ≡ left_view (m.journal y) (m.count y) (m.last y) hold.view → GainsEvent pass left event
-  gains left table view =
+  -- what the pass gains by a leaving with y
+  pub gains_at : (left : Known) → left.table ≡ hold.table → left.view ≡ left_view (m.journal y) (m.count y) (m.last y) hold.view
+      → Gains pass left (event ∷ []) (added (length (m.journal x)) (m.journal y))
+  gains_at left table view =
       let was : left.view ≡ left_view (m.journal y) (m.count y) (m.last y)
       (entered_view (m.journal x) (m.count x) (record pass.view { lost = inside.lost })) =
       view ∙ ap (left_view (m.journal y) (m.count y) (m.last y)) inside.view in
       let new : (m.count y == m.count x) ≡ false = ne_eqb (m.count y) (m.count x) (λ e. counts_on (m.count x) (sym next.count ∙ e)) in
+      let n = length (m.journal x) in
       record {
         goes = record {
           table = table ∙ inside.table;
@@ -31,12 +33,26 @@ module _ {X : Type 0} (m : Meaning X) (pass hold : Known) (x y : X) (event : Eve
           origin = ap (λ (v : View). v.origin) was;
           seen = subst (λ (es : List Entry). BeginsWith es pass.view.seen) (sym (ap (λ (v : View). v.seen) was))
               (starts_trans (m.journal y) (m.journal x) pass.view.seen next.front inside.begins);
-          added = added (length (m.journal x)) (m.journal y);
+          added = added n (m.journal y);
           mine = ap (λ (v : View). v.mine) was;
         };
-        gains = ap (λ (v : View). v.events) was
+        gained = ap (λ (v : View). v.events) was
             ∙ (ap (λ (b : Bool). if b then pass.view.events else pass.view.events ++ event_of (m.last y)) new
             ∙ ap (λ (o : Option Event). pass.view.events ++ event_of o) next.last);
+        mine = ap (λ (v : View). v.mine) was;
+        stand = subst (λ (es : List Entry). AreAtPlaces es (added n (m.journal y))) (sym (ap (λ (v : View). v.seen) was))
+            (numbered_stands (drop n (m.journal y)) (m.journal y) n refl);
+      }
+
+  -- the pass after it
+  pub gains : (left : Known) → left.table ≡ hold.table → left.view ≡ left_view (m.journal y) (m.count y) (m.last y) hold.view → GainsEvent pass left event
+  gains left table view =
+      let was : left.view ≡ left_view (m.journal y) (m.count y) (m.last y)
+      (entered_view (m.journal x) (m.count x) (record pass.view { lost = inside.lost })) =
+      view ∙ ap (left_view (m.journal y) (m.count y) (m.last y)) inside.view in
+      record {
+        entries = added (length (m.journal x)) (m.journal y);
+        gains = gains_at left table view;
         won = ap (λ (v : View). v.won) was;
         lost = subst (λ n. pass.view.lost ≤ n) (sym (ap (λ (v : View). v.lost) was)) inside.more;
       }

@@ -4,7 +4,7 @@ use Rattle.xc_data.specs.declared.entry.Entry.{Entry}
 use Rattle.xc_data.specs.declared.entry.Event.{Event}
 use Rattle.xc_turnstile.specs.Known.{Known}
 use Rattle.xc_turnstile.specs.Meanings.{Meaning}
-use Rattle.xc_turnstile.specs.Views.{BeginsWith, entered_view}
+use Rattle.xc_turnstile.specs.Views.{AreAtPlaces, BeginsWith, entered_view}
 
 -- the value was handed out, and the pass is as it was but for how often it lost
 pub record IsInside {X : Type 0} (m : Meaning X) (pass hold : Known) (value : X) : Type 0 where
@@ -45,10 +45,17 @@ pub record PassGoesOn (old new : Known) : Type 0 where
   pub added : List (ℕ × Entry)
   pub mine : new.view.mine ≡ old.view.mine ++ added
 
+-- it goes on, with these events and these entries more, which stand at their places in what it has seen
+pub record Gains (old new : Known) (events : List Event) (entries : List (ℕ × Entry)) : Type 0 where
+  pub goes : PassGoesOn old new
+  pub gained : new.view.events ≡ old.view.events ++ events
+  pub mine : new.view.mine ≡ old.view.mine ++ entries
+  pub stand : AreAtPlaces new.view.seen entries
+
 -- it enters once, and gains this event
 pub record GainsEvent (old new : Known) (event : Event) : Type 0 where
-  pub goes : PassGoesOn old new
-  pub gains : new.view.events ≡ old.view.events ++ event ∷ []
+  pub entries : List (ℕ × Entry)
+  pub gains : Gains old new (event ∷ []) entries
   pub won : new.view.won ≡ old.view.won + 1
   pub lost : old.view.lost ≤ new.view.lost
 

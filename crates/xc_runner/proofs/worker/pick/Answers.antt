@@ -13,7 +13,7 @@ loop-preserved g c =
         runs = (tt, tt);
         outside = subst (IsOutside c.args.pass) (sym w.mine-is)
             (waits_further _ _ _ _ c.loop.invariant.outside
-            (subst (HasTried (λ job. Picked job) c.loop.mine w.try_pick-back.result.0) w.in-Held.is w.try_pick-back.ensures));
+            (subst (HasTried (λ job. Picked job) c.loop.mine w.try_pick-back.result.0) w.in-Held.is w.try_pick-back.ensures.tried));
       }
       | else-not-is_held w ↦ record { runs = (tt, tt); outside = subst (IsOutside c.args.pass) (sym w.mine-is) c.loop.invariant.outside }
     ]
