@@ -97,7 +97,7 @@ append_call model h bytes num at old new (Err e) free few there none passes grow
       uses = passes.uses;
       made = made;
       one = one_at_most (stops.done == 0) (Tail num stops.from bytes stops.done);
-      count = λ w. tt;
+      kinds = tt;
       undo = stops.undo ∙ ap (λ (rs : List Ending). let u : Records = record { pending = old.undo.pending ++ made; ended = rs } in u) (sym none);
       acts = λ _. tt;
       records = λ _. tt;

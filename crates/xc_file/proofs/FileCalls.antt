@@ -1,5 +1,5 @@
 -- Calls on files, as their contract has them.
-use Rattle.std.proofs.Common.{◌≡◌, ℕ, ◌≤◌, ◌==◌, Bool, true, false, length, IsTrue, IsSome, Option, Some, None, Ok, Err, inl, if◌then◌else◌}
+use Rattle.std.proofs.Common.{◌≡◌, ℕ, ◌≤◌, false, length, IsTrue, IsSome, Option, Some, None, Ok, Err, inl}
 use Rattle.std.proofs.Common.{List, [], ◌++◌, refl, ap, sym, ◌∙◌, subst, append-nil, arith}
 use Rattle.std.proofs.lemmas.List.{append_cancel_left}
 use Rattle.std.specs.Prelude.{IfOk, OnErr, Result}
@@ -19,12 +19,14 @@ use Rattle.xc_world.specs.After.{IsMeAfter, stored_after}
 use Rattle.xc_world.specs.Checks.{IsChecked, is_bad_handle, is_too_big, is_too_much, refusal_of}
 use Rattle.xc_world.specs.Ends.{Ending}
 use Rattle.xc_world.specs.Fits.{fits, answer_of}
+use Rattle.xc_world.specs.RecordOf.{AreRecordsOf, leaves_record, left_by}
 use Rattle.xc_world.specs.Trail.{recorded}
+use Rattle.xc_world.proofs.RecordsLeft.{as_many, none_of, one_left, recorded_of}
 use Rattle.xc_data.specs.Step.{Step}
 use Rattle.xc_host.specs.Model.{HostModel}
 use Rattle.xc_host.specs.Uses.{Uses, CallsFor, CallsOf}
 use Rattle.xc_host.proofs.Called.{unused}
-use Rattle.xc_host.specs.Contents.{Contents, with_contents}
+use Rattle.xc_host.specs.Contents.{Contents, with_contents, world_of}
 use Rattle.xc_compensate.specs.Records.{Records}
 use Rattle.xc_file.specs.Calls.{CallState, CallView, call_view, IsFileCall, IsMePassed, AreRecorded, StepsAlone}
 use Rattle.xc_file.specs.Passing.{IsAsBefore, Leaves, Passes, at_host}
@@ -43,6 +45,15 @@ ok_more P Q (Err e) more p = tt
 pub always_err : {T E : Type 0} (P : Type 0) (result : Result T E) → P → OnErr result P
 always_err P (Ok x) p = tt
 always_err P (Err e) p = p
+
+-- where the plain machine records nothing, the call leaves no record
+unrecorded_kinds : (w : World) (me : Private) (number : ℕ) (call : Call) (r : Reply) → IsChecked (refusal_of call me) call r
+    → [] ≡ recorded w me number call r → AreRecordsOf (left_by call r) []
+unrecorded_kinds w me number call r checked none = subst (AreRecordsOf (left_by call r)) (sym none) (recorded_of w me number call r checked)
+
+-- it leaves one at most
+one_made : (call : Call) (r : Reply) (made : List Undo) → AreRecordsOf (left_by call r) made → length made ≤ 1
+one_made call r made kinds = omega (arith, as_many (left_by call r) made kinds, one_left call r)
 
 -- ---- a call that a check refuses
 refused_me : (call : Call) (me : Private) (tx : ℕ) (r : Reply) → refusal_of call me ≡ Some r → IsMeAfter tx call r me me
@@ -67,7 +78,8 @@ refused_call model call s r e none =
       uses = record { made = []; named = subst (λ o. CallsOf o call r []) (sym e) refl; used = unused model s.host };
       made = [];
       one = omega arith;
-      count = λ w. ap length (none w s.number);
+      kinds = unrecorded_kinds (world_of (model.contents s.host)) s.me s.number call r (subst (λ o. IsChecked o call r) (sym e) refl)
+          (none (world_of (model.contents s.host)) s.number);
       undo = grown_by_none s.undo;
       acts = λ _. record {
         step = λ w. refused_acts (with_contents w (model.contents s.host)) s.me s.number call (answer_of r) r e;
@@ -99,7 +111,7 @@ free_uses model step call me r e uses = subst (λ o. Uses model step (CallsOf o 
 pub record Grows {H : Type 0} (model : HostModel H) (call : Call) (old new : CallState H) (r : Reply) : Type 0 where
   pub made : List Undo
   pub one : length made ≤ 1
-  pub count : (w : World) → length made ≡ length (recorded w old.me old.number call r)
+  pub kinds : AreRecordsOf (left_by call r) made
   pub undo : new.undo ≡ record old.undo { pending = old.undo.pending ++ made }
   pub records : IsTrue model.tells → AreRecorded call (call_view model old) made r
 
@@ -115,7 +127,7 @@ replied_call model call old new r free passes grows =
       uses = free_uses model _ call old.me r free passes.uses;
       made = grows.made;
       one = grows.one;
-      count = grows.count;
+      kinds = grows.kinds;
       undo = grows.undo;
       acts = passes.acts;
       records = grows.records;
@@ -136,7 +148,7 @@ starved_call model call old new e free passes before =
       uses = passes.uses;
       made = [];
       one = omega arith;
-      count = λ w. tt;
+      kinds = tt;
       undo = before.undo ∙ grown_by_none old.undo;
       acts = λ _. tt;
       records = λ _. tt;
@@ -154,57 +166,52 @@ passed_call model call old new (Err e) free passes grows before = starved_call m
 
 -- a call that leaves no record
 pub none_grow : {H : Type 0} (model : HostModel H) (call : Call) (old new : CallState H) (result : Result Reply NoMemory)
-    → new.undo ≡ old.undo → ((r : Reply) (w : World) → [] ≡ recorded w old.me old.number call r) → IfOk result (Grows model call old new)
-none_grow model call old new (Ok r) undo none =
+    → new.undo ≡ old.undo → ((r : Reply) → leaves_record call r ≡ false) → ((r : Reply) (w : World) → [] ≡ recorded w old.me old.number call r)
+    → IfOk result (Grows model call old new)
+none_grow model call old new (Ok r) undo leaves none =
     record {
       made = [];
       one = omega arith;
-      count = λ w. ap length (none r w);
+      kinds = none_of call r (leaves r);
       undo = undo ∙ grown_by_none old.undo;
       records = λ _ w. none r (with_contents w (model.contents old.host));
     }
-none_grow model call old new (Err e) undo none = tt
+none_grow model call old new (Err e) undo leaves none = tt
 
 -- a call whose records its reply tells, whatever the world
 pub told_grow : {H : Type 0} (model : HostModel H) (call : Call) (made : Reply → List Undo) (old new : CallState H) (result : Result Reply NoMemory)
-    → old.undo.ended ≡ [] → ((r : Reply) → length (made r) ≤ 1) → ((r : Reply) (w : World) → made r ≡ recorded w old.me old.number call r)
+    → old.undo.ended ≡ [] → ((r : Reply) → AreRecordsOf (left_by call r) (made r)) → ((r : Reply) (w : World) → made r ≡ recorded w old.me old.number call r)
     → IfOk result (λ r. new.undo ≡ record { pending = old.undo.pending ++ made r; ended = [] }) → IfOk result (Grows model call old new)
-told_grow model call made old new (Ok r) none one are undo =
+told_grow model call made old new (Ok r) none kinds are undo =
     record {
       made = made r;
-      one = one r;
-      count = λ w. ap length (are r w);
+      one = one_made call r (made r) (kinds r);
+      kinds = kinds r;
       undo = undo ∙ ap (λ (rs : List Ending). let u : Records = record { pending = old.undo.pending ++ made r; ended = rs } in u) (sym none);
       records = λ _ w. are r (with_contents w (model.contents old.host));
     }
-told_grow model call made old new (Err e) none one are undo = tt
+told_grow model call made old new (Err e) none kinds are undo = tt
 
 -- what is put after the same records is the same
 same_made : (old new : Records) (made more : List Undo) → new ≡ record old { pending = old.pending ++ made }
     → new ≡ record { pending = old.pending ++ more; ended = [] } → made ≡ more
 same_made old new made more grown is = append_cancel_left old.pending made more (ap (λ u. u.pending) (sym grown ∙ is))
 
-one_or_none : (b : Bool) (n : ℕ) → n ≡ (if b then 0 else 1) → n ≤ 1
-one_or_none true n e = omega (arith, e)
-one_or_none false n e = omega (arith, e)
-
 -- a call that leaves one record where it did some bytes, which the host tells
-pub some_grow : {H : Type 0} (model : HostModel H) (call : Call) (made : Reply → List Undo) (done : Reply → ℕ) (old new : CallState H)
-    (result : Result Reply NoMemory)
-    → IfOk result (λ r. Leaves model (at_host (record { old = old; new = new })) (done r) (made r))
-    → ((r : Reply) (w : World) → length (recorded w old.me old.number call r) ≡ (if done r == 0 then 0 else 1))
+pub some_grow : {H : Type 0} (model : HostModel H) (call : Call) (made : Reply → List Undo) (old new : CallState H) (result : Result Reply NoMemory)
+    → IfOk result (λ r. Leaves model (at_host (record { old = old; new = new })) call r (made r))
     → ((r : Reply) → AreRecorded call (call_view model old) (made r) r)
     → IfOk result (Grows model call old new)
-some_grow model call made done old new (Ok r) leaves sizes are =
+some_grow model call made old new (Ok r) leaves are =
     let adds = leaves.adds in
     record {
       made = adds.made;
-      one = one_or_none (done r == 0) (length adds.made) adds.count;
-      count = λ w. adds.count ∙ sym (sizes r w);
+      one = one_made call r adds.made adds.kinds;
+      kinds = adds.kinds;
       undo = adds.undo;
       records = λ t w. same_made old.undo new.undo adds.made (made r) adds.undo (leaves.records t) ∙ are r w;
     }
-some_grow model call made done old new (Err e) leaves sizes are = tt
+some_grow model call made old new (Err e) leaves are = tt
 
 -- the moment of these contents, with this private state
 abbrev pub call_view_at : Contents → ℕ → Private → CallView
@@ -234,7 +241,8 @@ alone_call {H = H} model call s next r alone =
       uses = record { made = []; named = alone.uncalled; used = unused model s.host };
       made = [];
       one = omega arith;
-      count = λ w. ap length (sym (alone.unrecorded w s.number));
+      kinds = unrecorded_kinds (world_of (model.contents s.host)) s.me s.number call r alone.checked
+          (sym (alone.unrecorded (world_of (model.contents s.host)) s.number));
       undo = grown_by_none s.undo;
       acts = λ _. record {
         step = λ w. subst (λ a. act (w_of w) s.me s.number call a ≡ step_to (w_of w) next r) (sym alone.answer) (alone.step (w_of w) s.number);

@@ -3,6 +3,7 @@ pub mod Appends
 pub mod AppendCalls
 pub mod Refusals
 pub mod FileCalls
+pub mod SeekCalls
 pub mod NameCalls
 pub mod FileUses
 pub mod WriteFronts

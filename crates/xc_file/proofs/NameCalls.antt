@@ -1,5 +1,5 @@
 -- Calls on names, as the plain machine does them.
-use Rattle.std.proofs.Common.{◌≡◌, ℕ, ◌<◌, ◌≤◌, length, arith, ◌||◌, Bool, true, false, Option, Some, None, Ok, Err}
+use Rattle.std.proofs.Common.{◌≡◌, ℕ, ◌<◌, arith, ◌||◌, Bool, true, false, Option, Some, None, Ok, Err}
 use Rattle.std.proofs.Common.{List, refl, ap, sym, ◌∙◌, subst, if◌then◌else◌}
 use Rattle.std.proofs.Math.Bool.{or-false}
 use Rattle.std.proofs.lemmas.Bool.{lt-leb}
@@ -21,7 +21,6 @@ use Rattle.xc_world.specs.Act.Names.{created, renamed, next_num}
 use Rattle.xc_world.specs.Checks.{has_made_all}
 use Rattle.xc_host.specs.Contents.{Contents, with_contents, renamed_file}
 use Rattle.xc_world.specs.After.{bytes_in}
-use Rattle.xc_world.specs.Trail.{create_record, rename_record}
 use Rattle.xc_file.specs.Calls.{ActsAsPlain, IsMePassed}
 use Rattle.xc_file.proofs.FileCalls.{call_view_at}
 use Rattle.xc_file.specs.Naming.{Renames, Creates, IsMadeAt, with_made}
@@ -74,11 +73,6 @@ rename_acts was is number me from to _ never = absurd never
 -- a rename leaves the private state
 pub rename_me : (number : ℕ) (me : Private) (from to : List ℕ) (r : Reply) → bytes_in r ≡ 0 → IsMePassed number (XRename from to) me me r
 rename_me number me from to r none = record { places = refl; made = refl; stored = omega (arith, none) }
-
--- a rename leaves one record at most
-pub rename_one : (from to : List ℕ) (r : Reply) → length (rename_record from to r) ≤ 1
-rename_one from to reply.Done = omega arith
-rename_one from to _ = omega arith
 
 -- ---- a create
 -- the checks of a create, by whether all is made and by the lowest vacant handle
@@ -145,11 +139,6 @@ created_acts was is number me next name h (Ok r) few vacant at same told =
     subst (λ m. ActsAsPlain (XCreate name) (call_view_at was number me) (call_view_at is number m) r) (sym same)
     (create_acts was is number me name h r few vacant at told)
 created_acts was is number me next name h (Err e) few vacant at same told = tt
-
--- a create leaves one record at most
-pub create_one : (me : Private) (number : ℕ) (name : List ℕ) (r : Reply) → length (create_record me number name r) ≤ 1
-create_one me number name (reply.Made h) = omega arith
-create_one me number name _ = omega arith
 
 made_me : (number : ℕ) (me : Private) (name : List ℕ) (h : ℕ) (r : Reply) → lowest_vacant me.places ≡ Some h → IsMadeAt h r
     → IsMePassed number (XCreate name) me (with_made me h (next_num me number) r) r

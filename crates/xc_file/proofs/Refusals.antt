@@ -1,22 +1,19 @@
 -- What the private checks say of a call, and what they leave of one that they refuse.
 use Rattle.std.proofs.Common.{◌≡◌, ℕ, ◌||◌, Bool, true, false, Option, Some, None}
-use Rattle.std.proofs.Common.{List, [], ◌∷◌, length, take, drop, refl, ap, sym, ◌∙◌, subst, if◌then◌else◌}
-use Rattle.std.specs.Prelude.{MatchOption, unwrap_or, not, ◌==◌}
+use Rattle.std.proofs.Common.{List, [], length, refl, ap, sym, ◌∙◌, subst, if◌then◌else◌}
+use Rattle.std.specs.Prelude.{MatchOption, unwrap_or, not}
 use Rattle.xc_data.specs.declared.call.Call.{Call}
 use Rattle.xc_data.specs.declared.call.Call.TheVariants as call
 use Rattle.xc_data.specs.declared.call.Answer.{Answer}
 use Rattle.xc_data.specs.declared.call.Answer.TheVariants.{Fine}
 use Rattle.xc_data.specs.declared.call.Reply.{Reply}
 use Rattle.xc_data.specs.declared.call.Reply.TheVariants as reply
-use Rattle.xc_data.specs.declared.object.Num.{Num}
-use Rattle.xc_data.specs.declared.undo.Undo.{Undo}
-use Rattle.xc_data.specs.declared.undo.Undo.TheVariants.{Bytes, Tail}
 use Rattle.xc_data.specs.declared.private.Place.{Place}
 use Rattle.xc_data.specs.declared.private.Place.TheVariants as place
 use Rattle.xc_data.specs.declared.private.Private.{Private}
 use Rattle.xc_data.specs.Faults.{is_fault_reply}
 use Rattle.xc_data.specs.Private.{place_of}
-use Rattle.xc_world.specs.World.{World, file_of}
+use Rattle.xc_world.specs.World.{World}
 use Rattle.xc_world.specs.Act.{act, done}
 use Rattle.xc_world.specs.Act.Step.{Stepped, step_to, counted}
 use Rattle.xc_world.specs.Checks.{is_bad_handle, is_too_big, is_too_much, is_bad_word, is_refused, refusal_of}
@@ -133,23 +130,6 @@ pub refused_append : (me : Private) (h : ℕ) (bytes : List ℕ) (r : Reply) →
 refused_append me h bytes r e w number =
     let p = place_of me.places h in
     sym (ap (λ n. append_record w bytes n p) (refused_done (call.XWriteSeq h bytes) me (length bytes) r e) ∙ nothing_appended w bytes p)
-
-cut_size : (b : Bool) (u : Undo) → length (if b then [] else u ∷ []) ≡ (if b then 0 else 1)
-cut_size true u = refl
-cut_size false u = refl
-
--- an overwrite at an open file leaves one record where it did some bytes
-pub overwrite_size : (w : World) (bytes : List ℕ) (n : ℕ) (p : Place) (num : Num) (at : ℕ) → p ≡ place.File num at
-    → length (overwrite_record w bytes n p) ≡ (if n == 0 then 0 else 1)
-overwrite_size w bytes n p num at there =
-    ap (λ q. length (overwrite_record w bytes n q)) there
-    ∙ cut_size (n == 0) (Bytes num at (take (length bytes) (drop at (file_of w num))) bytes n)
-
--- so does an append
-pub append_size : (w : World) (bytes : List ℕ) (n : ℕ) (p : Place) (num : Num) (at : ℕ) → p ≡ place.File num at
-    → length (append_record w bytes n p) ≡ (if n == 0 then 0 else 1)
-append_size w bytes n p num at there =
-    ap (λ q. length (append_record w bytes n q)) there ∙ cut_size (n == 0) (Tail num (length (file_of w num)) bytes n)
 
 -- what a check of a limit says
 abbrev pub by_much : Bool → Option Reply

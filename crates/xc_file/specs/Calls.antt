@@ -17,11 +17,13 @@ use Rattle.xc_data.specs.declared.script.Kind.{Kind}
 use Rattle.xc_data.specs.declared.undo.Undo.{Undo}
 use Rattle.xc_world.specs.World.{World}
 use Rattle.xc_world.specs.After.{IsMeAfter, ArePlaces, made_after, stored_after, bytes_in}
-use Rattle.xc_world.specs.Checks.{IsChecked, is_check_reply, refusal_of}
+use Rattle.xc_world.specs.Checks.{IsChecked, refusal_of}
+use Rattle.xc_world.specs.Replies.{may_reply}
 use Rattle.xc_world.specs.Act.{act}
 use Rattle.xc_world.specs.Act.Names.{next_num}
 use Rattle.xc_world.specs.Act.Step.{step_to}
 use Rattle.xc_world.specs.Fits.{fits, answer_of}
+use Rattle.xc_world.specs.RecordOf.{AreRecordsOf, left_by}
 use Rattle.xc_world.specs.Trail.{recorded}
 use Rattle.xc_host.specs.Contents.{Contents, file_in, has_file, with_contents}
 use Rattle.xc_host.specs.Model.{HostModel}
@@ -67,7 +69,7 @@ abbrev pub AreRecorded : Call → CallView → List Undo → Reply → Type 0
 AreRecorded call was made reply = (w : World) → made ≡ recorded (with_contents w was.contents) was.me was.number call reply
 
 -- a call that reaches no host: in every world the plain machine's step, which leaves the world and no record;
--- refused exactly where a check refuses it
+-- refused exactly where a check refuses it, and else with a reply that may come
 pub record StepsAlone (call : Call) (me next : Private) (reply : Reply) : Type 0 where
   pub step : (w : World) (number : ℕ) → act w me number call Fine ≡ step_to w next reply
   pub unrecorded : (w : World) (number : ℕ) → recorded w me number call reply ≡ []
@@ -111,9 +113,9 @@ pub record IsMePassed (tx : ℕ) (call : Call) (was is : Private) (reply : Reply
   pub made : is.made ≡ made_after call reply was.made
   pub stored : is.stored ≡ stored_after None call reply was.stored
 
--- a reply that no check gives, and that brings no bytes
+-- a reply that may come of a call that no check refused, and that brings no bytes
 abbrev pub IsPassedReply : Call → Reply → Type 0
-IsPassedReply call reply = (is_check_reply call reply ≡ false) × (bytes_in reply ≡ 0)
+IsPassedReply call reply = (may_reply call reply ≡ true) × (bytes_in reply ≡ 0)
 
 -- the calls of the host by the end of a call that no check refused
 abbrev pub PassedBy : Call → Result Reply NoMemory → List Kind → Type 0
@@ -128,17 +130,18 @@ MadeBy call me (Err e) made = StopsFor call made
 -- a call on files, over any host
 pub record IsFileCall {H : Type 0} (model : HostModel H) (call : Call) (old new : CallState H)
     (result : Result Reply NoMemory) : Type 0 where
-  -- refused exactly where a check refuses it, with its reply; then nothing is changed, and the host isn't called
+  -- refused exactly where a check refuses it, with its reply; then nothing is changed, and the host isn't called. Else the reply
+  -- is one that may come of the call
   pub checked : IfOk result (IsChecked (refusal_of call old.me) call)
   pub unchanged : IsSome (refusal_of call old.me) → (new ≡ old) × IsOk result
   -- whatever the host says, the private state is that of the reply
   pub after : IfOk result (λ reply. IsMeAfter old.number call reply old.me new.me)
   -- it called the host so
   pub uses : Uses model (record { old = old.host; new = new.host }) (MadeBy call old.me result)
-  -- the older records stay, and one comes after them exactly where the plain machine leaves one
+  -- the older records stay, and one comes after them exactly where the call with its reply leaves one, which is of this call
   pub made : List Undo
   pub one : length made ≤ 1
-  pub count : (w : World) → IfOk result (λ reply. length made ≡ length (recorded w old.me old.number call reply))
+  pub kinds : IfOk result (λ reply. AreRecordsOf (left_by call reply) made)
   pub undo : new.undo ≡ record old.undo { pending = old.undo.pending ++ made }
   -- where the host tells, the step and the records are the plain machine's
   pub acts : IsTrue model.tells → IfOk result (ActsAsPlain call (call_view model old) (call_view model new))

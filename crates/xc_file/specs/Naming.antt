@@ -16,7 +16,7 @@ use Rattle.xc_data.specs.declared.private.Private.{Private}
 use Rattle.xc_data.specs.Private.{with_place}
 use Rattle.xc_world.specs.Act.Names.{making, next_num}
 use Rattle.xc_world.specs.After.{bytes_in}
-use Rattle.xc_world.specs.Checks.{is_check_reply}
+use Rattle.xc_world.specs.Replies.{may_reply}
 use Rattle.xc_data.specs.Calls.{is_late}
 use Rattle.xc_world.specs.Trail.{create_record, rename_record}
 use Rattle.xc_host.specs.Contents.{Contents, created, renamed}
@@ -76,7 +76,7 @@ RenamesOnce (Err e) made = made ≡ []
 pub record IsCreate {H : Type 0} (model : HostModel H) (name : List ℕ) (h : ℕ) (step : Step (CallState H))
     (result : Result Reply NoMemory) : Type 0 where
   pub made : IfOk result (IsMadeAt h)
-  pub reply : IfOk result (λ reply. is_check_reply (XCreate name) reply ≡ false)
+  pub reply : IfOk result (λ reply. may_reply (XCreate name) reply ≡ true)
   pub now : IfOk result (λ reply. is_late reply ≡ false)
   pub told : IsTrue model.tells → IfOk result (Creates (model.contents step.old.host) (model.contents step.new.host) name
       (next_num step.old.me step.old.number))

@@ -5,10 +5,11 @@ use Rattle.xc_data.specs.Step.{Step}
 use Rattle.xc_data.specs.declared.memory.NoMemory.{NoMemory}
 use Rattle.xc_data.specs.declared.object.Num.{Num}
 use Rattle.xc_data.specs.declared.call.Call.{Call}
+use Rattle.xc_data.specs.declared.call.Call.TheVariants.{XWriteOvr, XWriteSeq}
 use Rattle.xc_data.specs.declared.call.Reply.{Reply}
 use Rattle.xc_data.specs.declared.private.Place.TheVariants.{File}
 use Rattle.xc_data.specs.declared.undo.Undo.{Undo}
-use Rattle.xc_world.specs.Checks.{is_check_reply}
+use Rattle.xc_world.specs.Replies.{may_reply}
 use Rattle.xc_world.specs.Trail.{append_record, done_of, overwrite_record}
 use Rattle.xc_host.specs.Contents.{has_file, world_of}
 use Rattle.xc_host.specs.Model.{HostModel}
@@ -36,21 +37,21 @@ module _ {H : Type 0} (model : HostModel H) (step : Step (AtHost H)) where
     pub undo : step.new.undo ≡ step.old.undo
     pub contents : IsTrue model.tells → model.contents step.new.host ≡ model.contents step.old.host
 
-  -- the older records stay, and one comes after them exactly where some bytes are done; where the host tells, these do
-  pub record Leaves (done : ℕ) (made : List Undo) : Type 0 where
-    pub adds : AddsFor done step.old.undo step.new.undo
+  -- the older records stay, and one of the call comes after them exactly where it leaves one; where the host tells, these do
+  pub record Leaves (call : Call) (reply : Reply) (made : List Undo) : Type 0 where
+    pub adds : AddsFor call reply step.old.undo step.new.undo
     pub records : IsTrue model.tells → step.new.undo ≡ record { pending = step.old.undo.pending ++ made; ended = [] }
 
 module _ {H : Type 0} (model : HostModel H) (file : OpenFile) (bytes : List ℕ) (step : Step (AtHost H)) where
   -- what an overwrite at an open file leaves: the record of what it did; where memory ran out, all is as before
   pub record LeavesOverwrite (result : Result Reply NoMemory) : Type 0 where
-    pub records : IfOk result (λ reply. Leaves model step (done_of (length bytes) reply)
+    pub records : IfOk result (λ reply. Leaves model step (XWriteOvr file.h bytes) reply
         (overwrite_record (world_of (model.contents step.old.host)) bytes (done_of (length bytes) reply) (File file.num file.at)))
     pub err : OnErr result (IsAsBefore model step)
 
   -- what an append leaves: the record of what it did; where memory ran out, it may have done a front
   pub record LeavesAppend (result : Result Reply NoMemory) : Type 0 where
-    pub records : IfOk result (λ reply. Leaves model step (done_of (length bytes) reply)
+    pub records : IfOk result (λ reply. Leaves model step (XWriteSeq file.h bytes) reply
         (append_record (world_of (model.contents step.old.host)) bytes (done_of (length bytes) reply) (File file.num file.at)))
     pub stops : OnErr result (StopsShort model file.num bytes step.old step.new)
 
@@ -62,11 +63,11 @@ at_host step = record {
   new = record { host = step.new.host; undo = step.new.undo };
 }
 
--- a call that no check refused: its reply is none of a check's, the host was called for it, and the private state is that of
+-- a call that no check refused: its reply is one that may come, the host was called for it, and the private state is that of
 -- the reply, or as before where memory ran out. Where the host tells, it is the plain machine's step. A fault is counted
 pub record Passes {H : Type 0} (model : HostModel H) (call : Call) (step : Step (CallState H)) (result : Result Reply NoMemory)
     : Type 0 where
-  pub reply : IfOk result (λ reply. is_check_reply call reply ≡ false)
+  pub reply : IfOk result (λ reply. may_reply call reply ≡ true)
   pub uses : Uses model (record { old = step.old.host; new = step.new.host }) (PassedBy call result)
   pub after : IfOk result (IsMePassed step.old.number call step.old.me step.new.me)
   pub acts : IsTrue model.tells → IfOk result (ActsAsPlain call (call_view model step.old) (call_view model step.new))

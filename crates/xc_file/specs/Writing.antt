@@ -2,6 +2,7 @@
 use Rattle.std.specs.Prelude.{Result, Ok, Option, ◌≡◌, ◌⊎◌, ℕ, ◌+◌, ◌<◌, ◌≤◌, ◌==◌, List, ◌++◌, length, take, if◌then◌else◌}
 use Rattle.std.specs.declared.option.Option.TheVariants.{Some}
 use Rattle.xc_data.specs.declared.object.Num.{Num}
+use Rattle.xc_data.specs.declared.call.Call.{Call}
 use Rattle.xc_data.specs.declared.call.Reply.{Reply}
 use Rattle.xc_data.specs.declared.call.Reply.TheVariants.{Done, PastEnd, Fault}
 use Rattle.xc_data.specs.declared.private.Place.TheVariants.{File}
@@ -10,6 +11,7 @@ use Rattle.xc_data.specs.declared.script.Kind.{Kind}
 use Rattle.xc_data.specs.declared.undo.Undo.{Undo}
 use Rattle.xc_data.specs.Private.{with_place}
 use Rattle.xc_data.specs.Step.{Step}
+use Rattle.xc_world.specs.RecordOf.{AreRecordsOf, left_by}
 use Rattle.xc_host.specs.Contents.{Contents, file_in, wrote_front}
 use Rattle.xc_host.specs.Uses.{MayMove, overwrites}
 use Rattle.xc_host.specs.declared.errors.HostErr.{HostErr}
@@ -32,10 +34,10 @@ Overwrote c file at bytes _ = ⊥
 abbrev pub moved_on : Private → ℕ → Num → ℕ → ℕ → Private
 moved_on me h file at done = if done == 0 then me else with_place me h (File file (at + done))
 
--- the older records stay, and one comes after them exactly where some bytes are done
-pub record AddsFor (done : ℕ) (old new : Records) : Type 0 where
+-- the older records stay, and one comes after them exactly where the call with its reply leaves one, which is of this call
+pub record AddsFor (call : Call) (reply : Reply) (old new : Records) : Type 0 where
   pub made : List Undo
-  pub count : length made ≡ (if done == 0 then 0 else 1)
+  pub kinds : AreRecordsOf (left_by call reply) made
   pub undo : new ≡ record old { pending = old.pending ++ made }
 
 -- the calls that look for n bytes which are there: at the length, and then at the bytes

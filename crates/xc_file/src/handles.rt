@@ -8,23 +8,26 @@ ghost use Rattle.xc_file.specs.Passing.{IsThere, Passes};
 ghost use Rattle.xc_file.specs.Checks.{IsOpenAt};
 
 use crate::checks::{OpenFile, file_at};
-use xc_data::{MOST_FILE_BYTES, Place, Private, Reply};
+use xc_data::{Place, Private, Reply};
 use xc_host::Host;
 
-/// Sets the position of an open file, also past the file's end.
-pub fn x_seek(me: &mut Private, h: u16, to: u64) -> Reply
-    ensures call { StepsAlone (XSeek h to) me.old me.new result }
+/// Sets the position of an open file, also past the file's end. Past the host's `most_file_bytes` it is `TooBig`, and the position
+/// stays. The host counts no call.
+pub fn x_seek<H: Host>(host: &H, me: &mut Private, h: u16, to: u64) -> Reply
+    ensures call { (number : ℕ) (undo : Records) → IsFileCall H.model (XSeek h to)
+        (record { host = host.now; number = number; me = me.old; undo = undo })
+        (record { host = host.now; number = number; me = me.new; undo = undo }) (Ok result) }
     ensures same { (me.new.stored ≡ me.old.stored) × (me.new.made ≡ me.old.made) }
     ensures now { is_late result ≡ false }
 {
-    let Place::File { num, .. } = me.place(h) else {
+    let Some(file) = file_at(me, h) else {
         return Reply::BadHandle;
     };
-    if to > MOST_FILE_BYTES {
+    if to > host.most_file_bytes() as u64 {
         return Reply::TooBig;
     }
     let at = to as u32;
-    me.set_place(h, Place::File { num, at });
+    me.set_place(h, Place::File { num: file.num, at });
     Reply::Done
 }
 

@@ -1,8 +1,8 @@
 -- A pipe that is made, as the plain machine makes it, whatever is kept of others.
-use Rattle.std.proofs.Common.{◌≡◌, ℕ, ◌<◌, ◌≤◌, length, arith, true, false, Some, Ok, Err, List, [], refl, ap, sym, ◌∙◌}
+use Rattle.std.proofs.Common.{◌≡◌, ℕ, ◌<◌, arith, true, false, Some, Ok, Err, List, [], refl, ap, sym, ◌∙◌}
 use Rattle.std.proofs.Common.{subst, if◌then◌else◌}
 use Rattle.std.proofs.Math.Bool.{or-false}
-use Rattle.std.proofs.lemmas.Bool.{lt-leb}
+use Rattle.std.proofs.lemmas.Bool.{eq-eqb, lt-leb}
 use Rattle.std.specs.Prelude.{Result, IfOk, OnErr, not, ◌&&◌}
 use Rattle.xc_data.specs.declared.object.Num.{Num}
 use Rattle.xc_data.specs.declared.memory.NoMemory.{NoMemory}
@@ -19,7 +19,9 @@ use Rattle.xc_world.specs.Act.{act, done}
 use Rattle.xc_world.specs.Act.Step.{step_to, counted}
 use Rattle.xc_world.specs.Act.Names.{next_num}
 use Rattle.xc_world.specs.Act.Pipes.{new_pipe}
-use Rattle.xc_world.specs.Checks.{has_made_all, is_check_reply}
+use Rattle.xc_world.specs.Checks.{has_made_all}
+use Rattle.xc_world.specs.Replies.{may_reply}
+use Rattle.xc_world.specs.RecordOf.{AreRecordsOf, left_by}
 use Rattle.xc_world.specs.Trail.{pipe_record}
 use Rattle.xc_buffers.specs.Items.{kept_bytes}
 use Rattle.xc_buffers.proofs.Held.{pipe_put}
@@ -85,13 +87,14 @@ made_acts c d items number me next h (Ok r) few vacant none same told =
     (pipe_acts c d items number me h r few vacant none told)
 made_acts c d items number me next h (Err e) few vacant none same told = tt
 
-passed_reply : (h : ℕ) (r : Reply) → IsMadeAt h r → is_check_reply XPipe r ≡ false
+-- its reply is one that may come
+passed_reply : (h : ℕ) (r : Reply) → IsMadeAt h r → may_reply XPipe r ≡ true
 passed_reply h (reply.Made k) at = refl
-passed_reply h (reply.Fault n) at = refl
+passed_reply h (reply.Fault n) at = eq-eqb n 0 at
 passed_reply h _ never = absurd never
 
--- its reply is none of a check's
-pub made_reply : (h : ℕ) (result : Result Reply NoMemory) → IfOk result (IsMadeAt h) → IfOk result (λ r. is_check_reply XPipe r ≡ false)
+-- so where memory doesn't run out
+pub made_reply : (h : ℕ) (result : Result Reply NoMemory) → IfOk result (IsMadeAt h) → IfOk result (λ r. may_reply XPipe r ≡ true)
 made_reply h (Ok r) at = passed_reply h r at
 made_reply h (Err e) at = tt
 
@@ -110,10 +113,10 @@ pub made_me : (number : ℕ) (me next : Private) (h : ℕ) (result : Result Repl
 made_me number me next h (Ok r) vacant at same = subst (λ m. IsMePassed number XPipe me m r) (sym same) (me_of number me h r vacant at)
 made_me number me next h (Err e) vacant at same = tt
 
--- it leaves one record at most
-pub made_one : (me : Private) (number : ℕ) (r : Reply) → length (made_record (next_num me number) r) ≤ 1
-made_one me number (reply.Made h) = omega arith
-made_one me number _ = omega arith
+-- its record is one of it
+pub made_kind : (me : Private) (number : ℕ) (r : Reply) → AreRecordsOf (left_by XPipe r) (made_record (next_num me number) r)
+made_kind me number (reply.Made h) = (tt, refl)
+made_kind me number _ = refl
 
 -- which is the plain machine's
 pub made_recorded : (me : Private) (number : ℕ) (r : Reply) → made_record (next_num me number) r ≡ pipe_record me number r

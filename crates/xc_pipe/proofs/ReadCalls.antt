@@ -1,7 +1,7 @@
 -- Calls that read a pipe, as their contract has them.
-use Rattle.std.proofs.Common.{◌≡◌, ℕ, ◌≤◌, ◌&&◌, Bool, true, false, not, None, Ok, Err, IsTrue, List, [], length, refl, ap, sym, ◌∙◌, subst}
+use Rattle.std.proofs.Common.{◌≡◌, ℕ, ◌≤◌, ◌==◌, ◌&&◌, Bool, true, false, not, None, Ok, Err, IsTrue, List, [], length, refl, ap, sym, ◌∙◌, subst}
 use Rattle.std.proofs.Common.{arith, if◌then◌else◌}
-use Rattle.std.proofs.lemmas.Bool.{le-leb}
+use Rattle.std.proofs.lemmas.Bool.{and_from, eq-eqb, le-leb}
 use Rattle.std.specs.Prelude.{IfOk, OnErr, Result, nat_le}
 use Rattle.xc_data.specs.Counts.{CountsFault}
 use Rattle.xc_data.specs.Private.{place_of}
@@ -18,8 +18,10 @@ use Rattle.xc_data.specs.declared.private.Place.TheVariants as place
 use Rattle.xc_data.specs.declared.private.Private.{Private}
 use Rattle.xc_world.specs.Act.{act}
 use Rattle.xc_world.specs.Act.Step.{counted, step_to, storing, storing_reply}
-use Rattle.xc_world.specs.Checks.{is_check_reply, refusal_of}
+use Rattle.xc_world.specs.Checks.{refusal_of}
+use Rattle.xc_world.specs.Replies.{may_reply}
 use Rattle.xc_world.specs.World.{World}
+use Rattle.xc_world.proofs.Replies.{brings_some, not_zero}
 use Rattle.xc_compensate.specs.Records.{Records}
 use Rattle.xc_deferred.proofs.Lifted.{world_with}
 use Rattle.xc_host.specs.Contents.{Contents, contents_of, with_contents, world_of}
@@ -79,12 +81,13 @@ module _ (h n : ℕ) (pipe : Num) (me : Private) (number : ℕ) (at : place_of m
       })
   read_acts _ is never = absurd never
 
-passed_reply : (h n : ℕ) (r : Reply) → IsReadReply n r → is_check_reply (XReadPipe h n) r ≡ false
-passed_reply h n (reply.Got bytes) is = refl
-passed_reply h n reply.Empty is = refl
-passed_reply h n reply.End is = refl
-passed_reply h n (reply.Fault k) is = refl
-passed_reply h n _ never = absurd never
+-- its reply is one that may come
+passed_reply : (h n : ℕ) (r : Reply) → 1 ≤ n → IsReadReply n r → may_reply (XReadPipe h n) r ≡ true
+passed_reply h n (reply.Got bytes) some is = brings_some n bytes is.0 is.1
+passed_reply h n reply.Empty some is = not_zero n some
+passed_reply h n reply.End some is = not_zero n some
+passed_reply h n (reply.Fault k) some is = and_from (not (n == 0)) (k == 0) (not_zero n some) (eq-eqb k 0 is)
+passed_reply h n _ some never = absurd never
 
 me_passed : (h n number : ℕ) (me : Private) (r : Reply) → IsReadReply n r → IsMePassed number (XReadPipe h n) me (storing_reply r me) r
 me_passed h n number me (reply.Got bytes) is = record { places = refl; made = refl; stored = omega arith }
@@ -121,7 +124,7 @@ module _ {H : Type 0} (model : HostModel H) (old new : ReadState H) where
         new = record { host = before new.host new.items; number = number; me = new.me; undo = undo };
       }) result
   read_passed h n pipe number undo (Ok r) at free some is me err reads uses cause = record {
-    reply = passed_reply h n r is;
+    reply = passed_reply h n r some is;
     uses = uses_both uses;
     after = subst (λ m. IsMePassed number (XReadPipe h n) old.me m r) (sym me) (me_passed h n number old.me r is);
     acts = λ t. subst (λ m. ActsAsPlain (XReadPipe h n) (call_view_at (logical (sides model old)) number old.me)

@@ -1,8 +1,8 @@
 -- A pair that is made, as the plain machine makes it, whatever is kept of others.
-use Rattle.std.proofs.Common.{◌≡◌, ℕ, ◌<◌, ◌≤◌, ◌||◌, length, arith, true, false, Some, Ok, Err, List, refl, ap, sym, ◌∙◌}
+use Rattle.std.proofs.Common.{◌≡◌, ℕ, ◌<◌, ◌≤◌, ◌||◌, arith, true, false, Some, Ok, Err, List, refl, ap, sym, ◌∙◌}
 use Rattle.std.proofs.Common.{subst, if◌then◌else◌}
 use Rattle.std.proofs.Math.Bool.{or-false}
-use Rattle.std.proofs.lemmas.Bool.{le-leb, le-ltb, lt-leb, lt-ltb}
+use Rattle.std.proofs.lemmas.Bool.{eq-eqb, le-leb, le-ltb, lt-leb, lt-ltb}
 use Rattle.std.specs.Prelude.{Result, IfOk, not, ◌&&◌, count_by, nat_lt}
 use Rattle.xc_data.specs.declared.object.Num.{Num}
 use Rattle.xc_data.specs.declared.memory.NoMemory.{NoMemory}
@@ -20,7 +20,9 @@ use Rattle.xc_world.specs.Act.{act, done}
 use Rattle.xc_world.specs.Act.Step.{step_to, counted}
 use Rattle.xc_world.specs.Act.Names.{next_num}
 use Rattle.xc_world.specs.Act.Pipes.{new_pair, pair_made}
-use Rattle.xc_world.specs.Checks.{is_check_reply, is_too_much, refusal_of}
+use Rattle.xc_world.specs.Checks.{is_too_much, refusal_of}
+use Rattle.xc_world.specs.Replies.{may_reply}
+use Rattle.xc_world.specs.RecordOf.{AreRecordsOf, left_by}
 use Rattle.xc_world.specs.Trail.{pair_record}
 use Rattle.xc_buffers.specs.Items.{keeps_pair}
 use Rattle.xc_buffers.proofs.Held.{pair_put}
@@ -115,20 +117,21 @@ module _ (number : ℕ) (me : Private) (at : ℕ × ℕ) (vacant : AreVacant me 
   made_me new (Err e) made same = tt
 
 -- ---- its reply, and its record
-passed_reply : (at : ℕ × ℕ) (r : Reply) → IsMadeAt at r → is_check_reply XPair r ≡ false
+-- it is one that may come
+passed_reply : (at : ℕ × ℕ) (r : Reply) → IsMadeAt at r → may_reply XPair r ≡ true
 passed_reply at (reply.MadePair h g) same = refl
-passed_reply at (reply.Fault n) same = refl
+passed_reply at (reply.Fault n) same = eq-eqb n 0 same
 passed_reply at _ never = absurd never
 
--- its reply is none of a check's
-pub made_reply : (at : ℕ × ℕ) (result : Result Reply NoMemory) → IfOk result (IsMadeAt at) → IfOk result (λ r. is_check_reply XPair r ≡ false)
+-- so where memory doesn't run out
+pub made_reply : (at : ℕ × ℕ) (result : Result Reply NoMemory) → IfOk result (IsMadeAt at) → IfOk result (λ r. may_reply XPair r ≡ true)
 made_reply at (Ok r) made = passed_reply at r made
 made_reply at (Err e) made = tt
 
--- it leaves one record at most
-pub made_one : (me : Private) (number : ℕ) (r : Reply) → length (made_record (next_num me number) r) ≤ 1
-made_one me number (reply.MadePair h g) = omega arith
-made_one me number _ = omega arith
+-- its record is one of it
+pub made_kind : (me : Private) (number : ℕ) (r : Reply) → AreRecordsOf (left_by XPair r) (made_record (next_num me number) r)
+made_kind me number (reply.MadePair h g) = (tt, refl)
+made_kind me number _ = refl
 
 -- which is the plain machine's
 pub made_recorded : (me : Private) (number : ℕ) (r : Reply) → made_record (next_num me number) r ≡ pair_record me number r

@@ -1,5 +1,6 @@
 -- Receipts, as their contract has them.
 use Rattle.std.proofs.Common.{◌≡◌, ℕ, ◌&&◌, true, false, not, None, Ok, IsTrue, length, refl, ap, sym, ◌∙◌, subst, arith}
+use Rattle.std.proofs.lemmas.Bool.{eq-eqb, le-leb}
 use Rattle.xc_data.specs.Counts.{CountsFault}
 use Rattle.xc_data.specs.Private.{place_of}
 use Rattle.xc_data.specs.declared.call.Answer.{Answer}
@@ -12,7 +13,8 @@ use Rattle.xc_data.specs.declared.private.Place.TheVariants as place
 use Rattle.xc_data.specs.declared.private.Private.{Private}
 use Rattle.xc_world.specs.Act.{act}
 use Rattle.xc_world.specs.Act.Step.{step_to, storing, storing_reply}
-use Rattle.xc_world.specs.Checks.{is_check_reply, refusal_of}
+use Rattle.xc_world.specs.Checks.{refusal_of}
+use Rattle.xc_world.specs.Replies.{may_reply}
 use Rattle.xc_world.specs.World.{World}
 use Rattle.xc_compensate.specs.Records.{Records}
 use Rattle.xc_deferred.proofs.Lifted.{world_with}
@@ -62,11 +64,12 @@ module _ (h : ℕ) (pair : Num) (side : ℕ) (me : Private) (number : ℕ) (at :
       })
   receipt_acts _ is never = absurd never
 
-passed_reply : (h : ℕ) (r : Reply) → IsReceiptReply r → is_check_reply (XRecvmsg h) r ≡ false
-passed_reply h (reply.Got message) is = refl
+-- its reply is one that may come
+passed_reply : (h : ℕ) (r : Reply) → IsReceiptReply r → may_reply (XRecvmsg h) r ≡ true
+passed_reply h (reply.Got message) is = le-leb (length message) 1024 is
 passed_reply h reply.Empty is = refl
 passed_reply h reply.End is = refl
-passed_reply h (reply.Fault k) is = refl
+passed_reply h (reply.Fault k) is = eq-eqb k 0 is
 passed_reply h _ never = absurd never
 
 me_passed : (h number : ℕ) (me : Private) (r : Reply) → IsReceiptReply r → IsMePassed number (XRecvmsg h) me (storing_reply r me) r

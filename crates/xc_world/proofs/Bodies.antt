@@ -309,7 +309,7 @@ runs_fit_alike P tx w v b d (c ∷ asked) so touched numbered =
     ∙ ap (λ m. fits q.world m tx c.call c.answer) so.now.gave.me)
     (runs_fit_alike P tx w v (block_step tx b c) (block_step tx d c) asked (block_step_alike P tx w v b d c so within) touched numbered)
 
--- ---- from the begin
+-- ---- from the start
 pub begin_alike : (P : Object → Type 0) (tx : ℕ) (w v : World) (me : Private) → length w.words ≡ length v.words → AgreeOn P w v
     → Alike P tx (w, v) (begins w me) (begins v me)
 begin_alike P tx w v me count agree =

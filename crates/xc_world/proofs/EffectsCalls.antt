@@ -152,7 +152,8 @@ read_at-leads w me h n (Pipe num) = refl
 read_at-leads w me h n (Pair num side) = refl
 
 seek_at-leads : (w : World) (me : Private) (h to : ℕ) (p : Place) → Rests w (seek_at w me h to p)
-seek_at-leads w me h to (File num at) = refl
+seek_at-leads w me h to (File num at) =
+    cond_both (nat_lt 65536 to) (step_to w me reply.TooBig) (step_to w (with_place me h (File num to)) reply.Done) (Rests w) (λ _. refl) (λ _. refl)
 seek_at-leads w me h to Vacant = refl
 seek_at-leads w me h to (Pipe num) = refl
 seek_at-leads w me h to (Pair num side) = refl

@@ -26,7 +26,9 @@ pub mod MachineHandles
 pub mod Objects
 pub mod Reading
 pub mod Records
+pub mod RecordsLeft
 pub mod Refused
+pub mod Replies
 pub mod Runs
 pub mod Sound
 pub mod SoundCalls

@@ -128,7 +128,9 @@ module _ (objects : List Object) (w v : World) where
   append_alike me h bytes (place.Pair num side) has agree = quiet me reply.BadHandle agree
 
   seek_alike : (me : Private) (h to : ℕ) (p : Place) → All (AgreeAt w v) objects → ActsAlike objects w v (seek_at w me h to p) (seek_at v me h to p)
-  seek_alike me h to (place.File num at) agree = quiet (with_place me h (place.File num to)) reply.Done agree
+  seek_alike me h to (place.File num at) agree =
+      both_so (ActsAlike objects w v) (nat_lt 65536 to) (nat_lt 65536 to) _ _ _ _ refl (λ _. quiet me reply.TooBig agree)
+      (λ _. quiet (with_place me h (place.File num to)) reply.Done agree)
   seek_alike me h to place.Vacant agree = quiet me reply.BadHandle agree
   seek_alike me h to (place.Pipe num) agree = quiet me reply.BadHandle agree
   seek_alike me h to (place.Pair num side) agree = quiet me reply.BadHandle agree

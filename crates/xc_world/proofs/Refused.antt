@@ -52,7 +52,7 @@ appends_short w me h bytes n (place.File num at) = chosen_so (StaysRefused w) (n
 appends_short w me h bytes n _ = λ _. refl
 
 seeks : (w : World) (me : Private) (h to : ℕ) (p : Place) → StaysRefused w (seek_at w me h to p)
-seeks w me h to (place.File num at) = λ _. refl
+seeks w me h to (place.File num at) = chosen_so (StaysRefused w) (nat_lt 65536 to) _ _ (λ _ _. refl) (λ _ _. refl)
 seeks w me h to _ = λ _. refl
 
 lens : (w : World) (me : Private) (p : Place) → StaysRefused w (len_at w me p)

@@ -90,7 +90,14 @@ append_well w me tx h bytes (place.Pair num side) known s = quiet w me tx 0 repl
 -- to set a handle's position steps well
 pub seek_well : (w : World) (me : Private) (tx h to : ℕ) (p : Place) → IsKnown w p → IsSound w me tx → StepsWell w tx me 0 (seek_at w me h to p)
 seek_well w me tx h to (place.File num at) known s =
-    record { sound = with_place_sound w me tx h (place.File num to) known s; grows = adds_nothing w (next_num me tx) s.world; stored = refl; got = omega arith }
+    chosen_so (StepsWell w tx me 0) (nat_lt 65536 to) _ _ (λ _. quiet w me tx 0 reply.TooBig (omega arith) s) (λ _.
+    record {
+      sound = with_place_sound w me tx h (place.File num to) known s;
+      grows = adds_nothing w (next_num me tx) s.world;
+      stored = refl;
+      got = omega
+          arith;
+    })
 seek_well w me tx h to place.Vacant known s = quiet w me tx 0 reply.BadHandle (omega arith) s
 seek_well w me tx h to (place.Pipe num) known s = quiet w me tx 0 reply.BadHandle (omega arith) s
 seek_well w me tx h to (place.Pair num side) known s = quiet w me tx 0 reply.BadHandle (omega arith) s

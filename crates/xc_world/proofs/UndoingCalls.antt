@@ -197,10 +197,10 @@ read_at-undoes w me h n (Pair num side) = as_is w
 
 -- to set a handle's position leaves nothing to undo
 pub seek_at-undoes : (w : World) (me : Private) (h to : ℕ) (p : Place) → UndoesNone w (seek_at w me h to p)
-seek_at-undoes w me h to (File num at) v back = back
-seek_at-undoes w me h to Vacant v back = back
-seek_at-undoes w me h to (Pipe num) v back = back
-seek_at-undoes w me h to (Pair num side) v back = back
+seek_at-undoes w me h to (File num at) = cond_both (nat_lt 65536 to) _ _ (UndoesNone w) (λ _. as_is w) (λ _. as_is w)
+seek_at-undoes w me h to Vacant = as_is w
+seek_at-undoes w me h to (Pipe num) = as_is w
+seek_at-undoes w me h to (Pair num side) = as_is w
 
 -- to ask for a file's length leaves nothing to undo
 pub len_at-undoes : (w : World) (me : Private) (p : Place) → UndoesNone w (len_at w me p)

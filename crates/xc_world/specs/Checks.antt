@@ -11,6 +11,7 @@ use Rattle.xc_data.specs.declared.private.Place.TheVariants as place
 use Rattle.xc_data.specs.declared.private.Private.{Private}
 use Rattle.xc_data.specs.Calls.{bytes_of}
 use Rattle.xc_data.specs.Private.{place_of, is_vacant, lowest_vacant}
+use Rattle.xc_world.specs.Replies.{may_reply}
 
 -- whether a file stands at a place
 abbrev pub is_file : Place → Bool
@@ -54,11 +55,10 @@ is_bad_handle call.Save me = false
 is_bad_handle call.Keep me = false
 is_bad_handle call.Back me = false
 
--- bytes or a read of more than 1,024, a seek past 65,536
+-- bytes or a read of more than 1,024
 abbrev pub is_too_big : Call → Bool
 is_too_big (call.XRead h n) = nat_lt 1024 n
 is_too_big (call.XReadPipe h n) = nat_lt 1024 n
-is_too_big (call.XSeek h to) = nat_lt 65536 to
 -- of any other call its bytes count, also of one yet to come
 is_too_big call = nat_lt 1024 (length (bytes_of call))
 
@@ -145,18 +145,19 @@ refusal_of call me =
     else None
 
 -- replies that a call never gives which these checks let pass: their own, and that of a way back. But an append is too big also
--- where the file has no room for it, and a back tells of its way
+-- where the file has no room for it, a seek where it would go too far, and a back tells of its way
 abbrev pub is_check_reply : Call → Reply → Bool
 is_check_reply (call.XWriteSeq h bytes) reply.TooBig = false
+is_check_reply (call.XSeek h to) reply.TooBig = false
 is_check_reply call.Back (reply.Undone faults) = false
 is_check_reply call (reply.Undone faults) = true
 is_check_reply call reply.BadHandle = true
 is_check_reply call reply.TooBig = true
 is_check_reply call reply.TooMuch = true
--- any other reply may come, also one yet to come
+-- any other reply is none of them, also one yet to come
 is_check_reply call _ = false
 
--- refused exactly where one of them refuses the call, with its reply
+-- refused exactly where one of them refuses the call, with its reply; else the reply is one that may come of such a call
 abbrev pub IsChecked : Option Reply → Call → Reply → Type 0
-IsChecked None call r = is_check_reply call r ≡ false
+IsChecked None call r = may_reply call r ≡ true
 IsChecked (Some refused) call r = r ≡ refused

@@ -1,5 +1,6 @@
 pub mod World
 pub mod Sound
+pub mod Replies
 pub mod Checks
 pub mod Act
 pub mod After
@@ -8,6 +9,7 @@ pub mod Fits
 pub mod Touch
 pub mod Run
 pub mod Trail
+pub mod RecordOf
 pub mod Ends
 pub mod Effects
 pub mod Opening

@@ -2,9 +2,7 @@ ghost use Rattle.std.specs.Prelude.{◌≡◌, ◌<◌, count_by};
 ghost use Rattle.xc_data.specs.Private.{is_vacant};
 ghost use Rattle.xc_world.specs.Checks as check;
 
-use xc_data::{
-    Call, MOST_CALL_BYTES, MOST_FILE_BYTES, MOST_MADE, MOST_STORED, Place, Private, Reply,
-};
+use xc_data::{Call, MOST_CALL_BYTES, MOST_MADE, MOST_STORED, Place, Private, Reply};
 
 fn is_file(place: Place) -> bool
     ensures { result ≡ check.is_file place }
@@ -42,13 +40,12 @@ pub fn is_bad_handle(call: &Call, me: &Private) -> bool
     }
 }
 
-/// Bytes or a read of more than 1,024, a seek past 65,536.
+/// Bytes or a read of more than 1,024.
 pub fn is_too_big(call: &Call) -> bool
     ensures { result ≡ check.is_too_big call.now }
 {
     match call {
         Call::XRead { n, .. } | Call::XReadPipe { n, .. } => *n > MOST_CALL_BYTES,
-        Call::XSeek { to, .. } => *to > MOST_FILE_BYTES,
         // Of any other call its bytes count, also of one yet to come.
         _ => call.bytes().len() as u64 > MOST_CALL_BYTES,
     }

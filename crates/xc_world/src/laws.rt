@@ -1,6 +1,7 @@
-ghost use Rattle.std.specs.Prelude.{◌≡◌, ◌≢◌, ◌++◌, ◌<◌, ℕ, IsTrue, All, length};
+ghost use Rattle.std.specs.Prelude.{◌≡◌, ◌≢◌, ◌++◌, ◌<◌, ℕ, true, false, IsTrue, All, length};
 ghost use Rattle.xc_data.specs.declared.call.Call.{Call};
 ghost use Rattle.xc_data.specs.declared.call.Answer.{Answer};
+ghost use Rattle.xc_data.specs.declared.call.Reply.{Reply};
 ghost use Rattle.xc_data.specs.declared.call.LateCall.{LateCall};
 ghost use Rattle.xc_data.specs.declared.call.LateAnswer.{LateAnswer};
 ghost use Rattle.xc_data.specs.declared.private.Private.{Private};
@@ -8,7 +9,8 @@ ghost use Rattle.xc_data.specs.declared.script.Outline.{Outline};
 ghost use Rattle.xc_world.specs.World.{World, beginning};
 ghost use Rattle.xc_world.specs.Act.{act};
 ghost use Rattle.xc_world.specs.Late.{late, kept_call};
-ghost use Rattle.xc_world.specs.Checks.{is_refused, refusal};
+ghost use Rattle.xc_world.specs.Checks.{is_check_reply, is_refused, refusal};
+ghost use Rattle.xc_world.specs.Replies.{may_reply};
 ghost use Rattle.xc_world.specs.Act.Step.{step_to};
 ghost use Rattle.xc_world.specs.Fits.{fits, late_fits, is_within};
 ghost use Rattle.xc_world.specs.Touch.{touch, made_by};
@@ -27,6 +29,11 @@ pub fn a_refused_call_changes_nothing()
 pub fn a_privately_refused_call_leaves_all()
     ensures { (w : World) (me : Private) (tx : ℕ) (call : Call) (answer : Answer) → IsTrue (is_refused call me (length w.words))
         → act w me tx call answer ≡ step_to w me (refusal call me) }
+{}
+
+/// What a call may reply that the private checks let pass is none of their replies.
+pub fn what_may_be_replied_is_no_refusal()
+    ensures { (call : Call) (reply : Reply) → may_reply call reply ≡ true → is_check_reply call reply ≡ false }
 {}
 
 /// Whatever else two worlds hold: where they agree on what a call touches and makes, it replies the

@@ -71,9 +71,9 @@ module _ (w : World) (me : Private) where
       else appended (open_at h num at) bytes Done
   append_at h bytes _ = step_to w me BadHandle
 
-  -- the handle's position is set
+  -- the handle's position is set, and stays where it would be past 65536
   abbrev pub seek_at : ℕ → ℕ → Place → Stepped
-  seek_at h to (File num at) = step_to w (with_place me h (File num to)) Done
+  seek_at h to (File num at) = if nat_lt 65536 to then step_to w me TooBig else step_to w (with_place me h (File num to)) Done
   seek_at h to _ = step_to w me BadHandle
 
   -- ---- with a fault after n bytes, which are done: through a handle with what stands there

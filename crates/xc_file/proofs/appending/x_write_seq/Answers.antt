@@ -6,7 +6,7 @@ use Rattle.xc_world.specs.Trail.{append_record, done_of}
 use Rattle.xc_host.specs.Contents.{world_of}
 use Rattle.xc_file.specs.Checks.{refusal_at}
 use Rattle.xc_file.proofs.FileCalls.{refused_call, some_grow, at_handle}
-use Rattle.xc_file.proofs.Refusals.{refused_append, append_size}
+use Rattle.xc_file.proofs.Refusals.{refused_append}
 use Rattle.xc_file.proofs.AppendCalls.{append_call}
 use Rattle.xc_file.proofs.appending.x_write_seq.Goals as goal
 
@@ -31,7 +31,6 @@ returns-clause-call g c =
     (record { host = c.args.host.now; number = number; me = c.args.me.now; undo = c.args.undo.now }) _ _ open_at.0 free
     (λ passes. append_call g.H.Host.model file.h c.args.bytes.now file.num file.at _ _ c.append_next.result passes few
     open_at.1.place c.requires.none (next.passes number)
-    (some_grow g.H.Host.model call made (done_of size) _ _ c.append_next.result next.leaves.records
-    (λ r v. append_size v c.args.bytes.now (done_of size r) _ file.num file.at open_at.1.place)
+    (some_grow g.H.Host.model call made _ _ c.append_next.result next.leaves.records
     (λ r v. ap (append_record w c.args.bytes.now (done_of size r)) (sym open_at.1.place)))
     next.leaves.stops next.some)

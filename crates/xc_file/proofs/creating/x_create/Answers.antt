@@ -5,9 +5,10 @@ use Rattle.xc_data.specs.Private.{lowest_vacant}
 use Rattle.xc_data.specs.declared.call.Call.TheVariants.{XCreate}
 use Rattle.xc_world.specs.Checks.{has_made_all}
 use Rattle.xc_world.specs.Trail.{create_record}
+use Rattle.xc_world.proofs.RecordsLeft.{create_of}
 use Rattle.xc_file.proofs.FileCalls.{refused_call, passed_call, told_grow}
 use Rattle.xc_file.proofs.Refusals.{by_much}
-use Rattle.xc_file.proofs.NameCalls.{much_none, created_acts, create_me, create_one}
+use Rattle.xc_file.proofs.NameCalls.{much_none, created_acts, create_me}
 use Rattle.xc_file.proofs.creating.x_create.Goals as goal
 
 pub returns-then-me-ge-MOST_MADE-clause-call : goal.returns-then-me-ge-MOST_MADE-clause-call
@@ -45,5 +46,5 @@ returns-clause-call g c =
       err = next.err;
       cause = create.cause;
     })
-    (told_grow model (XCreate name) (create_record me c.args.tx name) _ _ result c.requires.none (create_one me c.args.tx name) (λ r w. refl) create.records)
+    (told_grow model (XCreate name) (create_record me c.args.tx name) _ _ result c.requires.none (create_of me c.args.tx name) (λ r w. refl) create.records)
     create.err

@@ -16,4 +16,4 @@ returns-clause-call g c =
     λ number undo. at_handle g.H.Host.model XLen _ _ (record { host = c.args.host.now; number = number; me = c.args.me.now; undo = undo }) _ _
     c.in-Some.ensures.open.0 (ap by_kind (sym c.file_at.ensures.kind ∙ ap is_some c.in-Some.is))
     (λ free. replied_call g.H.Host.model _ _ _ c.len_of.result free (next.passes number undo)
-    (none_grow g.H.Host.model _ _ _ (Ok c.len_of.result) refl (λ r w. refl)))
+    (none_grow g.H.Host.model _ _ _ (Ok c.len_of.result) refl (λ r. refl) (λ r w. refl)))

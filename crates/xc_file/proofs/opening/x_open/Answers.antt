@@ -14,5 +14,5 @@ returns-clause-call g c =
     let next = c.open_at.ensures in
     λ number undo. passed_call g.H.Host.model _ (record { host = c.args.host.now; number = number; me = c.args.me.now; undo = undo }) _ c.open_at.result
     (ap (λ o. by_much (is_none o)) (sym c.vacant.ensures.value ∙ c.in-Some.is)) (next.passes number undo)
-    (none_grow g.H.Host.model _ _ _ c.open_at.result refl (λ r w. refl))
+    (none_grow g.H.Host.model _ _ _ c.open_at.result refl (λ r. refl) (λ r w. refl))
     (always_err _ c.open_at.result (record { undo = refl; contents = next.contents }))

@@ -6,7 +6,7 @@ use Rattle.xc_world.specs.Trail.{overwrite_record, done_of}
 use Rattle.xc_host.specs.Contents.{world_of}
 use Rattle.xc_file.specs.Checks.{refusal_at}
 use Rattle.xc_file.proofs.FileCalls.{refused_call, passed_call, some_grow, at_handle}
-use Rattle.xc_file.proofs.Refusals.{refused_overwrite, overwrite_size}
+use Rattle.xc_file.proofs.Refusals.{refused_overwrite}
 use Rattle.xc_file.proofs.overwriting.x_write_ovr.Goals as goal
 
 pub returns-in-Err-clause-call : goal.returns-in-Err-clause-call
@@ -30,7 +30,6 @@ returns-clause-call g c =
     (record { host = c.args.host.now; number = number; me = c.args.me.now; undo = c.args.undo.now }) _ _ c.in-Ok.ensures.open.0 free
     (λ passes. passed_call g.H.Host.model call _ _ result passes
     (next.passes number)
-    (some_grow g.H.Host.model call made (done_of size) _ _ result next.leaves.records
-    (λ r v. overwrite_size v c.args.bytes.now (done_of size r) _ file.num file.at there)
+    (some_grow g.H.Host.model call made _ _ result next.leaves.records
     (λ r v. ap (overwrite_record w c.args.bytes.now (done_of size r)) (sym there)))
     next.leaves.err)

@@ -14,5 +14,5 @@ returns-clause-call g c =
     (record { host = c.args.host.now; number = number; me = c.args.me.now; undo = undo }) _ _
     c.in-Ok.ensures.open.0 c.in-Ok.ensures.checks
     (λ free. passed_call g.H.Host.model _ _ _ c.read_next.result free (next.passes number undo)
-    (none_grow g.H.Host.model _ _ _ c.read_next.result refl (λ r w. refl))
+    (none_grow g.H.Host.model _ _ _ c.read_next.result refl (λ r. refl) (λ r w. refl))
     (always_err _ c.read_next.result (record { undo = refl; contents = next.contents })))

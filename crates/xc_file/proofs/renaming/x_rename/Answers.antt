@@ -1,11 +1,12 @@
-use Rattle.std.proofs.Common.{◌≡◌, false, refl}
+use Rattle.std.proofs.Common.{◌≡◌, true, refl}
 use Rattle.xc_data.specs.declared.call.Call.TheVariants.{XRename}
-use Rattle.xc_world.specs.Checks.{is_check_reply}
+use Rattle.xc_world.specs.Replies.{may_reply}
 use Rattle.xc_world.specs.Trail.{rename_record}
+use Rattle.xc_world.proofs.RecordsLeft.{rename_of}
 use Rattle.xc_file.specs.Calls.{ActsAsPlain, IsMePassed, IsPassedReply}
 use Rattle.xc_file.specs.Naming.{Renames}
 use Rattle.xc_file.proofs.FileCalls.{call_view_at, passed_call, told_grow, ok_more, always_err}
-use Rattle.xc_file.proofs.NameCalls.{rename_acts, rename_me, rename_one}
+use Rattle.xc_file.proofs.NameCalls.{rename_acts, rename_me}
 use Rattle.xc_file.proofs.renaming.x_rename.Goals as goal
 
 pub returns-clause-call : goal.returns-clause-call
@@ -20,7 +21,7 @@ returns-clause-call g c =
     λ number me. passed_call model (XRename from to) (record { host = c.args.host.now; number = number; me = me; undo = c.args.undo.now })
     (record { host = c.rename.new.host; number = number; me = me; undo = c.rename.new.undo }) result refl
     (record {
-      reply = ok_more (IsPassedReply (XRename from to)) (λ r. is_check_reply (XRename from to) r ≡ false) result (λ r p. p.0) did.reply;
+      reply = ok_more (IsPassedReply (XRename from to)) (λ r. may_reply (XRename from to) r ≡ true) result (λ r p. p.0) did.reply;
       uses = c.rename.ensures.uses;
       after = ok_more (IsPassedReply (XRename from to)) (IsMePassed number (XRename from to) me me) result (λ r p. rename_me number me from to r p.1)
           did.reply;
@@ -29,5 +30,5 @@ returns-clause-call g c =
       err = always_err _ result refl;
       cause = did.cause;
     })
-    (told_grow model (XRename from to) (rename_record from to) _ _ result c.requires.none (rename_one from to) (λ r w. refl) did.records)
+    (told_grow model (XRename from to) (rename_record from to) _ _ result c.requires.none (rename_of from to) (λ r w. refl) did.records)
     did.err

@@ -11,7 +11,7 @@ use Rattle.xc_file.proofs.NameCalls.{much_none}
 use Rattle.xc_file.proofs.Refusals.{by_much}
 use Rattle.xc_host.specs.Fronted.{before, fronted}
 use Rattle.xc_pipe.specs.Making.{made_record}
-use Rattle.xc_pipe.proofs.Made.{before_fronted, made_acts, made_me, made_one, made_recorded, made_reply}
+use Rattle.xc_pipe.proofs.Made.{before_fronted, made_acts, made_me, made_kind, made_recorded, made_reply}
 use Rattle.xc_pipe.proofs.making.x_pipe.Goals as goal
 
 pub returns-then-me-ge-MOST_MADE-clause-call : goal.returns-then-me-ge-MOST_MADE-clause-call
@@ -51,6 +51,6 @@ returns-clause-call g c =
       err = next.err;
       cause = making.cause;
     })
-    (told_grow (fronted model) XPipe (made_record (next_num me c.args.tx)) _ _ result c.requires.none (made_one me c.args.tx)
+    (told_grow (fronted model) XPipe (made_record (next_num me c.args.tx)) _ _ result c.requires.none (made_kind me c.args.tx)
     (λ r w. made_recorded me c.args.tx r) making.records)
     (before_fronted model items c.args.host.now c.make_at.new.host c.args.undo.now c.make_at.new.undo result making.err)

@@ -17,7 +17,7 @@ returns-in-Ok-clause-call g c =
     (record { host = before c.args.host.now c.args.kept.now.items; number = number; me = c.args.me.now; undo = undo })
     (record { host = before c.receive_open.new.host c.receive_open.new.kept.items; number = number; me = c.receive_open.new.me; undo = undo })
     c.receive_open.result c.in-Ok.ensures.checks (next.passes c.args.h number undo c.in-Ok.ensures.open c.in-Ok.ensures.checks)
-    (none_grow (fronted model) (XRecvmsg c.args.h) _ _ c.receive_open.result refl (λ r w. refl))
+    (none_grow (fronted model) (XRecvmsg c.args.h) _ _ c.receive_open.result refl (λ r. refl) (λ r w. refl))
     (err_before model (record { host = c.args.host.now; items = c.args.kept.now.items; me = c.args.me.now })
     (record { host = c.receive_open.new.host; items = c.receive_open.new.kept.items; me = c.receive_open.new.me }) c.in-Ok.at.pair undo c.receive_open.result
     next.err)
