@@ -32,7 +32,7 @@ pub begin_inner : (script : Script) (place new : Position) (kept : Variables) �
 begin_inner script place new kept read is begun =
     subst IsInner (sym (ap (walk_there script) begun ∙ begin_walk script place kept is)) (begins_inner script (job_of place) read)
 
--- a place that is the begin of some job is that of its own
+-- a place that is the start of some job is that of its own
 pub begin_there : (place : Position) (job : Job) → place ≡ at_begin job → place ≡ at_begin (job_of place)
 begin_there place job is = is ∙ ap (λ (p : Position). at_begin (job_of p)) (sym is)
 

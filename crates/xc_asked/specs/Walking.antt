@@ -23,7 +23,7 @@ walk_there script place = record { walk = walk_of script place; saved = place.sa
 abbrev pub IsAskedAt : BlockWalk → List Call → ℕ → Type 0
 IsAskedAt b calls at = (call : Call) × (slice_get calls at ≡ Some call) × (asks b.walk ≡ ask.Call call)
 
--- its transaction has gone on after these replies, and what the variables held at the begin is kept
+-- its transaction has gone on after these replies, and what the variables held at the start is kept
 pub record IsFollowed (script : Script) (job : Job) (replies : List Reply) (place : Position) : Type 0 where
   pub block : place.block ≡ job.block
   pub next : place.next ≡ job.next

@@ -1,1 +1,2 @@
+pub mod RecordsPlayed
 pub mod StartedCalls

@@ -24,7 +24,7 @@ use Rattle.xc_model.specs.Course.{opening_course}
 use Rattle.xc_model.specs.Grounds.{Scene, Ground, Part, Revocation, scene_of}
 use Rattle.xc_model.specs.Machine.{machine_part, machine_parts}
 use Rattle.xc_model.specs.Progress.{Progress, body_of, progress_of}
-use Rattle.xc_model.specs.RecordCounts.{no_records, all_records, IsStuckIn}
+use Rattle.xc_model.specs.Recorded.{no_records, all_records, IsStuckIn, saved_records}
 use Rattle.xc_model.specs.Setting.{Setting}
 
 -- a late call on this world ended in a fault or for lack of memory, as its end says; or else as it does where the host does its part
@@ -78,7 +78,7 @@ module _ (a : Account) where
   HasCause records cause.NoMemory = Unit {0}
   HasCause records (cause.Stuck failed) =
       (a.next ≡ ask.Call call.Back)
-      × IsStuckIn (all_records no_records a.entry.calls a.entry.replies) 1 records (cause.Stuck failed)
+      × IsStuckIn (saved_records (all_records no_records a.entry.calls a.entry.replies)) 1 records (cause.Stuck failed)
 
   -- it committed so, or was aborted with a cause
   abbrev pub IsAccounted : Outcome → Type 0

@@ -18,7 +18,7 @@ use Rattle.xc_script.specs.Ask.{next_body, transactions_at}
 use Rattle.xc_world.specs.World.{State}
 use Rattle.xc_model.specs.Setting.{Setting}
 use Rattle.xc_model.specs.Progress.{Following, Progress, opening_progress, after_entry, following_of, progress_of}
-use Rattle.xc_model.specs.EntryEnds.{is_tried_again}
+use Rattle.xc_model.specs.EntryEnds.{AreUnrevoked, is_tried_again}
 use Rattle.xc_model.specs.Truth.{IsTrueJournal}
 use Rattle.xc_model.specs.Serial.{is_final, is_asked}
 
@@ -133,6 +133,8 @@ pub record IsTrueEnd (s : Setting) (entries : List Entry) (final : Final) : Type
   -- it has no more than 10,000 entries, and none that follows as many failed attempts of its transaction as the rules allow
   pub few : length entries ≤ 10000
   pub attempts : HaveAttemptsLeft s (opening_progress s.script) entries
+  -- where nobody may wait, nothing was revoked
+  pub patience : s.rules.patience ≡ 0 → AreUnrevoked entries
   -- the words are those that the stores of committed transactions left, over every host
   pub words : final.words ≡ (progress_of s.script entries).words
   pub state : IsTrue s.tells → IsFinalState (progress_of s.script entries).state final

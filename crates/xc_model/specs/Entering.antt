@@ -54,7 +54,7 @@ behind_commit job tx =
 abbrev pub attempts_with : Option Attempts → TxView → Cause → Attempts
 attempts_with attempts tx c = record { first = tx.rank; failed = failures attempts + 1; last = c }
 
--- after an abort the handles and the variables are those of the begin. A transaction that aborted itself is passed;
+-- after an abort the handles and the variables are those of the start. A transaction that aborted itself is passed;
 -- one that met a holder or was revoked is tried again; for lack of memory nothing more is asked
 abbrev pub behind_abort : JobView → TxView → Cause → JobView
 behind_abort job tx cause.Asked =

@@ -1,6 +1,7 @@
 -- What an entry says of its end: its cause or its late ends, what it held, and its records; `last` is what was asked after
 -- its replies.
-use Rattle.std.specs.Prelude.{◌≡◌, ◌⊎◌, ℕ, ◌+◌, Bool, true, false, List, [], ◌∷◌, ◌++◌, length, IsTrue, Option, if◌then◌else◌}
+use Rattle.std.specs.Prelude.{◌≡◌, ◌⊎◌, ℕ, ◌+◌, Bool, true, false, List, [], ◌∷◌, ◌++◌, length, map, All, IsTrue, Option}
+use Rattle.std.specs.Prelude.{if◌then◌else◌}
 use Rattle.std.specs.declared.option.Option.TheVariants.{None, Some}
 use Rattle.xc_data.specs.Claims.{held_of}
 use Rattle.xc_data.specs.declared.call.Answer.{Answer}
@@ -26,7 +27,7 @@ use Rattle.xc_world.specs.Run.{BodyResult, lates_fit, late_asked_of}
 use Rattle.xc_world.specs.Trail.{recorded}
 use Rattle.xc_world.specs.World.{State}
 use Rattle.xc_model.specs.Progress.{body_of, run_of}
-use Rattle.xc_model.specs.RecordCounts.{RecordCount, HasRecords, IsStuckIn}
+use Rattle.xc_model.specs.Recorded.{Recorded, HasRecords, IsStuckIn, saved_records}
 
 -- ---- its cause
 -- what an aborted transaction is asked: an abort, a call where it met a holder, or whatever comes next where it was
@@ -38,11 +39,11 @@ IsCauseOf cause.NoMemory last = Unit {0}
 IsCauseOf (cause.Revoked object by at) last = Unit {0}
 IsCauseOf (cause.Stuck failed) last = last ≡ ask.Call call.Back
 
--- why a transaction was aborted whose calls left so many records: it was asked what leads there, and a way back got stuck at a
+-- why a transaction was aborted of which these calls left a record: it was asked what leads there, and a way back got stuck at a
 -- record of its block
-pub record IsCaused (k : RecordCount) (last : Ask) (report : Report) : Type 0 where
+pub record IsCaused (k : Recorded) (last : Ask) (report : Report) : Type 0 where
   pub asked : IsCauseOf report.cause last
-  pub stuck : IsStuckIn k 1 report.records report.cause
+  pub stuck : IsStuckIn (saved_records k) 1 report.records report.cause
 
 -- an attempt that is to be tried again
 abbrev pub is_tried_again : Cause → Bool
@@ -61,6 +62,19 @@ failures_with failed (Aborted report) = if is_tried_again report.cause then leng
 abbrev pub cause_in : Outcome → Option Cause
 cause_in (Committed late) = None
 cause_in (Aborted report) = Some report.cause
+
+-- it has no cause, or another one than that it was revoked
+abbrev pub IsUnrevoked : Option Cause → Type 0
+IsUnrevoked None = Unit {0}
+IsUnrevoked (Some cause.Asked) = Unit {0}
+IsUnrevoked (Some (cause.Conflict object holder at)) = Unit {0}
+IsUnrevoked (Some (cause.Revoked object by at)) = ⊥
+IsUnrevoked (Some cause.NoMemory) = Unit {0}
+IsUnrevoked (Some (cause.Stuck failed)) = Unit {0}
+
+-- no entry was revoked
+abbrev pub AreUnrevoked : List Entry → Type 0
+AreUnrevoked entries = All (λ (e : Entry). IsUnrevoked (cause_in e.outcome)) entries
 
 -- ---- its late ends
 -- a commit on this state: each late call ended as the plain machine's did
@@ -92,9 +106,9 @@ IsHeld ran last (Committed late) held = held ≡ held_of ran.touched
 IsHeld ran last (Aborted report) held = IsHeldAt ran last report.cause held
 
 -- ---- its records
--- what a report says of records, where the calls left so many: each has its record, and the compensations have legal ends
-pub record IsReport (tries : ℕ) (k : RecordCount) (report : Report) : Type 0 where
-  pub count : HasRecords k report.cause (length report.records)
+-- what a report says of records, where these calls left one: each has its record, and the compensations have legal ends
+pub record IsReport (tries : ℕ) (k : Recorded) (report : Report) : Type 0 where
+  pub count : HasRecords k report.cause (map (λ r. r.0) report.records)
   pub legal : AreLegal tries 1 report.records
 
 -- the records that a call without memory left after: none, or that of the call whole or of a front of its bytes

@@ -76,7 +76,7 @@ new_tx number rank began me =
       saved = None;
     }
 
--- the job at the begin of its next transaction, whose number is the next
+-- the job at the start of its next transaction, whose number is the next
 abbrev pub beginning_job : Moment → JobView → JobView
 beginning_job now job =
     let number = begun_count now + 1 in

@@ -13,14 +13,15 @@ use Rattle.xc_script.specs.declared.ask.Ask.TheVariants as ask
 use Rattle.xc_script.specs.Ask.{next_body}
 use Rattle.xc_script.specs.Blocks.{block_from, kept_calls}
 use Rattle.xc_world.specs.Run.{body_fits, asked_of}
-use Rattle.xc_model.specs.Asked.{AsksEach, StartsJobs, next_of}
+use Rattle.xc_model.specs.Asked.{AsksEach, StartsJobs, lasts_of, next_of}
 use Rattle.xc_model.specs.EntryEnds.{AreRecords, IsCaused, IsCommit, IsHeld, IsReport, failures_with}
 use Rattle.xc_model.specs.Grounds.{Part, AreGrounded, scene_of}
+use Rattle.xc_model.specs.Handles.{IsHandledJournal}
 use Rattle.xc_model.specs.InTime.{AreInTime}
 use Rattle.xc_model.specs.Machine.{BeginInOrder, counting, machine_part, numbers_of}
 use Rattle.xc_model.specs.Progress.{Following, Progress, opening_progress, private_of}
 use Rattle.xc_model.specs.Progress.{body_of, following_of, after_entry}
-use Rattle.xc_model.specs.RecordCounts.{no_records, all_records, AreFewFaults}
+use Rattle.xc_model.specs.Recorded.{no_records, all_records, AreFewFaults}
 use Rattle.xc_model.specs.Setting.{Setting}
 use Rattle.xc_model.specs.WordCalls.{AreWordReplies}
 
@@ -114,3 +115,4 @@ pub record IsJointJournal (s : Setting) (journal : List Entry) : Type 0 where
   pub numbers : IsPermutation (numbers_of journal) (counting 1 (length journal))
   pub begins : BeginInOrder journal
   pub grounded : AreGrounded (scene_of s.tells (entry_parts s journal) [])
+  pub handled : s.tells ≡ false → IsHandledJournal s.script.outline (lasts_of s.script journal) journal

@@ -17,9 +17,10 @@ use Rattle.xc_model.specs.declared.rules.Rules.{Rules}
 use Rattle.xc_model.specs.Course.{Course, Standing, after_course, opening_course, standing_of}
 use Rattle.xc_model.specs.EntryEnds.{AreRecords, IsCaused, IsCommit, IsHeld, IsReport, cause_in, failures_with, next_claims}
 use Rattle.xc_model.specs.Grounds.{Part, AreGrounded, scene_of}
+use Rattle.xc_model.specs.Handles.{IsHandledJournal}
 use Rattle.xc_model.specs.InTime.{AreInTime}
 use Rattle.xc_model.specs.Progress.{body_of, private_of}
-use Rattle.xc_model.specs.RecordCounts.{no_records, all_records, AreFewFaults}
+use Rattle.xc_model.specs.Recorded.{no_records, all_records, AreFewFaults}
 use Rattle.xc_model.specs.WordCalls.{AreWordReplies}
 
 -- the rules, and whether the host tells its contents
@@ -142,3 +143,5 @@ pub record IsTrueOfMachine (t : Terms) (outline : Outline) (lasts : List Ask) (j
   pub begins : BeginInOrder journal
   -- each conflict names a holder, and each revocation an older transaction
   pub grounded : AreGrounded (scene_of t.tells (machine_parts (opening_course outline) lasts journal) [])
+  -- over a host that doesn't tell: each call is refused exactly where a private check refuses it, from the opening's handles on
+  pub handled : t.tells ≡ false → IsHandledJournal outline lasts journal

@@ -1,8 +1,7 @@
 -- A call of a transaction as the plain machine does it, and the transaction after it.
-use Rattle.std.specs.Prelude.{◌≡◌, ◌⊎◌, ℕ, true, false, List, [], ◌∷◌, ◌++◌, length, Option}
+use Rattle.std.specs.Prelude.{◌≡◌, ◌⊎◌, ℕ, true, false, List, [], ◌∷◌, ◌++◌, length}
 use Rattle.std.specs.Prelude.{IsTrue}
 use Rattle.std.specs.Prelude.{nat_lt, if◌then◌else◌}
-use Rattle.std.specs.declared.option.Option.TheVariants.{None, Some}
 use Rattle.xc_data.specs.Claims.{holding}
 use Rattle.xc_data.specs.Step.{Step}
 use Rattle.xc_data.specs.declared.call.Answer.{Answer}
@@ -14,11 +13,9 @@ use Rattle.xc_data.specs.declared.call.Reply.{Reply}
 use Rattle.xc_data.specs.declared.claim.Claim.{Claim}
 use Rattle.xc_data.specs.declared.entry.Cause.TheVariants as cause
 use Rattle.xc_data.specs.declared.private.Private.{Private}
-use Rattle.xc_data.specs.declared.script.Kind.{Kind}
 use Rattle.xc_data.specs.declared.undo.Undo.{Undo}
 use Rattle.xc_compensate.specs.Records.{Records}
 use Rattle.xc_host.specs.Contents.{Contents, with_contents}
-use Rattle.xc_host.specs.Uses.{CallsFor, StopsFor}
 use Rattle.xc_script.specs.declared.ask.Ask.{Ask}
 use Rattle.xc_script.specs.declared.ask.Ask.TheVariants as ask
 use Rattle.xc_txmem.specs.Overlay.{overlaid}
@@ -33,6 +30,8 @@ use Rattle.xc_world.specs.Modes.{claims_of}
 use Rattle.xc_world.specs.Run.{taken_by}
 use Rattle.xc_world.specs.Trail.{recorded}
 use Rattle.xc_model.specs.declared.phase.Phase.TheVariants.{Undoing}
+pub use Rattle.xc_model.specs.Called.{StopsAt}
+pub use Rattle.xc_model.specs.Saves.{saved_by}
 use Rattle.xc_model.specs.Moment.{TxView, SavedView, Moment}
 
 -- ---- a running transaction makes the call that is asked
@@ -89,14 +88,6 @@ copied tx =
       late = tx.late;
     }
 
--- the block that a call opens or closes: what a save keeps is a copy of what is there after it
-abbrev pub saved_by : {X : Type 0} → Call → Option X → X → Option X
-saved_by call.Save kept copy = Some copy
-saved_by call.Keep kept copy = None
-saved_by call.Back kept copy = None
--- any other call is made in the block that is open, also one yet to come
-saved_by _ kept copy = kept
-
 -- the same, and where the call opens or closes a block
 abbrev pub noting : TxView → Call → Reply → List Claim → Parts → TxView
 noting tx call reply claims parts =
@@ -140,12 +131,6 @@ LeavesPart old new parts (ask.Call call) left =
     (answer : Answer)
     × LeavesAsPlainIn old.words (record { old = old.contents; new = new.contents }) parts (record { call = call; answer = answer }) left
 LeavesPart old new parts _ left = ⊥
-
--- which calls of the host a transaction may have made where memory ran out: none; those that the asked call makes first; or all
--- that it makes, where memory ran out after it
-abbrev pub StopsAt : Ask → List Kind → Type 0
-StopsAt (ask.Call call) made = (made ≡ []) ⊎ StopsFor call made ⊎ ((reply : Reply) × CallsFor call reply made)
-StopsAt _ made = made ≡ []
 
 -- what is at the host where memory ran out: all as before, or what the asked call left
 abbrev pub IsLeft : Moment → Moment → Parts → Ask → List Undo → Type 0

@@ -129,7 +129,7 @@ after_commit script p f e late =
       words = p.words;
     }
 
--- ---- after an abort: the world with what remains, and the variables of the begin
+-- ---- after an abort: the world with what remains, and the variables of the start
 abbrev pub following_abort : ℕ → Following → Entry → Cause → Following
 following_abort entered f e cause.Asked = untried f.block (record f.job { next = f.job.next + 1 }) (entered + 1)
 following_abort entered f e (cause.Stuck failed) = untried f.block (record f.job { next = f.job.next + 1 }) (entered + 1)

@@ -26,10 +26,9 @@ use Rattle.xc_script.specs.declared.ask.Ask.TheVariants as ask
 use Rattle.xc_script.specs.Answers.{answered}
 use Rattle.xc_script.specs.Position.{Position, walk_of, IsPastSilent}
 use Rattle.xc_txmem.specs.Overlay.{overlaid}
-use Rattle.xc_world.specs.World.{World}
 use Rattle.xc_world.specs.After.{IsMeAfter}
 use Rattle.xc_world.specs.Checks.{IsChecked, refusal_of}
-use Rattle.xc_world.specs.Trail.{recorded}
+use Rattle.xc_world.specs.RecordOf.{AreRecordsOf, left_by}
 use Rattle.xc_data.specs.declared.entry.Mark.{Mark}
 use Rattle.xc_model.specs.declared.phase.Phase.{Phase}
 use Rattle.xc_model.specs.declared.phase.Phase.TheVariants.{Running, Committing, Undoing, Backing}
@@ -90,17 +89,17 @@ module _ (m : Mover) (tx : TxView) where
     pub saved : place.saved ≡ saved_by call m.job.place.saved (values_at m)
     -- it is kept for the commit or done now
     pub in_time : IsReplyInTime tx.me tx.number call reply
-    -- over every host: refused exactly where a private check refuses it, with its reply, and its handles, what it made and stored
-    -- are those of the reply
+    -- over every host: refused exactly where a private check refuses it, with its reply, and else with one that may come; its
+    -- handles, what it made and stored are those of the reply
     pub checked : IsChecked (refusal_of call tx.me) call reply
     pub after : IsMeAfter tx.number call reply tx.me parts.me
     pub stored : parts.me.stored ≤ 16384
     -- the host was called so, and not where a check refused it
     pub uses : HasCalled (CallsOf (refusal_of call tx.me) call reply) m.old new
-    -- the older records stay, and one comes after them exactly where the plain machine leaves one
+    -- the older records stay, and one comes after them exactly where the call with its reply leaves one, which is of this call
     pub made : List Undo
     pub one : length made ≤ 1
-    pub count : (w : World) → length made ≡ length (recorded w tx.me tx.number call reply)
+    pub kinds : AreRecordsOf (left_by call reply) made
     pub undo : parts.undo ≡ record tx.undo { pending = tx.undo.pending ++ made }
     -- its stores wait after the older ones
     pub stores : parts.stores ≡ tx.writes ++ stored_by (length m.old.words) call

@@ -14,11 +14,13 @@ use Rattle.xc_script.specs.Blocks.{KeptCalls, all_replied, block_from, none_kept
 use Rattle.xc_data.specs.declared.call.Call.{Call}
 use Rattle.xc_data.specs.declared.call.Call.TheVariants as call
 use Rattle.xc_data.specs.declared.call.LateCall.{LateCall}
+use Rattle.xc_data.specs.declared.call.Reply.{Reply}
 use Rattle.xc_script.specs.Ask.{next_body}
 use Rattle.xc_script.specs.Position.{Position, at_begin, walk_of, IsPastSilent}
 use Rattle.xc_world.specs.World.{beginning}
 use Rattle.xc_world.specs.Ends.{AreLegal, is_undone}
 use Rattle.xc_world.specs.Modes.{claims_of}
+use Rattle.xc_world.specs.RecordOf.{AreRecordsOf}
 use Rattle.xc_model.specs.declared.phase.Attempts.{Attempts}
 use Rattle.xc_data.specs.declared.entry.Mark.{Mark}
 use Rattle.xc_model.specs.declared.phase.Phase.{Phase}
@@ -32,7 +34,7 @@ use Rattle.xc_model.specs.Joint.{AreTrue, entry_parts}
 use Rattle.xc_model.specs.Machine.{counting}
 use Rattle.xc_model.specs.Ending.{IsEnd}
 use Rattle.xc_model.specs.InTime.{AreInTime}
-use Rattle.xc_model.specs.RecordCounts.{RecordCount, no_records, all_records, AreFewFaults, HasRecords, IsStuckIn}
+use Rattle.xc_model.specs.Recorded.{Recorded, no_records, all_records, AreFewFaults, HasRecords, IsStuckIn, saved_records}
 use Rattle.xc_data.specs.Calls.{thread_asked, thread_in}
 use Rattle.xc_data.specs.Private.{IsSided}
 use Rattle.xc_model.specs.Moment.{TxView, SavedView, JobView, Doing, Idle, Active, Starved, Ended, actives, active_of, revoked}
@@ -78,7 +80,7 @@ pub record IsCommitting (s : Setting) (f : Following) (place : Position) (tx : T
 pub record IsUndoing (s : Setting) (f : Following) (tx : TxView) (c : Cause) : Type 0 where
   pub caused : IsCauseOf c (next_of s.script f tx.replies)
   pub legal : AreLegal s.rules.undo_tries (length tx.undo.pending + 1) tx.undo.ended
-  pub stuck : IsStuckIn (all_records no_records tx.calls tx.replies) (length tx.undo.pending + 1) tx.undo.ended c
+  pub stuck : IsStuckIn (saved_records (all_records no_records tx.calls tx.replies)) (length tx.undo.pending + 1) tx.undo.ended c
   pub no_ends : tx.ends ≡ []
 
 -- as many records as at the save have no end yet, or more
@@ -115,21 +117,21 @@ abbrev pub AreKeptSo : List LateCall → Option SavedView → KeptCalls → Type
 AreKeptSo late saved k = (map thread_in late ≡ map thread_asked k.kept) × AreKeptAtSave saved k.saved
 
 -- the records at an open block's save are as many as the calls before it left
-abbrev pub IsCountedSave : Option SavedView → Option ℕ → Type 0
+abbrev pub IsCountedSave : Option SavedView → Option (List (Call × Reply)) → Type 0
 IsCountedSave None None = Unit {0}
-IsCountedSave (Some kept) (Some count) = length kept.trail ≡ count
+IsCountedSave (Some kept) (Some calls) = length kept.trail ≡ length calls
 IsCountedSave _ _ = ⊥
 
--- its records, with an end and without, are as many as its calls left; without memory one of the next call may stand last
-abbrev pub HasRecordsIn : RecordCount → Phase → ℕ → Type 0
-HasRecordsIn k Running n = n ≡ k.now
-HasRecordsIn k Committing n = n ≡ k.now
-HasRecordsIn k Backing n = n ≡ k.now
-HasRecordsIn k (Undoing c) n = HasRecords k c n
+-- its records are those that its calls left; without memory one of the next call may stand last
+abbrev pub HasRecordsIn : Recorded → Phase → List Undo → Type 0
+HasRecordsIn k Running records = AreRecordsOf k.now records
+HasRecordsIn k Committing records = AreRecordsOf k.now records
+HasRecordsIn k Backing records = AreRecordsOf k.now records
+HasRecordsIn k (Undoing c) records = HasRecords k c records
 
--- the records of a transaction are those of its calls, and so were those at its save
-pub record IsCounted (tx : TxView) (k : RecordCount) : Type 0 where
-  pub now : HasRecordsIn k tx.phase (length tx.undo.pending + length tx.undo.ended)
+-- the records of a transaction, without an end and with one, are those of its calls, and as many were there at its save
+pub record IsCounted (tx : TxView) (k : Recorded) : Type 0 where
+  pub now : HasRecordsIn k tx.phase (tx.undo.pending ++ map (λ r. r.0) tx.undo.ended)
   pub saved : IsCountedSave tx.saved k.saved
 
 -- the active transaction of a job that the journal tells so far as f

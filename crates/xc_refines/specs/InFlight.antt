@@ -45,7 +45,7 @@ flown_saved None = None
 flown_saved (Some kept) =
     Some (record { places = kept.places; writes = kept.writes; late = kept.late; trail = kept.trail; taken = kept.taken })
 
--- an active transaction whose job's private state at the begin was this, with what isn't noted
+-- an active transaction whose job's private state at the start was this, with what isn't noted
 abbrev pub flown : Private → List CallWithAnswer → TxView → Tx
 flown began unnoted tx =
     record {

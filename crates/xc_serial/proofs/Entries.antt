@@ -1,6 +1,6 @@
 -- An entry that was settled without a fault is the plain machine's.
 use Rattle.std.proofs.Common.{◌≡◌, ℕ, ◌+◌, ◌≤◌, true, false, List, [], ◌∷◌, ◌++◌, length, refl, ap, ap₂, sym, ◌∙◌, subst, arith}
-use Rattle.std.specs.Prelude.{map, count_by, sum_by, IsTrue, unwrap_or}
+use Rattle.std.specs.Prelude.{Option, map, count_by, sum_by, IsTrue, unwrap_or}
 use Rattle.std.specs.declared.option.Option.TheVariants.{None, Some}
 use Rattle.std.specs.List.{list_any}
 use Rattle.std.proofs.lemmas.Bool.{or_parts}
@@ -26,7 +26,7 @@ use Rattle.xc_script.specs.declared.ask.Ask.TheVariants as ask
 use Rattle.xc_model.specs.Ending.{has_memory_end, is_memory_end}
 use Rattle.xc_model.specs.Progress.{Following, Progress, private_of, body_of, run_of}
 use Rattle.xc_model.specs.Setting.{Setting}
-use Rattle.xc_model.specs.RecordCounts.{RecordCount, no_records, all_records, IsStuckIn}
+use Rattle.xc_model.specs.Recorded.{Recorded, no_records, all_records, IsStuckIn, saved_records}
 use Rattle.xc_model.specs.Asked.{next_of}
 use Rattle.xc_model.specs.EntryEnds.{IsReport, IsHeld, IsHeldAt, IsCauseOf, IsCaused, AreRecords}
 use Rattle.xc_model.specs.Joint.{IsEntry, IsAskedFor, IsPlayedOutcome}
@@ -74,18 +74,18 @@ none_failed (v ∷ us) [] u done faults newer e =
     let no : true ≡ false = ap (λ (r : Ending). is_undone r.1) (ap (head_of (v, Undone 0)) e) in cc
 none_failed (v ∷ us) (o ∷ older) u done faults newer e = none_failed us older u done faults newer (ap rest_of e)
 
-asked_where : (c : Cause) (k : RecordCount) (us : List Undo) → is_asked c ≡ true → IsStuckIn k 1 (undone us) c → c ≡ cause.Asked
+asked_where : (c : Cause) (k : Option ℕ) (us : List Undo) → is_asked c ≡ true → IsStuckIn k 1 (undone us) c → c ≡ cause.Asked
 asked_where cause.Asked k us e stuck = refl
 asked_where (cause.Stuck failed) k us e stuck =
     let at = stuck.1 in absurd (none_failed us at.older at.stuck at.done at.faults at.newer at.parts)
 asked_where _ k us e stuck = cc
 
 -- where each record was undone without a fault, no way back got stuck: the script asked for the abort
-pub asked_is : (tries : ℕ) (k : RecordCount) (last : Ask) (report : Report) → 1 ≤ tries → IsReport tries k report → IsCaused k last report
+pub asked_is : (tries : ℕ) (k : Recorded) (last : Ask) (report : Report) → 1 ≤ tries → IsReport tries k report → IsCaused k last report
     → sum_by undo_faults report.records ≡ 0 → is_asked report.cause ≡ true → report.cause ≡ cause.Asked
 asked_is tries k last report some is caused none asked =
-    asked_where report.cause k (map (λ r. r.0) report.records) asked
-    (subst (λ rs. IsStuckIn k 1 rs report.cause) (all_undone tries 1 report.records some is.legal none) caused.stuck)
+    asked_where report.cause (saved_records k) (map (λ r. r.0) report.records) asked
+    (subst (λ rs. IsStuckIn (saved_records k) 1 rs report.cause) (all_undone tries 1 report.records some is.legal none) caused.stuck)
 
 -- why an entry was aborted, where it was
 abbrev IsCausedBy : Outcome → Cause → Type 0

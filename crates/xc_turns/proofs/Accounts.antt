@@ -23,7 +23,7 @@ use Rattle.xc_model.specs.Grounds.{Part, IsGrounded, scene_of}
 use Rattle.xc_model.specs.Joint.{AreTrue, IsAskedFor, IsPlayedOutcome, IsTrueEntry, asked_behind, entry_parts, part_of, parts_from}
 use Rattle.xc_model.specs.Machine.{machine_part}
 use Rattle.xc_model.specs.Progress.{Progress, after_entry, body_of, following_of, opening_progress}
-use Rattle.xc_model.specs.RecordCounts.{no_records, all_records, IsStuckIn}
+use Rattle.xc_model.specs.Recorded.{no_records, all_records, IsStuckIn, saved_records}
 use Rattle.xc_model.specs.Setting.{Setting}
 use Rattle.xc_model.specs.Truth.{IsTrueJournal}
 use Rattle.xc_script.specs.declared.ask.Ask.{Ask}
@@ -52,7 +52,7 @@ module _ (a : Account) where
   HasGround c = IsGrounded (own_scene a) a.place (own_part a) c
 
   cause_accounts : (records : List Ending) (c : Cause) → IsCauseOf c a.next
-      → IsStuckIn (all_records no_records a.entry.calls a.entry.replies) 1 records c → HasGround (Some c) → HasCause a records c
+      → IsStuckIn (saved_records (all_records no_records a.entry.calls a.entry.replies)) 1 records c → HasGround (Some c) → HasCause a records c
   cause_accounts records (cause.Stuck failed) caused stuck ground = (caused, stuck)
   cause_accounts records cause.Asked caused stuck ground = caused
   cause_accounts records (cause.Conflict object holder at) caused stuck ground = (caused, ground)

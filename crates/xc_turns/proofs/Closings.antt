@@ -3,14 +3,20 @@ use Rattle.std.proofs.Common.{◌≡◌, ℕ, ◌+◌, inl, inr, Bool, List, [],
 use Rattle.std.proofs.Common.{refl, ap, sym, ◌∙◌, subst, arith, get_or}
 use Rattle.std.proofs.lemmas.List.{append-nil, ext_get_or, length-map}
 use Rattle.std.proofs.lemmas.Option.{get_or_from_slice_get, slice_get_within, slice_get-map}
-use Rattle.std.specs.Prelude.{slice_get, Option, Contains, IsPermutation, option_map}
+use Rattle.std.specs.Prelude.{slice_get, Option, Contains, IsPermutation, option_map, sum_by}
 use Rattle.std.specs.declared.option.Option.TheVariants.{None, Some}
+use Rattle.xc_data.specs.Counts.{RisesBy}
 use Rattle.xc_data.specs.declared.entry.Cause.{Cause}
 use Rattle.xc_data.specs.declared.entry.Cause.TheVariants as cause
 use Rattle.xc_data.specs.declared.entry.Entry.{Entry}
 use Rattle.xc_data.specs.declared.entry.JobLine.{JobLine}
 use Rattle.xc_data.specs.declared.entry.Mark.{Mark}
+use Rattle.xc_data.specs.declared.script.Kind.{Kind}
+use Rattle.xc_host.specs.Cause.{times}
+use Rattle.xc_text.specs.declared.script.Script.{Script}
 use Rattle.xc_model.specs.Setting.{Setting}
+use Rattle.xc_model.specs.Handles.{AreCalled}
+use Rattle.xc_model.specs.Handling.{HandlesAgree, places_of}
 use Rattle.xc_model.specs.Grounds.{Part, IsPresent, Other, IsGrounded, AreGrounded, scene_of}
 use Rattle.xc_model.specs.Progress.{Following, progress_of}
 use Rattle.xc_model.specs.Joint.{IsJointJournal, entry_parts}
@@ -22,6 +28,7 @@ use Rattle.xc_model.specs.Movers.{IsActiveAt}
 use Rattle.xc_model.specs.Stories.{StoriesHold, AreBegins, StoryHolds, IsDoing, active_begin, active_part, active_parts, begins_of, entry_begin, reading}
 use Rattle.xc_model.specs.Words.{WordsAgree}
 use Rattle.xc_model.specs.Consistent.{AreLinesOf, IsLineOf}
+use Rattle.xc_turns.proofs.HandledMade.{ended_times}
 use Rattle.xc_turns.proofs.Jobs.{none_active}
 use Rattle.xc_turns.proofs.Ways.{parts_of_joint}
 
@@ -127,10 +134,11 @@ all_logged tells log active none g =
 
 -- ---- the journal
 -- where each job has ended the journal is true, both parts of an entry at once
-joint_true : (s : Setting) (words : ℕ) (marks : ℕ → Option Mark) (journal : List Entry) (jobs : List JobView) (lines : List JobLine)
-    → StoriesHold s words marks journal jobs
+joint_true : (s : Setting) (words : ℕ) (marks : ℕ → Option Mark) (journal : List Entry) (jobs : List JobView) (calls : Kind → ℕ)
+    → (lines : List JobLine)
+    → StoriesHold s words marks journal jobs → HandlesAgree s.script journal jobs calls
     → AreLinesOf jobs lines → IsJointJournal s journal
-joint_true s words marks journal jobs lines told are =
+joint_true s words marks journal jobs calls lines told handled are =
     let begins : AreBegins journal (map entry_begin journal) =
     subst (AreBegins journal) (begins_there journal jobs (none_active jobs (none_there jobs lines are))) told.begins in
     let many : length (map entry_begin journal) ≡ length journal = length-map journal entry_begin in
@@ -141,13 +149,29 @@ joint_true s words marks journal jobs lines told are =
       begins = λ i j a b ea eb less. begins.order (entry_begin a) (entry_begin b) (entry_there journal i a ea) (entry_there journal j b eb) less;
       grounded = all_logged s.tells (entry_parts s journal) (active_parts (reading s words marks) 1 (progress_of s.script journal).jobs jobs)
           (parts_none s words marks 1 (progress_of s.script journal).jobs jobs lines are) told.grounded;
+      handled = λ tells. (record { places = places_of jobs; made = handled.entered }, handled.entries);
     }
 
 -- so it is true of the machine, and asked by the script
-pub journal_true : (s : Setting) (words : ℕ) (marks : ℕ → Option Mark) (journal : List Entry) (jobs : List JobView) (lines : List JobLine)
-    → StoriesHold s words marks journal jobs
+pub journal_true : (s : Setting) (words : ℕ) (marks : ℕ → Option Mark) (journal : List Entry) (jobs : List JobView) (calls : Kind → ℕ)
+    → (lines : List JobLine)
+    → StoriesHold s words marks journal jobs → HandlesAgree s.script journal jobs calls
     → AreLinesOf jobs lines → IsTrueJournal s journal
-journal_true s words marks journal jobs lines told are = parts_of_joint s journal (joint_true s words marks journal jobs lines told are)
+journal_true s words marks journal jobs calls lines told handled are =
+    parts_of_joint s journal (joint_true s words marks journal jobs calls lines told handled are)
+
+-- the host was called by its entries, and by nothing else
+pub calls_true : (script : Script) (journal : List Entry) (jobs : List JobView) (calls : Kind → ℕ) (lines : List JobLine)
+    → HandlesAgree script journal jobs calls → AreLinesOf jobs lines → AreCalled script journal calls
+calls_true script journal jobs calls lines handled are =
+    record {
+      ends = record { places = places_of jobs; made = handled.entered };
+      entries = handled.entries;
+      called = λ kind.
+          let none = ended_times kind script jobs lines handled.under_way are handled.active in
+          let all : times kind handled.entered + sum_by (times kind) handled.under_way ≡ times kind handled.entered = omega (arith, none) in
+          subst (λ n. RisesBy n 0 (calls kind)) all (handled.called kind);
+    }
 
 -- ---- the ends
 line_ends : (s : Setting) (begun : ℕ) (f : Following) (job : JobView) (line : JobLine) (d : Doing) → IsLineOf line job d → IsDoing s begun f job d

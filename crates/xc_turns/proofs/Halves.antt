@@ -1,6 +1,6 @@
 -- Where a journal leads in a script's run: what the plain machine tells of it, and what the script does.
 use Rattle.std.proofs.Common.{◌≡◌, ℕ, ◌+◌, ◌-◌, List, [], ◌∷◌, ◌++◌, map, refl, ap, sym, ◌∙◌}
-use Rattle.std.specs.Prelude.{Option, option_map, slice_get, slice_set}
+use Rattle.std.specs.Prelude.{Option, option_map, slice_set}
 use Rattle.std.specs.declared.option.Option.TheVariants.{None, Some}
 use Rattle.std.proofs.lemmas.List.{map-append}
 use Rattle.std.proofs.lemmas.Option.{slice_get-map}

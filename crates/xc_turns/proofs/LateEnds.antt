@@ -1,5 +1,5 @@
 -- However the next late call of a committing transaction ends, at the host or by starting a job.
-use Rattle.std.proofs.Common.{◌≡◌, ℕ, List, ◌∷◌, ◌++◌, [], ap}
+use Rattle.std.proofs.Common.{◌≡◌, ℕ, List, ◌∷◌, ◌++◌, [], refl, ap}
 use Rattle.std.specs.Prelude.{slice_set}
 use Rattle.xc_data.specs.Counts.{CountsFault}
 use Rattle.xc_data.specs.Faults.{is_fault_end}
@@ -7,12 +7,13 @@ use Rattle.xc_data.specs.declared.call.LateCall.{LateCall}
 use Rattle.xc_data.specs.declared.call.LateCall.TheVariants.{Thread}
 use Rattle.xc_data.specs.declared.call.LateEnd.{LateEnd}
 use Rattle.xc_data.specs.declared.call.LateEnd.TheVariants as end
+use Rattle.xc_host.specs.Uses.{LatesFor}
 use Rattle.xc_text.specs.declared.script.Script.{Script}
 use Rattle.xc_model.specs.Setting.{Setting}
 use Rattle.xc_model.specs.Moment.{TxView, JobView, Moment}
 use Rattle.xc_model.specs.CommittingRows.{EndsLate, NextLate, Starts}
 use Rattle.xc_model.specs.Starts.{IsStart}
-use Rattle.xc_model.specs.Movers.{with_tx, mover}
+use Rattle.xc_model.specs.Movers.{HasCalled, with_tx, mover}
 
 -- it has one end more, and nothing else changes but what the host tells and counts, and which jobs are started
 pub record Ends (at : ℕ) (old : Moment) (job : JobView) (tx : TxView) (new : Moment) : Type 0 where
@@ -61,3 +62,9 @@ module _ (s : Setting) (at : ℕ) (old : Moment) (job : JobView) (tx : TxView) (
   pub next_ends : (call : LateCall) → NextLate (mover s at old job) tx call new → Ends at old job tx new
   next_ends (Thread block) row = start_ends block row
   next_ends call row = host_ends call row
+
+  -- which calls of the host it made
+  pub next_uses : (call : LateCall) (row : NextLate (mover s at old job) tx call new) → HasCalled (LatesFor call (next_ends call row).end) old new
+  unfolding next_ends host_ends
+  next_uses (Thread block) row = ([], refl, λ kind. ap (λ (n : Moment). n.calls kind) row.behind)
+  next_uses call row = row.uses

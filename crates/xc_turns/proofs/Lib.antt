@@ -2,7 +2,6 @@ pub mod Accounts
 pub mod Apart
 pub mod Attempts
 pub mod BlockRecords
-pub mod CallRecords
 pub mod Closings
 pub mod Completions
 pub mod CountedSums
@@ -16,6 +15,11 @@ pub mod GroundEntries
 pub mod Grounding
 pub mod Grown
 pub mod Halves
+pub mod HandledLasts
+pub mod HandledMade
+pub mod HandledRows
+pub mod HandledTurns
+pub mod HandledTx
 pub mod HeldClaims
 pub mod Jobs
 pub mod JournalGoesOn
@@ -27,6 +31,7 @@ pub mod Lefts
 pub mod Lists
 pub mod OrderParts
 pub mod Orders
+pub mod Patience
 pub mod Progressing
 pub mod Sided
 pub mod StartedLists

@@ -23,7 +23,7 @@ use Rattle.xc_model.specs.Setting.{Setting}
 use Rattle.xc_model.specs.WordCalls.{AreWordReplies}
 use Rattle.xc_model.specs.Progress.{Following, Progress, after_entry, after_following, following_abort, following_of}
 use Rattle.xc_model.specs.Progress.{committed_job, started_job, untried}
-use Rattle.xc_model.specs.RecordCounts.{HasRecords, IsStuckIn, all_records, no_records}
+use Rattle.xc_model.specs.Recorded.{HasRecords, IsStuckIn, all_records, no_records, saved_records}
 use Rattle.xc_model.specs.Asked.{next_of}
 use Rattle.xc_model.specs.EntryEnds.{AreRecords, IsCaused, IsHeldAt, IsReport, is_tried_again}
 use Rattle.xc_model.specs.Joint.{IsPlayed, IsTrueEntry}
@@ -168,10 +168,10 @@ report_so : (s : Setting) (f : Following) (place : Position) (tx : TxView) (c : 
     → IsReport s.rules.undo_tries (all_records no_records tx.calls tx.replies) (record { cause = c; records = tx.undo.ended })
 report_so s f place tx c undoes none under undoing =
     let k = all_records no_records tx.calls tx.replies in
-    let count = subst (λ (ph : Phase). HasRecordsIn k ph (length tx.undo.pending + length tx.undo.ended)) undoes under.counted.now in
-    let all : length tx.undo.pending + length tx.undo.ended ≡ length tx.undo.ended = omega (arith, ap length none) in
+    let ended : List Undo = map (λ (r : Ending). r.0) tx.undo.ended in
+    let count = subst (λ (ph : Phase). HasRecordsIn k ph (tx.undo.pending ++ ended)) undoes under.counted.now in
     record {
-      count = subst (HasRecords k c) all count;
+      count = subst (λ (us : List Undo). HasRecords k c (us ++ ended)) none count;
       legal = subst (λ (us : List Undo). AreLegal s.rules.undo_tries (length us + 1) tx.undo.ended) none undoing.legal;
     }
 
@@ -182,7 +182,7 @@ caused_so s f tx c none undoing =
     let k = all_records no_records tx.calls tx.replies in
     record {
       asked = undoing.caused;
-      stuck = subst (λ (us : List Undo). IsStuckIn k (length us + 1) tx.undo.ended c) none undoing.stuck;
+      stuck = subst (λ (us : List Undo). IsStuckIn (saved_records k) (length us + 1) tx.undo.ended c) none undoing.stuck;
     }
 
 -- the entry of an abort is true after a true journal

@@ -1,5 +1,7 @@
 -- Each row of the table that enters nothing goes on with its job's story.
-use Rattle.std.proofs.Common.{◌≡◌, ℕ, ◌+◌, ◌<◌, ◌≤◌, false, List, [], ◌∷◌, ◌++◌, length, refl, ap, sym, ◌∙◌, subst, arith, length-append}
+use Rattle.std.proofs.Common.{◌≡◌, ℕ, ◌+◌, ◌<◌, ◌≤◌, false, List, [], ◌∷◌, ◌++◌, length, refl, ap, sym, ◌∙◌, subst, arith}
+use Rattle.std.proofs.Common.{append-nil, append_assoc, map, length-append}
+use Rattle.std.proofs.lemmas.List.{length-map}
 use Rattle.std.specs.Prelude.{All, IsSome, Option, is_some, unwrap_or}
 use Rattle.std.specs.declared.option.Option.TheVariants.{None, Some}
 use Rattle.xc_data.specs.declared.call.Call.{Call}
@@ -23,6 +25,7 @@ use Rattle.xc_script.specs.Position.{Position, at_begin, walk_of, IsPastSilent}
 use Rattle.xc_world.specs.World.{beginning}
 use Rattle.xc_world.specs.Ends.{Ending, AreLegal, IsLegalEnd, is_undone}
 use Rattle.xc_world.specs.Fits.{is_back}
+use Rattle.xc_world.specs.RecordOf.{AreRecordsOf, left_by}
 use Rattle.xc_data.specs.declared.call.Call.TheVariants as call
 use Rattle.xc_data.specs.declared.call.Reply.TheVariants as reply
 use Rattle.xc_data.specs.declared.undo.UndoEnd.TheVariants.{Undone, Failed, Blocked}
@@ -31,10 +34,10 @@ use Rattle.std.specs.Prelude.{sum_by, true}
 use Rattle.std.proofs.lemmas.List.Elements.{All-nil, All-cons}
 use Rattle.xc_model.specs.BackingRows.{phase_after, backed, EndsBack}
 use Rattle.xc_model.specs.RunningRows.{Calls, values_at}
-use Rattle.xc_model.specs.RecordCounts.{RecordCount, no_records, all_records, records_with, record_count, HasRecords, IsStuckIn}
+use Rattle.xc_model.specs.Recorded.{Recorded, no_records, all_records, records_with, HasRecords, IsStuckIn, block_records, saved_records}
 use Rattle.xc_turns.proofs.BlockRecords.{records-more, faults-more, no_faults, records_now, records_saved, open_alike}
-use Rattle.xc_turns.proofs.BlockRecords.{counted_block, of_block, few_in_block, none_blocks}
-use Rattle.xc_turns.proofs.CallRecords.{recorded_count}
+use Rattle.xc_turns.proofs.BlockRecords.{counted_block, of_block, few_in_block, none_blocks, IsInFront, save_in_front}
+use Rattle.xc_world.proofs.RecordsLeft.{as_many, front_records, more_records}
 use Rattle.xc_host.specs.Contents.{world_of}
 use Rattle.xc_data.specs.declared.entry.Mark.{Mark}
 use Rattle.xc_model.specs.declared.phase.Attempts.{Attempts}
@@ -125,13 +128,26 @@ waiting_told s begun entered f job told =
 abbrev stands_at : Setting → Position → BlockWalk
 stands_at s place = record { walk = walk_of s.script place; saved = place.saved }
 
--- how many records a transaction has by its calls and replies
-abbrev count_of : TxView → RecordCount
-count_of tx = all_records no_records tx.calls tx.replies
+-- which calls of a transaction left a record
+abbrev left_of : TxView → Recorded
+left_of tx = all_records no_records tx.calls tx.replies
 
--- how many it has
-abbrev all_of : TxView → ℕ
-all_of tx = length tx.undo.pending + length tx.undo.ended
+-- the records that have an end
+abbrev tried : List Ending → List Undo
+tried ended = map (λ (r : Ending). r.0) ended
+
+-- all records that it has
+abbrev all_of : TxView → List Undo
+all_of tx = tx.undo.pending ++ tried tx.undo.ended
+
+-- where none has an end, these are those without
+none_tried : (pending : List Undo) (ended : List Ending) → ended ≡ [] → pending ++ tried ended ≡ pending
+none_tried pending ended none = ap (λ es. pending ++ tried es) none ∙ append-nil pending
+
+-- one that was the newest without an end is the oldest with one
+newest_tried : (older pending : List Undo) (u : Undo) (e : UndoEnd) (ended : List Ending) → pending ≡ older ++ u ∷ []
+    → pending ++ tried ended ≡ older ++ tried ((u, e) ∷ ended)
+newest_tried older pending u e ended newest = ap (λ us. us ++ tried ended) newest ∙ append_assoc older (u ∷ []) (tried ended)
 
 -- a transaction that begins
 begun_underway : (s : Setting) (now : Moment) (f : Following) (job : JobView) → IsReady s now job → AreAttempts f job.attempts
@@ -210,8 +226,8 @@ running_phase s f place tx runs under = subst (IsInPhase s f place tx) runs unde
 
 -- its records, by its phase
 records_in : (s : Setting) (f : Following) (place : Position) (tx : TxView) (ph : Phase) → tx.phase ≡ ph → IsUnderway s f place tx
-    → HasRecordsIn (count_of tx) ph (all_of tx)
-records_in s f place tx ph is under = subst (λ p. HasRecordsIn (count_of tx) p (all_of tx)) is under.counted.now
+    → HasRecordsIn (left_of tx) ph (all_of tx)
+records_in s f place tx ph is under = subst (λ p. HasRecordsIn (left_of tx) p (all_of tx)) is under.counted.now
 
 -- past silent statements it stands on the same way
 same_way : (s : Setting) (old new : Position) → IsSamePosition s old new → stands_at s new ≡ stands_at s old
@@ -271,18 +287,21 @@ called_underway m f tx call now ahead runs asked row under =
       within = subst (IsWithinSave next.saved) (sym pending) (noted_within call tx.saved copy tx.undo.pending row.made pending running.within);
     } in
     let sided = sided_after tx.number call tx.me row.reply row.parts.me.places row.after.places under.sided in
-    let k = count_of tx in
+    let k = left_of tx in
     let more = records-more no_records tx.calls tx.replies call row.reply count in
-    let made : length row.made ≡ record_count call row.reply = row.count w ∙ recorded_count w tx.me tx.number call row.reply row.checked in
-    let had : all_of tx ≡ k.now = records_in s f m.job.place tx Running runs under in
-    let none : length tx.undo.ended ≡ 0 = ap length running.none in
-    let longer : length row.parts.undo.pending ≡ k.now + record_count call row.reply =
-    ap length pending ∙ length-append tx.undo.pending row.made ∙ (omega (arith, made, had, none)) in
-    let ended : length row.parts.undo.ended ≡ 0 = ap (λ (u : Records). length u.ended) row.undo ∙ none in
-    let now_count : all_of next ≡ (records_with k call row.reply).now = omega (arith, longer, ended, records_now k call row.reply ahead) in
+    let calls = k.now ++ left_by call row.reply in
+    let had : AreRecordsOf k.now tx.undo.pending =
+    subst (AreRecordsOf k.now) (none_tried tx.undo.pending tx.undo.ended running.none) (records_in s f m.job.place tx Running runs under) in
+    let are : AreRecordsOf calls row.parts.undo.pending = subst (AreRecordsOf calls) (sym pending)
+    (more_records k.now (left_by call row.reply) tx.undo.pending row.made had row.kinds) in
+    let ended : row.parts.undo.ended ≡ [] = ap (λ (u : Records). u.ended) row.undo ∙ running.none in
+    let all : AreRecordsOf calls (all_of next) = subst (AreRecordsOf calls) (sym (none_tried row.parts.undo.pending row.parts.undo.ended ended)) are in
+    let now_are : AreRecordsOf (records_with k call row.reply).now (all_of next) =
+    subst (λ cs. AreRecordsOf cs (all_of next)) (sym (records_now k call row.reply ahead)) all in
+    let longer : length row.parts.undo.pending ≡ length calls = as_many calls row.parts.undo.pending are in
     let counted : IsCounted next (records_with k call row.reply) = record {
-      now = subst (λ ph. HasRecordsIn (records_with k call row.reply) ph (all_of next)) (sym runs) now_count;
-      saved = records_saved k call row.reply tx.saved copy ahead longer under.counted.saved;
+      now = subst (λ ph. HasRecordsIn (records_with k call row.reply) ph (all_of next)) (sym runs) now_are;
+      saved = records_saved k call row.reply tx.saved copy longer under.counted.saved;
     } in
     record {
       goes_on = under.goes_on;
@@ -300,8 +319,8 @@ called_underway m f tx call now ahead runs asked row under =
       saved_sided = noted_sided call tx.saved copy sided under.saved_sided;
       together = ap is_some row.saved ∙ open_alike call m.job.place.saved tx.saved (values_at m) copy under.together;
       counted = subst (IsCounted next) (sym more) counted;
-      faults = faults-more s.rules.undo_tries no_records tx.calls tx.replies call row.reply count (no_faults s.rules.undo_tries k row.reply row.no_way_back)
-          under.faults;
+      faults = faults-more s.rules.undo_tries no_records tx.calls tx.replies call row.reply count
+          (no_faults s.rules.undo_tries (block_records k) row.reply row.no_way_back) under.faults;
       phase = subst (IsInPhase s f row.place next) (sym runs) phase;
     }
 
@@ -374,19 +393,23 @@ backs_one_underway s f place tx kept older u end backs is above newest legal und
       sided = under.sided;
       saved_sided = under.saved_sided;
       together = under.together;
-      counted = record { now = counted_so end (omega (arith, count, records_in s f place tx Backing backs under)); saved = under.counted.saved };
+      counted = record {
+        now = counted_so end (subst (AreRecordsOf (left_of tx).now) (newest_tried older tx.undo.pending u end tx.undo.ended newest)
+            (records_in s f place tx Backing backs under));
+        saved = under.counted.saved;
+      };
       faults = under.faults;
       phase = by_end end all_legal asked backing count;
     }
   where
-    counted_so : (e : UndoEnd) → length older + length ((u, e) ∷ tx.undo.ended) ≡ (count_of tx).now
-        → HasRecordsIn (count_of tx) (phase_after (length older + 1) e) (length older + length ((u, e) ∷ tx.undo.ended))
+    counted_so : (e : UndoEnd) → AreRecordsOf (left_of tx).now (older ++ tried ((u, e) ∷ tx.undo.ended))
+        → HasRecordsIn (left_of tx) (phase_after (length older + 1) e) (older ++ tried ((u, e) ∷ tx.undo.ended))
     counted_so (Undone faults) so = so
     counted_so (Failed done faults) so = so
     counted_so (Blocked by) so = so
 
-    saved_count : IsCountedSave (Some kept) (count_of tx).saved
-    saved_count = subst (λ o. IsCountedSave o (count_of tx).saved) is under.counted.saved
+    saved_count : IsCountedSave (Some kept) (left_of tx).saved
+    saved_count = subst (λ o. IsCountedSave o (left_of tx).saved) is under.counted.saved
 
     by_end : (e : UndoEnd) → AreLegal s.rules.undo_tries (length older + 1) ((u, e) ∷ tx.undo.ended) → next_of s.script f tx.replies ≡ ask.Call call.Back
         → IsBacking s f place tx → length tx.undo.pending ≡ length older + 1
@@ -408,7 +431,7 @@ backs_one_underway s f place tx kept older u end backs is above newest legal und
           caused = asked;
           legal = all_legal;
           stuck = (
-            of_block kept (count_of tx) (length older + 1) saved_count (omega (arith, above, count)),
+            of_block kept (left_of tx) (length older + 1) saved_count (omega (arith, above, count)),
             record {
               older = [];
               stuck = u;
@@ -443,13 +466,21 @@ ends_back_underway m f tx kept now backs is few row under =
     let count = asks-count begin tx.calls tx.replies under.asked in
     let answers : after_call was call.Back reply ≡ replied was reply = ap (λ a. after_ask was a reply) (sym backing.asked) in
     let stepped : stands_at s row.place ≡ after_call was call.Back reply = λ i. record { walk = row.walk i; saved = row.closed i } in
-    let k = count_of tx in
+    let k = left_of tx in
     let saved_count : IsCountedSave (Some kept) k.saved = subst (λ o. IsCountedSave o k.saved) is under.counted.saved in
     let above : length kept.trail ≤ length tx.undo.pending = subst (λ o. IsAboveSave o tx.undo.pending) is backing.within in
     let left : length tx.undo.pending ≡ length kept.trail = omega (arith, above, few) in
-    let all : all_of tx ≡ k.now = records_in s f m.job.place tx Backing backs under in
-    let before : unwrap_or k.saved k.now ≡ length kept.trail = ap (λ o. unwrap_or o k.now) (counted_block kept k saved_count) in
-    let counted : IsCounted (backed tx kept) (records_with k call.Back reply) = record { now = omega (arith, left, before); saved = tt } in
+    let all : AreRecordsOf k.now (all_of tx) = records_in s f m.job.place tx Backing backs under in
+    let (calls, before, same) = counted_block kept k saved_count in
+    let (block, front) = subst (λ o. IsInFront o k.now) before (save_in_front no_records tx.calls tx.replies tt) in
+    let older : AreRecordsOf calls tx.undo.pending = front_records calls block tx.undo.pending (tried tx.undo.ended) (left ∙ same)
+    (subst (λ cs. AreRecordsOf cs (all_of tx)) front all) in
+    let now_are : AreRecordsOf (unwrap_or k.saved k.now) (all_of (backed tx kept)) =
+    subst (λ o. AreRecordsOf (unwrap_or o k.now) (all_of (backed tx kept))) (sym before)
+    (subst (AreRecordsOf calls) (sym (append-nil tx.undo.pending)) older) in
+    let many : length tx.undo.pending + length tx.undo.ended ≡ length k.now =
+    omega (arith, as_many k.now (all_of tx) all, length-append tx.undo.pending (tried tx.undo.ended), length-map tx.undo.ended (λ (r : Ending). r.0)) in
+    let counted : IsCounted (backed tx kept) (records_with k call.Back reply) = record { now = now_are; saved = tt } in
     record {
       goes_on = under.goes_on;
       left = under.left;
@@ -466,7 +497,7 @@ ends_back_underway m f tx kept now backs is few row under =
       together = ap is_some row.closed;
       counted = subst (IsCounted (backed tx kept)) (sym (records-more no_records tx.calls tx.replies call.Back reply count)) counted;
       faults = faults-more tries no_records tx.calls tx.replies call.Back reply count
-          (few_in_block tries kept k tx.undo.pending tx.undo.ended saved_count left all backing.legal backing.undone) under.faults;
+          (few_in_block tries kept k tx.undo.pending tx.undo.ended saved_count left many backing.legal backing.undone) under.faults;
       phase = record {
         ahead = stepped ∙ answers ∙ ap (λ (b : BlockWalk). replied b reply) backing.ahead ∙ sym (answered-more begin tx.replies reply);
         none = refl;
@@ -503,11 +534,15 @@ cut_underway s f place tx m backs under =
 pub back_underway : (s : Setting) (f : Following) (old new : Position) (tx : TxView) (c : Cause) (undo : Records) (held : List Claim)
     → undo.ended ≡ tx.undo.ended → tx.phase ≡ Running → IsSamePosition s old new
     → (next_of s.script f tx.replies ≡ asked_at s old → IsCauseOf c (next_of s.script f tx.replies))
-    → (all_of tx ≡ (count_of tx).now → HasRecords (count_of tx) c (length undo.pending + length undo.ended))
-    → IsStuckIn (count_of tx) (length undo.pending + 1) undo.ended c
+    → (AreRecordsOf (left_of tx).now tx.undo.pending → HasRecords (left_of tx) c undo.pending)
+    → IsStuckIn (saved_records (left_of tx)) (length undo.pending + 1) undo.ended c
     → IsUnderway s f old tx → IsUnderway s f new (record tx { phase = Undoing c; undo = undo; held = held })
 back_underway s f old new tx c undo held ended runs same caused count stuck under =
     let running = running_phase s f old tx runs under in
+    let had : AreRecordsOf (left_of tx).now tx.undo.pending =
+    subst (AreRecordsOf (left_of tx).now) (none_tried tx.undo.pending tx.undo.ended running.none) (records_in s f old tx Running runs under) in
+    let has : HasRecords (left_of tx) c (undo.pending ++ tried undo.ended) =
+    subst (HasRecords (left_of tx) c) (sym (none_tried undo.pending undo.ended (ended ∙ running.none))) (count had) in
     record {
       goes_on = under.goes_on;
       left = under.left;
@@ -522,7 +557,7 @@ back_underway s f old new tx c undo held ended runs same caused count stuck unde
       sided = under.sided;
       saved_sided = under.saved_sided;
       together = ap is_some same.saved ∙ under.together;
-      counted = record { now = count (records_in s f old tx Running runs under); saved = under.counted.saved };
+      counted = record { now = has; saved = under.counted.saved };
       faults = under.faults;
       phase = record {
         caused = caused (ap (λ (b : BlockWalk). asks b.walk) (sym running.ahead));
@@ -626,7 +661,7 @@ ended_underway s f place tx end commits some under =
     }
 
 -- where a way back got stuck stays with one end more
-stuck_on : (k : RecordCount) (c : Cause) (from next : ℕ) (e : Ending) (ended : List Ending) → from ≡ next + 1 → IsStuckIn k from ended c
+stuck_on : (k : Option ℕ) (c : Cause) (from next : ℕ) (e : Ending) (ended : List Ending) → from ≡ next + 1 → IsStuckIn k from ended c
     → IsStuckIn k next (e ∷ ended) c
 stuck_on k (cause.Stuck failed) from next e ended one so =
     let newest = so.1 in (
@@ -655,11 +690,12 @@ tried_underway s f place tx c older u end undoes newest legal under =
     let undoing : IsUndoing s f tx c = subst (IsInPhase s f place tx) undoes under.phase in
     let next : TxView = record tx { undo = record { pending = older; ended = (u, end) ∷ tx.undo.ended } } in
     let count : length tx.undo.pending ≡ length older + 1 = ap length newest ∙ length-append older (u ∷ []) in
-    let as_many : all_of tx ≡ all_of next = omega (arith, count) in
+    let as_before : all_of tx ≡ all_of next = newest_tried older tx.undo.pending u end tx.undo.ended newest in
     let phase : IsUndoing s f next c = record {
       caused = undoing.caused;
       legal = (legal, subst (λ n. AreLegal s.rules.undo_tries (n + 1) tx.undo.ended) count undoing.legal);
-      stuck = stuck_on (count_of tx) c (length tx.undo.pending + 1) (length older + 1) (u, end) tx.undo.ended (omega (arith, count)) undoing.stuck;
+      stuck = stuck_on (saved_records (left_of tx)) c (length tx.undo.pending + 1) (length older + 1) (u, end) tx.undo.ended (omega (arith, count))
+          undoing.stuck;
       no_ends = undoing.no_ends;
     } in
     record {
@@ -676,7 +712,7 @@ tried_underway s f place tx c older u end undoes newest legal under =
       sided = under.sided;
       saved_sided = under.saved_sided;
       together = under.together;
-      counted = record { now = subst (HasRecordsIn (count_of tx) tx.phase) as_many under.counted.now; saved = under.counted.saved };
+      counted = record { now = subst (HasRecordsIn (left_of tx) tx.phase) as_before under.counted.now; saved = under.counted.saved };
       faults = under.faults;
       phase = subst (IsInPhase s f place next) (sym undoes) phase;
     }

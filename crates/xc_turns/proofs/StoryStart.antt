@@ -3,13 +3,16 @@ use Rattle.std.proofs.Common.{◌≡◌, ℕ, ◌+◌, ◌≤◌, List, [], ◌�
 use Rattle.std.proofs.Common.{append-nil}
 use Rattle.std.specs.Prelude.{Option, flat_map, get_or, slice_get, sum_by}
 use Rattle.std.specs.declared.option.Option.TheVariants.{None, Some}
+use Rattle.std.proofs.lemmas.List.Elements.{All-nil}
 use Rattle.std.proofs.lemmas.List.{length-map}
 use Rattle.std.proofs.lemmas.List.Sorted.{IsPermutation-refl}
 use Rattle.xc_data.specs.Counts.{RisesBy}
 use Rattle.xc_text.specs.declared.script.Script.{Script}
 use Rattle.xc_script.specs.Ask.{block_place, fresh_job}
+use Rattle.xc_data.specs.declared.entry.Entry.{Entry}
 use Rattle.xc_data.specs.declared.entry.Mark.{Mark}
 use Rattle.xc_model.specs.Setting.{Setting}
+use Rattle.xc_model.specs.EntryEnds.{IsUnrevoked, cause_in}
 use Rattle.xc_model.specs.Grounds.{Part}
 use Rattle.xc_model.specs.Progress.{Following, progress_of, untried}
 use Rattle.xc_model.specs.Counted.{tx_faults}
@@ -20,6 +23,7 @@ use Rattle.xc_model.specs.Moment.{TxView, JobView, Moment, actives}
 use Rattle.xc_model.specs.Words.{WordsAgree}
 use Rattle.xc_model.specs.Stories.{AreBegins, StoriesHold, StoryHolds, active_begin, active_parts, reading}
 use Rattle.xc_model.specs.Started.{blocks, started_by}
+use Rattle.xc_turns.proofs.HandledRows.{opened_handled}
 use Rattle.xc_turns.proofs.Jobs.{none_active, opened_rests}
 use Rattle.xc_turns.proofs.Sided.{opened_sided}
 
@@ -128,6 +132,11 @@ start_kept s now few opening =
     let kept : IsConsistent s now.faults first = record {
       told = start_told s (length s.script.outline.words) now.marks;
       attempts = tt;
+      patience = λ zero. record {
+        entries = All-nil (λ (e : Entry). IsUnrevoked (cause_in e.outcome));
+        active = λ j tx active. absurd (opened_rests s.script names j tx active);
+        marks = opening.marks;
+      };
       spoken = start_spoken s.script names s.script.outline.words;
       apart = start_apart s.script names;
       counted = start_counted s.script names now.faults;
@@ -137,5 +146,6 @@ start_kept s now few opening =
         holds = λ j tx active. absurd (opened_rests s.script names j tx active);
         starts = λ j tx active. absurd (opened_rests s.script names j tx active);
       };
+      handled = opened_handled s.script names now.calls refl opening.calls;
     } in
     subst (IsConsistent s now.faults) (sym same) kept

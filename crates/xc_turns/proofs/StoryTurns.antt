@@ -1,5 +1,5 @@
 -- Each turn goes on with the stories of all jobs.
-use Rattle.std.proofs.Common.{◌≡◌, inl, inr, ℕ, ◌+◌, ◌≤◌, IsTrue, List, [], ◌∷◌, ◌++◌, length, suc, refl, ap, ap₂, sym, ◌∙◌, subst, arith, length-append}
+use Rattle.std.proofs.Common.{◌≡◌, inl, inr, ℕ, ◌+◌, ◌≤◌, IsTrue, List, [], ◌∷◌, ◌++◌, length, suc, refl, ap, ap₂, sym, ◌∙◌, subst, arith}
 use Rattle.std.specs.Prelude.{Option, map, slice_get, slice_set}
 use Rattle.std.specs.declared.option.Option.TheVariants.{None, Some}
 use Rattle.std.specs.Option.{option_map}
@@ -162,7 +162,7 @@ module _ (s : Setting) (at : ℕ) (old new : Moment) (job : JobView) (b : Before
   conflict_row tx call active runs asked row =
       let c = cause.Conflict row.object row.holder (length old.journal) in
       active_row row.place tx (record tx { phase = Undoing c }) active refl
-      (λ f under. back_underway s f job.place row.place tx c tx.undo tx.held refl runs row.same (λ next. ap is_call (next ∙ asked)) (λ count. count) tt under)
+      (λ f under. back_underway s f job.place row.place tx c tx.undo tx.held refl runs row.same (λ next. ap is_call (next ∙ asked)) (λ are. are) tt under)
       (ap (λ (n : Moment). n.journal) row.behind) (ap (λ (n : Moment). n.jobs) row.behind)
 
   -- it is told to wait
@@ -182,7 +182,7 @@ module _ (s : Setting) (at : ℕ) (old new : Moment) (job : JobView) (b : Before
       active_row job.place tx (record tx { phase = Undoing (revoked m) }) active refl
       (λ f under. back_underway s f job.place job.place tx (revoked m) tx.undo tx.held refl runs
       (record { begin = record { block = refl; next = refl; begun = refl }; walk = refl; saved = refl; at = omega arith })
-      (λ next. tt) (λ count. count) tt under)
+      (λ next. tt) (λ are. are) tt under)
       (ap (λ (n : Moment). n.journal) row) (ap (λ (n : Moment). n.jobs) row)
 
   commits_row : (tx : TxView) → job.doing ≡ Active tx → tx.phase ≡ Running → asked_at s job.place ≡ ask.Commit → Commits (mover s at old job) tx new → After
@@ -194,7 +194,7 @@ module _ (s : Setting) (at : ℕ) (old new : Moment) (job : JobView) (b : Before
   turned_row : (tx : TxView) → job.doing ≡ Active tx → tx.phase ≡ Running → asked_at s job.place ≡ ask.Abort → TurnsBack (mover s at old job) tx new → After
   turned_row tx active runs asked row =
       active_row row.place tx (record tx { phase = Undoing cause.Asked }) active refl
-      (λ f under. back_underway s f job.place row.place tx cause.Asked tx.undo tx.held refl runs row.same (λ next. next ∙ asked) (λ count. count) tt under)
+      (λ f under. back_underway s f job.place row.place tx cause.Asked tx.undo tx.held refl runs row.same (λ next. next ∙ asked) (λ are. are) tt under)
       (ap (λ (n : Moment). n.journal) row.behind) (ap (λ (n : Moment). n.jobs) row.behind)
 
   wants_row : (tx : TxView) → job.doing ≡ Active tx → tx.phase ≡ Running → Wants (mover s at old job) tx new → After
@@ -202,7 +202,7 @@ module _ (s : Setting) (at : ℕ) (old new : Moment) (job : JobView) (b : Before
       let next = wanting tx row.left row.held in
       active_row row.place tx next active refl
       (λ f under. back_underway s f job.place row.place tx cause.NoMemory next.undo row.held refl runs row.same (λ asked. tt)
-      (λ count. let longer = length-append tx.undo.pending row.left in (omega (arith, count, longer), omega (arith, count, row.one, longer))) tt under)
+      (λ are. record { own = tx.undo.pending; more = row.left; are = are; one = row.one; parts = refl }) tt under)
       (ap (λ (n : Moment). n.journal) row.behind) (ap (λ (n : Moment). n.jobs) row.behind)
 
   late_row : (tx : TxView) (call : LateCall) (calls : List LateCall) → job.doing ≡ Active tx → tx.phase ≡ Committing → late_left tx ≡ call ∷ calls

@@ -11,6 +11,7 @@ use Rattle.xc_model.specs.Asked.{AreAskedBy, IsAskedBy, IsAskedEntry, ScriptJob,
 use Rattle.xc_model.specs.Asked.{next_of, script_job_of}
 use Rattle.xc_model.specs.Course.{Course, Standing, opening_course}
 use Rattle.xc_model.specs.Grounds.{Part, AreGrounded, scene_of}
+use Rattle.xc_model.specs.Handles.{IsHandledJournal}
 use Rattle.xc_model.specs.Joint.{AreTrue, IsAskedFor, IsEntry, IsJointJournal, IsPlayedOutcome, IsTrueEntry, asked_behind, entry_parts}
 use Rattle.xc_model.specs.Joint.{part_of, parts_from}
 use Rattle.xc_model.specs.Machine.{AreMachineTrue, HasLates, HasRecordsOf, IsEndAsked, IsMachineEntry, IsMachineTrue}
@@ -168,6 +169,7 @@ parts_of_joint s journal h =
         numbers = h.numbers;
         begins = h.begins;
         grounded = subst (λ (ps : List Part). AreGrounded (scene_of s.tells ps [])) (parts_same s journal) h.grounded;
+        handled = h.handled;
       };
       asked = subst (λ (js : List ScriptJob). AreAskedBy s.script js (lasts_from s.script js journal) journal) (jobs_opened s.script)
           (asked_all s p journal h.entries);
@@ -280,4 +282,5 @@ joint_of_parts s journal h =
       grounded = subst (λ (ps : List Part). AreGrounded (scene_of s.tells ps []))
           (ap (λ (xs : List Ask). machine_parts (opening_course s.script.outline) xs journal) lasts ∙ sym (parts_same s journal))
           h.machine.grounded;
+      handled = λ opaque. subst (λ (xs : List Ask). IsHandledJournal s.script.outline xs journal) lasts (h.machine.handled opaque);
     }

@@ -5,6 +5,7 @@ pub mod alone;
 pub mod counted;
 pub mod endings;
 pub mod growing;
+pub mod handled;
 pub mod holding;
 pub mod measured;
 pub mod numbers;

@@ -1,4 +1,4 @@
-ghost use Rattle.std.specs.Prelude.{ℕ, ◌≤◌, length, IsTrue};
+ghost use Rattle.std.specs.Prelude.{◌≡◌, ℕ, ◌≤◌, length, IsTrue};
 ghost use Rattle.xc_data.specs.declared.entry.Turn.{Turn};
 ghost use Rattle.xc_model.specs.Setting.{Setting};
 ghost use Rattle.xc_model.specs.Progress.{opening_progress, progress_of};
@@ -6,6 +6,7 @@ ghost use Rattle.xc_model.specs.Ending.{HaveAttemptsLeft};
 ghost use Rattle.xc_model.specs.Moment.{TxView, Moment};
 ghost use Rattle.xc_model.specs.Rows.{IsTurn};
 ghost use Rattle.xc_model.specs.Movers.{IsActiveAt};
+ghost use Rattle.xc_model.specs.Patience.{NoneIsRevoked};
 ghost use Rattle.xc_model.specs.Stories.{StoriesHold};
 ghost use Rattle.xc_model.specs.Played.{IsPlayedSoFar};
 ghost use Rattle.xc_model.specs.Started.{AreStarted};
@@ -33,4 +34,10 @@ pub fn a_turn_keeps_to_the_attempts()
     ensures { (s : Setting) (at : ℕ) (old new : Moment) (answer : Turn) → IsTurn s at old answer new
         → StoriesHold s (length old.words) old.marks old.journal old.jobs → HaveAttemptsLeft s (opening_progress s.script) old.journal
         → HaveAttemptsLeft s (opening_progress s.script) new.journal }
+{}
+
+/// Where no job may wait, a turn revokes nothing.
+pub fn a_turn_revokes_none_without_patience()
+    ensures { (s : Setting) (at : ℕ) (old new : Moment) (answer : Turn) → IsTurn s at old answer new → s.rules.patience ≡ 0
+        → NoneIsRevoked old → NoneIsRevoked new }
 {}
