@@ -133,7 +133,7 @@ module _ {H K : Type 0} (model : HostModel H) (seen_as : HostModel K) (a b : K) 
         stored = stored;
         made = k.made;
         one = k.one;
-        count = k.count;
+        kinds = k.kinds;
         undo = k.undo;
         in_time = in_time;
         uses = uses;

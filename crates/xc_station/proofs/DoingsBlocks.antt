@@ -13,7 +13,8 @@ use Rattle.xc_host.proofs.Called.{unused}
 use Rattle.xc_model.specs.PlainSteps.{saved_by, tx_parts}
 use Rattle.xc_model.specs.RunningRows.{opens_or_closes, is_way_back}
 use Rattle.xc_data.specs.declared.private.Private.{Private}
-use Rattle.xc_world.specs.Checks.{IsChecked, refusal_of, is_bad_handle, is_too_big, is_too_much, is_check_reply}
+use Rattle.xc_world.specs.Checks.{IsChecked, refusal_of, is_bad_handle, is_too_big, is_too_much}
+use Rattle.xc_world.specs.Replies.{may_reply}
 use Rattle.xc_world.specs.Fits.{is_back}
 use Rattle.xc_station.specs.Acting.{Acting, HasActedAsPlain, HasDoneAsPlain}
 use Rattle.xc_station.specs.Lent.{IsBacked}
@@ -41,7 +42,7 @@ block_done model call.Save old is stored =
       stored = stored;
       made = [];
       one = omega arith;
-      count = λ w. refl;
+      kinds = refl;
       undo = ap (λ us. record old.tx.undo { pending = us }) (sym (append_nil old.tx.undo.pending));
       in_time = in_time_now call.Save old.tx.me old.tx.number reply.Done refl refl;
       uses = record { made = []; named = refl; used = unused model old.host };
@@ -61,7 +62,7 @@ block_done model call.Keep old is stored =
       stored = stored;
       made = [];
       one = omega arith;
-      count = λ w. refl;
+      kinds = refl;
       undo = ap (λ us. record old.tx.undo { pending = us }) (sym (append_nil old.tx.undo.pending));
       in_time = in_time_now call.Keep old.tx.me old.tx.number reply.Done refl refl;
       uses = record { made = []; named = refl; used = unused model old.host };
@@ -84,9 +85,9 @@ block_acted model c old new (Err e) is same gives stored =
     subst (λ (a : Acting _). HasActedAsPlain model c old a (Err e)) (sym same) (nothing_left model c old)
 
 -- ---- a way back
-not_refused : (c : Call) (faults : ℕ) → is_back c ≡ false → is_check_reply c (reply.Undone faults) ≡ false → ⊥
-not_refused call.Back faults ahead checked = cc ahead
-not_refused _ faults ahead checked = cc checked
+never_undone : (c : Call) (faults : ℕ) → is_back c ≡ false → may_reply c (reply.Undone faults) ≡ true → ⊥
+never_undone call.Back faults ahead may = cc ahead
+never_undone _ faults ahead may = cc may
 
 -- a call that isn't a back never tells of one
 pub no_way_back : (c : Call) (me : Private) (r : Reply) → is_back c ≡ false → IsChecked (refusal_of c me) c r → is_way_back r ≡ false
@@ -98,5 +99,5 @@ no_way_back c me (reply.Undone faults) ahead checked =
     if_ended4 true b d is = cc is
     if_ended4 false true d is = cc is
     if_ended4 false false true is = cc is
-    if_ended4 false false false is = not_refused c faults ahead is
+    if_ended4 false false false is = never_undone c faults ahead is
 no_way_back c me _ ahead checked = refl

@@ -1,5 +1,5 @@
 -- A call that is out of memory for the variable that takes its reply leaves its part.
-use Rattle.std.proofs.Common.{◌≡◌, inl, inr, ℕ, true, false, List, [], ◌∷◌, ◌++◌, length, refl, ap, sym, ◌∙◌, subst, IsTrue, arith}
+use Rattle.std.proofs.Common.{◌≡◌, inl, inr, ℕ, true, false, List, [], ◌++◌, length, refl, ap, sym, ◌∙◌, subst, IsTrue, arith}
 use Rattle.std.proofs.lemmas.List.{append_cancel_left}
 use Rattle.std.specs.Prelude.{All, Option, Result, Ok, Err, IsErr, IsOk, is_err}
 use Rattle.std.specs.declared.option.Option.TheVariants.{None, Some}
@@ -11,7 +11,6 @@ use Rattle.xc_data.specs.declared.call.Reply.{Reply}
 use Rattle.xc_data.specs.declared.call.Reply.TheVariants as reply
 use Rattle.xc_data.specs.declared.entry.KeptItem.{KeptItem}
 use Rattle.xc_data.specs.declared.memory.NoMemory.{NoMemory}
-use Rattle.xc_data.specs.declared.private.Private.{Private}
 use Rattle.xc_buffers.specs.Items.{is_fit}
 use Rattle.xc_compensate.specs.Records.{Records}
 use Rattle.xc_host.specs.Contents.{contents_of, world_of}
@@ -29,6 +28,8 @@ use Rattle.xc_world.specs.Fits.{is_back, answer_of}
 use Rattle.xc_world.specs.Late.{kept_call}
 use Rattle.xc_world.specs.Run.{given_back, taken_by}
 use Rattle.xc_data.specs.Calls.{is_late}
+use Rattle.xc_data.specs.declared.undo.Undo.{Undo}
+use Rattle.xc_world.specs.RecordOf.{AreRecordsOf, left_by}
 use Rattle.xc_world.specs.Trail.{recorded}
 use Rattle.xc_model.specs.PlainSteps.{StopsAt, tx_parts, seen}
 use Rattle.xc_model.specs.Moment.{TxView}
@@ -103,10 +104,6 @@ unanswered model c old new behind reply d untaken ahead is brings =
     } in
     subst (λ a. LeavesOff model c old a) (sym is) now
 
-no_items : {A : Type 0} (xs : List A) → length xs ≡ 0 → xs ≡ []
-no_items [] none = refl
-no_items (x ∷ xs) none = cc none
-
 -- a call that takes at a moment, in one of the worlds that show it
 abbrev pub taking_at : {H : Type 0} → HostModel H → Call → Acting H → Acting H → Reply → Taking
 taking_at model d old new reply =
@@ -134,10 +131,10 @@ takes_alone (call.XReadPipe h n) takes = refl
 takes_alone (call.XRecvmsg h) takes = refl
 takes_alone d takes = cc takes
 
-takes_unrecorded : (w : World) (me : Private) (tx : ℕ) (d : Call) (r : Reply) → takes_data d ≡ true → length (recorded w me tx d r) ≡ 0
-takes_unrecorded w me tx (call.XReadPipe h n) r takes = refl
-takes_unrecorded w me tx (call.XRecvmsg h) r takes = refl
-takes_unrecorded w me tx d r takes = cc takes
+takes_unrecorded : (d : Call) (r : Reply) (made : List Undo) → takes_data d ≡ true → AreRecordsOf (left_by d r) made → made ≡ []
+takes_unrecorded (call.XReadPipe h n) r made takes kinds = kinds
+takes_unrecorded (call.XRecvmsg h) r made takes kinds = kinds
+takes_unrecorded d r made takes kinds = cc takes
 
 -- what it took was given back: all is as before
 pub taking_undone : {H : Type 0} (model : HostModel H) (d : Call) (old new behind : Acting H) (kept : List KeptItem) (reply : Reply)
@@ -149,8 +146,7 @@ pub taking_undone : {H : Type 0} (model : HostModel H) (d : Call) (old new behin
     → behind ≡ record new { kept = kept; tx = record new.tx { me = old.tx.me; taken = old.tx.taken } } → (value_in reply ≡ None → ⊥)
     → LeavesOff model d old behind
 taking_undone model d old new behind kept reply takes done lent sided fit given nothing is brings =
-    let w₀ = world_of (told_of model old) in
-    let none : done.made ≡ [] = no_items done.made (done.count w₀ ∙ takes_unrecorded w₀ old.tx.me old.tx.number d reply takes) in
+    let none : done.made ≡ [] = takes_unrecorded d reply done.made takes done.kinds in
     let undo : new.tx.undo ≡ record old.tx.undo { pending = old.tx.undo.pending ++ [] } =
     done.undo ∙ ap (λ us. record old.tx.undo { pending = old.tx.undo.pending ++ us }) none in
     let writes : new.tx.writes ≡ old.tx.writes =

@@ -27,7 +27,7 @@ use Rattle.xc_station.specs.Lent.{IsBacked}
 use Rattle.xc_station.proofs.Notes.{keeps_itself}
 use Rattle.xc_station.proofs.WordActs.{append_nil, word-act, word-after, word-checked, word-fine, word-quiet}
 use Rattle.xc_station.proofs.TakenAgain.{none_given, still_kept}
-use Rattle.xc_station.proofs.WordActs.{word-trail, word-uses}
+use Rattle.xc_station.proofs.WordActs.{word-kinds, word-trail, word-uses}
 use Rattle.xc_station.proofs.Doings.{in_time_now, none_taken, framed_now}
 
 -- ---- a call on words
@@ -83,7 +83,7 @@ module _ {H : Type 0} (model : HostModel H) (c : Call) (old : Acting H) (writes 
         stored = stored;
         made = [];
         one = omega arith;
-        count = λ w. ap length (sym (word-trail w old.tx.me old.tx.number c reply is));
+        kinds = word-kinds c reply is;
         undo = ap (λ us. record old.tx.undo { pending = us }) (sym (append_nil old.tx.undo.pending));
         in_time = in_time_now c old.tx.me old.tx.number reply at_once now;
         uses = record { made = []; named = word-uses old.tx.me c reply is; used = unused model old.host };

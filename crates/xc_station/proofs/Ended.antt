@@ -11,7 +11,8 @@ use Rattle.xc_model.specs.Moment.{JobView, Doing, Idle, Active, Starved, Ended, 
 use Rattle.xc_model.specs.Consistent.{AreLinesOf, IsLineOf}
 use Rattle.xc_model.specs.Counted.{tx_faults}
 use Rattle.xc_model.specs.Ending.{IsTrueEnd}
-use Rattle.xc_turns.proofs.Closings.{ends_told, journal_true, words_left}
+use Rattle.xc_model.specs.Handles.{AreCalled}
+use Rattle.xc_turns.proofs.Closings.{calls_true, ends_told, journal_true, words_left}
 use Rattle.xc_turns.proofs.Completions.{complete}
 use Rattle.xc_refines.proofs.AtRest.{at_rest}
 use Rattle.xc_station.specs.declared.job.Job.{Job}
@@ -51,12 +52,13 @@ pub true_end : (s : Setting) (faults : ℕ) (now : Moment) (lines : List JobLine
     → IsTrueEnd s now.journal (record { words = now.words; contents = now.contents; lines = lines })
 true_end s faults now lines steady over =
     let told = steady.kept.told in
-    let journal = journal_true s (length now.words) now.marks now.journal now.jobs lines told over in
+    let journal = journal_true s (length now.words) now.marks now.journal now.jobs now.calls lines told steady.kept.handled over in
     let ends = ends_told s (length now.words) now.marks now.journal now.jobs lines told over in
     record {
       journal = journal;
       few = let most = told.few in omega arith;
       attempts = steady.kept.attempts;
+      patience = λ zero. (steady.kept.patience zero).entries;
       words = words_left _ now.words now.jobs lines steady.kept.spoken over;
       state = λ tells. at_rest s now lines (steady.flying tells) over;
       ends = ends;
@@ -70,3 +72,8 @@ counted_end s faults now lines steady over =
     let none : sum_by entry_faults now.journal + sum_by tx_faults (actives now.jobs) ≡ sum_by entry_faults now.journal =
     ap (λ txs. sum_by entry_faults now.journal + sum_by tx_faults txs) (none_left now.jobs lines over) ∙ omega arith in
     subst (λ n. RisesBy n faults now.faults) none steady.kept.counted
+
+-- the host was called since its opening by the entries alone
+pub called_end : (s : Setting) (faults : ℕ) (now : Moment) (lines : List JobLine) → IsSteady s faults now → AreLinesOf now.jobs lines
+    → AreCalled s.script now.journal now.calls
+called_end s faults now lines steady over = calls_true s.script now.journal now.jobs now.calls lines steady.kept.handled over

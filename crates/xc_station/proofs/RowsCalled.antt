@@ -26,8 +26,6 @@ use Rattle.xc_txmem.specs.Overlay.{overlaid}
 use Rattle.xc_world.specs.After.{IsMeAfter}
 use Rattle.xc_world.specs.Checks.{IsChecked, refusal_of}
 use Rattle.xc_world.specs.Modes.{claims_of}
-use Rattle.xc_world.specs.Trail.{recorded}
-use Rattle.xc_world.specs.World.{World}
 use Rattle.xc_wordlocks.specs.Table.{claimed, mode_in, held_mode}
 use Rattle.xc_wordlocks.proofs.Held.{claimed-holding}
 use Rattle.xc_model.specs.declared.phase.Phase.TheVariants.{Undoing}
@@ -273,7 +271,7 @@ module _ {H : Type 0} (model : HostModel H) (s : Setting) (shared : Shared H) (n
               (subst (λ (t : TxView). Uses model (record { old = from.host; new = behind.host }) (CallsOf (refusal_of call t.me) call reply)) g.held d.uses);
           made = d.made;
           one = d.one;
-          count = subst (λ (t : TxView). (w : World) → length d.made ≡ length (recorded w t.me t.number call reply)) g.held d.count;
+          kinds = d.kinds;
           undo = d.undo ∙ ap (λ (t : TxView). record t.undo { pending = t.undo.pending ++ d.made }) g.held;
           stored = d.stored;
           stores = d.stores ∙ ap (λ ws. ws ++ stored_by (length behind.words) call) writes_old

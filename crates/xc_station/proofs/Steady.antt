@@ -14,7 +14,9 @@ use Rattle.xc_turns.proofs.Apart.{apart_kept}
 use Rattle.xc_turns.proofs.Attempts.{turn_leaves_attempts}
 use Rattle.xc_turns.proofs.CountedTurns.{turn_keeps_count}
 use Rattle.xc_turns.proofs.Grounding.{grounds_kept}
+use Rattle.xc_turns.proofs.HandledTurns.{turn_keeps_handles}
 use Rattle.xc_turns.proofs.Lefts.{measured}
+use Rattle.xc_turns.proofs.Patience.{turn_revokes_none}
 use Rattle.xc_turns.proofs.StartedTurns.{turn_keeps_started}
 use Rattle.xc_turns.proofs.WordTurns.{turn_keeps_words}
 use Rattle.xc_turns.proofs.StoryTurns.{a_turn_keeps_the_stories_but}
@@ -35,10 +37,12 @@ steady_kept s faults at old new answer steady turned =
         told = a_turn_keeps_the_stories_but s at old new answer turned steady.kept.spoken played steady.kept.started told
             (grounds_kept s at old new answer turned played told);
         attempts = turn_leaves_attempts s at old new answer turned told steady.kept.attempts;
+        patience = λ zero. turn_revokes_none s at old new answer turned zero (steady.kept.patience zero);
         spoken = turn_keeps_words s at old new answer turned steady.kept.apart steady.kept.spoken;
         apart = apart_kept s at old new answer turned steady.kept.apart;
         counted = turn_keeps_count s at faults old new answer turned told steady.kept.counted;
         started = turn_keeps_started s at old new answer turned told steady.kept.apart steady.kept.started;
+        handled = turn_keeps_handles s at old new answer turned told steady.kept.handled;
       };
       flying = λ tells. turn_flies s at old new answer tells turned told (steady.flying tells);
     }

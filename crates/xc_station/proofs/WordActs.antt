@@ -12,9 +12,11 @@ use Rattle.xc_host.specs.Uses.{CallsOf}
 use Rattle.xc_world.specs.World.{World}
 use Rattle.xc_world.specs.Act.{act}
 use Rattle.xc_world.specs.After.{IsMeAfter, bytes_in}
-use Rattle.xc_world.specs.Checks.{IsChecked, is_check_reply, refusal_of}
+use Rattle.xc_world.specs.Checks.{IsChecked, refusal_of}
+use Rattle.xc_world.specs.Replies.{may_reply}
 use Rattle.xc_world.specs.Act.Step.{step_to}
 use Rattle.xc_world.specs.Fits.{answer_of}
+use Rattle.xc_world.specs.RecordOf.{AreRecordsOf, left_by}
 use Rattle.xc_world.specs.Trail.{recorded}
 use Rattle.xc_data.specs.Faults.{is_fault_reply}
 use Rattle.xc_script.specs.Answers.{value_in}
@@ -66,6 +68,12 @@ word-trail w me tx (call.Load at) r is = refl
 word-trail w me tx (call.Store at value) r is = refl
 word-trail w me tx _ r is = cc
 
+-- and none over any host
+pub word-kinds : (c : Call) (r : Reply) → is_word_call c ≡ true → AreRecordsOf (left_by c r) []
+word-kinds (call.Load at) r is = refl
+word-kinds (call.Store at value) r is = refl
+word-kinds _ r is = cc
+
 quiet_load : (b : Bool) (n : ℕ) → is_fault_reply (if b then reply.BadWord else reply.Number n) ≡ false
 quiet_load true n = refl
 quiet_load false n = refl
@@ -81,18 +89,18 @@ word-quiet words (call.Store at value) is = quiet_store (nat_le (length words) a
 word-quiet words _ is = cc
 
 -- ---- what they leave of the private state, and of the host
-check_load : (b : Bool) (at n : ℕ) → is_check_reply (call.Load at) (if b then reply.BadWord else reply.Number n) ≡ false
-check_load true at n = refl
-check_load false at n = refl
+may_load : (b : Bool) (at n : ℕ) → may_reply (call.Load at) (if b then reply.BadWord else reply.Number n) ≡ true
+may_load true at n = refl
+may_load false at n = refl
 
-check_store : (b : Bool) (at value : ℕ) → is_check_reply (call.Store at value) (if b then reply.BadWord else reply.Done) ≡ false
-check_store true at value = refl
-check_store false at value = refl
+may_store : (b : Bool) (at value : ℕ) → may_reply (call.Store at value) (if b then reply.BadWord else reply.Done) ≡ true
+may_store true at value = refl
+may_store false at value = refl
 
--- no private check refuses one
+-- no private check refuses one, and its reply is one that may come
 pub word-checked : (words : List ℕ) (me : Private) (c : Call) → is_word_call c ≡ true → IsChecked (refusal_of c me) c (word_reply words c)
-word-checked words me (call.Load at) is = check_load (nat_le (length words) at) at (slice_index words at)
-word-checked words me (call.Store at value) is = check_store (nat_le (length words) at) at value
+word-checked words me (call.Load at) is = may_load (nat_le (length words) at) at (slice_index words at)
+word-checked words me (call.Store at value) is = may_store (nat_le (length words) at) at value
 word-checked words me _ is = cc
 
 bytes_load : (b : Bool) (n : ℕ) → bytes_in (if b then reply.BadWord else reply.Number n) ≡ 0

@@ -34,8 +34,7 @@ use Rattle.xc_world.specs.After.{IsMeAfter}
 use Rattle.xc_world.specs.Checks.{IsChecked, refusal_of}
 use Rattle.xc_world.specs.Late.{kept_call}
 use Rattle.xc_world.specs.Run.{taken_by}
-use Rattle.xc_world.specs.Trail.{recorded}
-use Rattle.xc_world.specs.World.{World}
+use Rattle.xc_world.specs.RecordOf.{AreRecordsOf, left_by}
 use Rattle.xc_model.specs.declared.phase.Phase.TheVariants.{Running}
 use Rattle.xc_model.specs.PlainSteps.{StepsAsPlainIn, LeavesAsPlainIn, IsReplyInTime, Parts, StopsAt, tx_parts, stored_by}
 use Rattle.xc_model.specs.Moment.{TxView}
@@ -155,7 +154,7 @@ module _ {H : Type 0} (model : HostModel H) (call : Call) (old new : Acting H) w
     pub stored : new.tx.me.stored ≤ 16384
     pub made : List Undo
     pub one : length made ≤ 1
-    pub count : (w : World) → length made ≡ length (recorded w old.tx.me old.tx.number call reply)
+    pub kinds : AreRecordsOf (left_by call reply) made
     pub undo : new.tx.undo ≡ record old.tx.undo { pending = old.tx.undo.pending ++ made }
     pub in_time : IsReplyInTime old.tx.me old.tx.number call reply
     pub uses : Uses model (record { old = old.host; new = new.host }) (CallsOf (refusal_of call old.tx.me) call reply)

@@ -13,3 +13,4 @@ pub mod Returning
 pub mod Starting
 pub mod Stations
 pub mod Waits
+pub mod Whole

@@ -187,7 +187,7 @@ abbrev pub numbers : ℕ → List ℕ
 numbers zero = []
 numbers (suc n) = numbers n ++ suc n ∷ []
 
--- one turn of each job that goes on, in rising number; a job that is started meanwhile is among them
+-- one turn of each job that goes on, in ascending order; a job that is started meanwhile is among them
 abbrev pub TakeRound : {H : Type 0} → HostModel H → StationView H → StationView H → Type 0
 TakeRound model old new = TakeTurns model (numbers (length new.jobs)) old new
 

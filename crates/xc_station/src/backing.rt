@@ -82,7 +82,7 @@ fn undo_one<H: Host>(host: &mut H, tries: u32, mark: u32, tx: &mut Tx)
     }
 }
 
-// The handles are these from now on; those of the begin are kept as they were, also where none had been kept yet.
+// The handles are these from now on; those of the start are kept as they were, also where none had been kept yet.
 fn put_handles(tx: &mut Tx, me: Box<Private>)
     ensures me { tx.new.me.value ≡ me.value }
     ensures begun { begun_of tx.new ≡ begun_of tx.old }

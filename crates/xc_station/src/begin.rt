@@ -150,8 +150,10 @@ fn take_room(
     ensures ok_place { OnOk result (place.new ≡ record place.old { begun = place.old.variables }) }
     ensures err_place { OnErr result (place.new ≡ place.old) }
 {
+    // Room in the journal that isn't used stays for the next begin.
     journal.reserve(spare)?;
     sentinels.begin(number, rank)?;
+    // Last, since a seat can be withdrawn without fail.
     if place.begin().is_err() {
         sentinels.withdraw(number);
         return Err(NoMemory);

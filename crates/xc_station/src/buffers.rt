@@ -105,8 +105,8 @@ impl Buffers {
         Ok(reply)
     }
 
-    /// Receives the first message for a side of a pair, what is kept first, with room to give it back. Memory is wanting where more is
-    /// noted than can be counted, too.
+    /// Receives the first message for a side of a pair, what is kept first, with room to give it back. It is out of
+    /// memory also where more is noted than can be counted.
     pub fn receive<H: Host>(
         &mut self,
         host: &mut H,

@@ -123,7 +123,7 @@ fn act<H: Host>(
         Call::XRead { h, n } => x_read(alloc, host, me, *h, *n),
         Call::XWriteOvr { h, bytes } => x_write_ovr(alloc, host, me, undo, *h, bytes),
         Call::XWriteSeq { h, bytes } => x_write_seq(host, me, undo, *h, bytes),
-        Call::XSeek { h, to } => Ok(x_seek(me, *h, *to)),
+        Call::XSeek { h, to } => Ok(x_seek(host, me, *h, *to)),
         Call::XLen { h } => Ok(x_len(host, me, *h)),
         Call::XClose { h } => Ok(x_close(me, *h)),
         Call::XRename { from, to } => x_rename(host, undo, from, to),

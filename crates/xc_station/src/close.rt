@@ -51,6 +51,7 @@ pub fn end_late<H: Host>(host: &mut H, buffers: &Buffers, job: &mut Job)
     ensures keeps { IsTrue H.model.tells → KeepsData (H.model.contents host.old) (H.model.contents host.new) }
     ensures children { job.new.children.items ≡ job.old.children.items }
 {
+    // The oldest that has no end: their script made them in this order.
     job.tx.late.do_one(host, buffers.kept());
 }
 
@@ -87,6 +88,7 @@ pub fn commit<H: Host>(alloc: Global, number: u32, job: &mut Job, shared: &mut S
 {
     job.activity = Activity::Idle;
     job.busy = 0;
+    // What it took is gone for good. Its notes go while it still holds its claims, so nobody else has any of these pipes and pairs.
     shared.buffers.let_go(alloc, &mut job.tx.taken);
     let Tx {
         calls,
@@ -94,11 +96,15 @@ pub fn commit<H: Host>(alloc: Global, number: u32, job: &mut Job, shared: &mut S
         late,
         ..
     } = &job.tx;
+    // Before the entry, which takes the calls, the replies and the ends with it.
     job.place
         .set_ends(calls.as_slice(), replies.as_slice(), late.ends());
+    // After the slots: the next transaction begins with the variables as they are now.
     go_on(&mut job.place, &mut job.attempts);
+    // Before the next one begins its handles are the job's.
     job.tx.renew();
     Closing {
+        // The claims go last: whoever gets an object then finds nothing of this transaction half done.
         entry: job.tx.close(alloc, number, &mut shared.sentinels),
         children: replace(&mut job.children, Vec::new(alloc)),
     }
@@ -185,12 +191,16 @@ pub fn abort<H: Host>(alloc: Global, number: u32, job: &mut Job, shared: &mut Sh
     ensures freed { GivesUpClaims shared.old.sentinels shared.new.sentinels (job_view job.old) }
     ensures children { job.new.children.items ≡ job.old.children.items }
 {
+    // Before the entry, which leaves the transaction without both.
     let cause = cause_of(&job.tx);
     let rank = job.tx.rank;
+    // What it took comes back while it still holds its claims, so it lies in front of all that others take.
     shared.buffers.give_back(&mut job.tx.taken);
+    // With the entry the claims go: all records have their ends, and what it took is back.
     let entry = job.tx.close(alloc, number, &mut shared.sentinels);
     job.activity = Activity::Idle;
     job.busy = 0;
+    // Last, since for want of memory the job isn't idle.
     go_back(job, rank, cause);
     entry
 }

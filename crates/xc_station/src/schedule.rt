@@ -38,7 +38,7 @@ pub fn work_alone<H: Host>(station: &mut Station<H>)
     ensures origin { KeepsOrigin station.old station.new }
     ensures front { IsFrontOf station.old.journal station.new.journal }
 
-    // It takes each job that isn't taken, in rising number, to its end, and no other.
+    // It takes each job that isn't taken, in ascending order, to its end, and no other.
     ensures taken { station.new.taken ≡ length station.new.jobs }
     ensures done { (number : ℕ) → station.old.taken < number → live_at station.new.jobs number ≡ false }
     ensures others { (number : ℕ) → number ≤ station.old.taken → live_at station.new.jobs number ≡ live_at station.old.jobs number }
@@ -85,7 +85,7 @@ fn round<H: Host>(station: &mut Station<H>) -> bool
     at > 0
 }
 
-/// Rounds of turns, in each one of every job that goes on, in rising number, until none does.
+/// Rounds of turns, in each one of every job that goes on, in ascending order, until none does.
 pub fn drain<H: Host>(station: &mut Station<H>)
     ensures origin { KeepsOrigin station.old station.new }
     ensures front { IsFrontOf station.old.journal station.new.journal }

@@ -51,17 +51,11 @@ pub struct Station<H: Host> {
 }
 
 impl<H: Host> Model for Station<H> {
-    ghost use Rattle.std.specs.Prelude.{◌≡◌, ◌≤◌, length, IsTrue};
     ghost use Rattle.std.specs.Coded.{codes};
-    ghost use Rattle.xc_host.specs.Model.{plan_of};
     ghost use Rattle.xc_script.specs.Position.{coded_position};
     ghost use Rattle.xc_sentinel.specs.Seated.{coded_seats};
-    ghost use Rattle.xc_model.specs.Setting.{setting};
-    ghost use Rattle.xc_station.specs.Backs.{AllBackSafely};
-    ghost use Rattle.xc_station.specs.Jobs.{job_views};
-    ghost use Rattle.xc_station.specs.Lent.{AreBacked};
-    ghost use Rattle.xc_station.specs.Places.{IndexesBlocks};
-    ghost use Rattle.xc_station.specs.Stations.{StationView, AreAhead, HasRooms, HasStarts, IsSteady, moment, room_of};
+    ghost use Rattle.xc_station.specs.Stations.{StationView};
+    ghost use Rattle.xc_station.specs.Whole.{IsWhole};
 
     ghost Value = { StationView H };
 
@@ -82,16 +76,18 @@ impl<H: Host> Model for Station<H> {
       last = s.last;
     } };
 
-    ghost invariant = { λ s. IsSteady (setting s.opening.script s.rules H.model.tells) s.opening.faults
-        (moment H.model s.shared s.journal.items s.jobs.items)
-        × HasRooms s.shared s.active s.journal.spare (moment H.model s.shared s.journal.items s.jobs.items) s.lines
-        × AreAhead s.jobs.items s.ahead.items
-        × (s.taken ≤ length s.jobs.items)
-        × (H.model.plan s.shared.host ≡ plan_of s.opening.script.outline.prologue)
-        × (IsTrue H.model.tells → AreBacked (H.model.contents s.shared.host) s.shared.buffers.kept (job_views s.jobs.items))
-        × IndexesBlocks s.opening.script s.places
-        × HasStarts s.opening.script s.shared.started.items s.jobs.items (room_of s.jobs s.lines s.ahead)
-        × AllBackSafely s.rules.undo_tries s.jobs.items };
+    ghost invariant = { λ s. IsWhole H.model (record {
+      opening = s.opening;
+      places = s.places;
+      rules = s.rules;
+      shared = s.shared;
+      journal = s.journal;
+      active = s.active;
+      jobs = s.jobs;
+      lines = s.lines;
+      ahead = s.ahead;
+      taken = s.taken;
+    }) };
 }
 
 // The name of the job of this number; none where no such job was started.

@@ -48,7 +48,7 @@ pub struct Tx {
     pub rank: u32,
     /// The length that the journal had at its begin.
     pub began: u32,
-    /// Whether a call may have changed the handles since the begin.
+    /// Whether a call may have changed the handles since the start.
     pub changed: bool,
     pub phase: Phase,
     /// What its calls did at the host.
@@ -57,7 +57,7 @@ pub struct Tx {
     pub late: Late,
     /// What its calls took from pipes and pairs.
     pub taken: Taken,
-    /// The handles of the begin, where one may have. Their place is made when the first call of the job may change one.
+    /// The handles of the start, where one may have. Their place is made when the first call of the job may change one.
     pub begun: Option<Box<Private>>,
     /// In an open block what its save kept; the stores keep their own.
     pub saved: Option<Saved>,
@@ -139,7 +139,7 @@ impl Tx {
         self.held = Holding::new(alloc);
     }
 
-    /// Keeps the handles of the begin, before a call changes one. Only the first time it takes memory; without it nothing is kept.
+    /// Keeps the handles of the start, before a call changes one. Only the first time it takes memory; without it nothing is kept.
     pub fn keep(&mut self, alloc: Global) -> Result<(), NoMemory>
         ensures tx { tx_view self.new ≡ tx_view self.old }
         ensures begun { begun_of self.new ≡ begun_of self.old }

@@ -33,7 +33,7 @@ use xc_text::Script;
 use xc_txmem::Words;
 use xc_world::opening_private;
 
-// The job of the block at this place, at the begin of it, with the prologue's handles.
+// The job of the block at this place, at the start of it, with the prologue's handles.
 fn opened_job(
     alloc: Global,
     script: &Script,
@@ -58,7 +58,7 @@ fn opened_job(
     })
 }
 
-// The jobs of the script's job blocks, each at the begin of its block.
+// The jobs of the script's job blocks, each at the start of its block.
 fn opened_jobs(
     alloc: Global,
     script: &Script,

@@ -60,7 +60,8 @@ returns-in-XSeek-clause-acted g c =
     let e = c.x_seek.ensures in
     let same = c.deref_mut-in-XSeek.ensures.value in
     let stored = ap (λ (me : Private). me.stored) same in
-    alone_acted_at g.H.Host.model _ _ _ _ _ _ same c.in-XSeek.is refl refl refl refl e.call (omega (arith, e.same.0, stored, c.requires.may.stored)) e.now
+    file_acted_at g.H.Host.model _ _ _ _ _ _ same c.in-XSeek.is refl refl refl refl refl (e.call c.args.tx.now.number c.args.tx.now.undo) refl
+    (omega (arith, e.same.0, stored, c.requires.may.stored)) e.now
 
 pub returns-in-XClose-clause-acted : goal.returns-in-XClose-clause-acted
 returns-in-XClose-clause-acted g c =

@@ -23,7 +23,7 @@ go_back-requires-clause-can g c =
     let is = lent station.jobs.items at PlainStage.Backing was (subst (λ v. IsStage v.jobs at PlainStage.Backing) (sym c.self.view_is) c.requires)
     c.index_mut.ensures.value in
     may_step_back model station.shared station.journal.items station.jobs.items at was station.opening.script station.rules station.opening.faults
-    station.active station.journal.spare station.lines c.self.invariant.0 c.self.invariant.1 is c.self.invariant.5
+    station.active station.journal.spare station.lines c.self.invariant.steady c.self.invariant.rooms is c.self.invariant.backed
 
 pub go_back-requires-clause-backs : goal.go_back-requires-clause-backs
 go_back-requires-clause-backs g c =
@@ -32,7 +32,7 @@ go_back-requires-clause-backs g c =
     let at = c.args.at in
     let is = lent station.jobs.items at PlainStage.Backing was (subst (λ v. IsStage v.jobs at PlainStage.Backing) (sym c.self.view_is) c.requires)
     c.index_mut.ensures.value in
-    may_go_back station.rules.undo_tries station.jobs.items at was c.self.invariant.8 is
+    may_go_back station.rules.undo_tries station.jobs.items at was c.self.invariant.undoable is
 
 pub invariant_of-self : goal.invariant_of-self
 invariant_of-self g c =
@@ -47,33 +47,36 @@ invariant_of-self g c =
     let job = c.go_back.new.job in
     let row = c.go_back.ensures.row (moment model station.shared station.journal.items station.jobs.items) at
     (stands_now model station.shared station.journal.items station.jobs.items at was station.opening.script station.rules station.opening.faults
-    station.active station.journal.spare station.lines c.self.invariant.0 c.self.invariant.1 PlainStage.Backing is) in
+    station.active station.journal.spare station.lines c.self.invariant.steady c.self.invariant.rooms PlainStage.Backing is) in
     let turned = backing_turned model station.shared station.journal.items station.jobs.items at was job is.there s shared' c.go_back.result row is
     c.go_back.ensures.started in
     let own = mine model station.shared station.journal.items station.jobs.items at was station.opening.script station.rules station.opening.faults
-    station.active station.journal.spare station.lines c.self.invariant.0 c.self.invariant.1 is in
-    let gave = c.go_back.ensures.returns own.tx own.doing in (
-      steady_kept s station.opening.faults at _ _ c.go_back.result c.self.invariant.0 turned,
-      rooms_backing model station.shared station.journal.items station.jobs.items at was job is.there s shared' c.go_back.result row own.tx gave.0 own.doing
-          gave.1 station.active station.journal.spare station.lines c.self.invariant.1 gave.2.noted,
-      ahead_kept station.jobs.items at was job station.ahead.items is.there (ap goes_on is.stage) c.self.invariant.2,
-      taken_kept station.jobs.items at job station.taken c.self.invariant.3,
-      c.go_back.ensures.plan ∙ c.self.invariant.4,
-      λ tells. backed_back model station.shared shared' station.jobs.items at was job own.tx gave.0 is.there own.doing gave.1 (c.self.invariant.5 tells)
+    station.active station.journal.spare station.lines c.self.invariant.steady c.self.invariant.rooms is in
+    let gave = c.go_back.ensures.returns own.tx own.doing in record {
+      steady = steady_kept s station.opening.faults at _ _ c.go_back.result c.self.invariant.steady turned;
+      rooms = rooms_backing model station.shared station.journal.items station.jobs.items at was job is.there s shared' c.go_back.result row own.tx
+          gave.0 own.doing
+          gave.1 station.active station.journal.spare station.lines c.self.invariant.rooms gave.2.noted;
+      ahead = ahead_kept station.jobs.items at was job station.ahead.items is.there (ap goes_on is.stage) c.self.invariant.ahead;
+      taken = taken_kept station.jobs.items at job station.taken c.self.invariant.taken;
+      plan = c.go_back.ensures.plan ∙ c.self.invariant.plan;
+      backed = λ tells. backed_back model station.shared shared' station.jobs.items at was job own.tx gave.0 is.there own.doing gave.1
+          (c.self.invariant.backed tells)
           tells gave.2
           (λ older u pending. back_elsewhere model station.shared station.journal.items station.jobs.items at was station.opening.script station.rules
-          station.opening.faults station.active station.journal.spare station.lines c.self.invariant.0 c.self.invariant.1 is older u pending
-          c.self.invariant.5 tells)
+          station.opening.faults station.active station.journal.spare station.lines c.self.invariant.steady c.self.invariant.rooms is older u pending
+          c.self.invariant.backed tells)
           (λ older u pending. back_untaken model station.shared station.journal.items station.jobs.items at was station.opening.script station.rules
-          station.opening.faults station.active station.journal.spare station.lines c.self.invariant.0 c.self.invariant.1 is older u pending tells),
-      c.self.invariant.6,
-      starts_still model station.shared shared' station.journal.items station.journal.items station.jobs.items at was job
-          (room_of station.jobs station.lines station.ahead) s station.opening.faults c.go_back.result c.self.invariant.0 is.there turned
+          station.opening.faults station.active station.journal.spare station.lines c.self.invariant.steady c.self.invariant.rooms is older u pending tells);
+      indexed = c.self.invariant.indexed;
+      starts = starts_still model station.shared shared' station.journal.items station.journal.items station.jobs.items at was job
+          (room_of station.jobs station.lines station.ahead) s station.opening.faults c.go_back.result c.self.invariant.steady is.there turned
           c.go_back.ensures.started
           (none_backing model station.shared station.journal.items station.jobs.items at was station.opening.script station.rules station.opening.faults
-          station.active station.journal.spare station.lines c.self.invariant.0 c.self.invariant.1 is) c.go_back.ensures.children c.self.invariant.7,
-      safely_set station.rules.undo_tries station.jobs.items at was job is.there c.go_back.ensures.backs c.self.invariant.8,
-    )
+          station.active station.journal.spare station.lines c.self.invariant.steady c.self.invariant.rooms is) c.go_back.ensures.children
+          c.self.invariant.starts;
+      undoable = safely_set station.rules.undo_tries station.jobs.items at was job is.there c.go_back.ensures.backs c.self.invariant.undoable;
+    }
 
 pub returns-clause-row : goal.returns-clause-row
 returns-clause-row g c =
@@ -88,7 +91,7 @@ returns-clause-row g c =
     let job = c.go_back.new.job in
     let row = c.go_back.ensures.row (moment model station.shared station.journal.items station.jobs.items) at
     (stands_now model station.shared station.journal.items station.jobs.items at was station.opening.script station.rules station.opening.faults
-    station.active station.journal.spare station.lines c.self.invariant.0 c.self.invariant.1 PlainStage.Backing is) in
+    station.active station.journal.spare station.lines c.self.invariant.steady c.self.invariant.rooms PlainStage.Backing is) in
     let turned = backing_turned model station.shared station.journal.items station.jobs.items at was job is.there s shared' c.go_back.result row is
     c.go_back.ensures.started in
     subst (λ v. IsTurn (setting_of model v) at (now_of model v) c.go_back.result

@@ -46,7 +46,7 @@ room : (g : Over) (c : After-index_mut g) → (1 ≤ c.self.inside.active) × (1
 room g c =
     let station = c.self.inside in
     has_room g.H.Host.model station.shared station.journal.items station.jobs.items c.args.at c.index_mut.result.now station.opening.script
-    station.rules station.opening.faults station.active station.journal.spare station.lines c.self.invariant.0 c.self.invariant.1
+    station.rules station.opening.faults station.active station.journal.spare station.lines c.self.invariant.steady c.self.invariant.rooms
     PlainStage.Committed (mine g c).tx (is_there g c) (mine g c).doing
 
 -- what it starts was started
@@ -56,14 +56,14 @@ within g c =
     let station = c.self.inside in
     children_within (setting station.opening.script station.rules g.H.Host.model.tells) station.opening.faults
     (moment g.H.Host.model station.shared station.journal.items station.jobs.items) station.jobs.items c.args.at c.index_mut.result.now
-    (room_of station.jobs station.lines station.ahead) c.self.invariant.0 refl (is_there g c).there c.self.invariant.7
+    (room_of station.jobs station.lines station.ahead) c.self.invariant.steady refl (is_there g c).there c.self.invariant.starts
 
 -- the jobs that join are those that it starts
 starts : (g : Over) (c : After-join g) (tx : TxView) → doing_of c.index_mut.result.now ≡ Active tx
     → job_views c.join.ensures.jobs.0 ≡ started_jobs c.self.inside.opening.script (job_view c.index_mut.result.now) tx
 starts g c tx does =
     c.join.ensures.jobs.2 ∙ ap (map child_view) c.commit-entry.ensures.children.0
-    ∙ c.self.invariant.7.children c.args.at c.index_mut.result.now (is_there g (goal.at.invariant_of-self g c).After-index_mut).there
+    ∙ c.self.invariant.starts.children c.args.at c.index_mut.result.now (is_there g (goal.at.invariant_of-self g c).After-index_mut).there
     ∙ ap (started_in c.self.inside.opening.script (job_view c.index_mut.result.now)) does
 
 -- with them the jobs are few
@@ -73,7 +73,7 @@ few g c =
     let children = ap length c.commit-entry.ensures.children.0 in
     let many = sym (length-map c.join.ensures.jobs.0 job_view) ∙ ap length c.join.ensures.jobs.2
     ∙ length-map c.commit-entry.result.children.items child_view in
-    let below = c.self.invariant.0.kept.started.few in
+    let below = c.self.invariant.steady.kept.started.few in
     omega (arith, all, children, many, below)
 
 -- the turn that it takes
@@ -101,7 +101,7 @@ pub commit-entry-requires-clause-table : goal.commit-entry-requires-clause-table
 commit-entry-requires-clause-table g c tx doing =
     let was = c.index_mut.result.now in
     let is = is_there g (goal.at.commit-entry-requires-clause-table g c).After-index_mut in
-    λ o. (c.self.invariant.1.claims o).held c.args.at tx
+    λ o. (c.self.invariant.rooms.claims o).held c.args.at tx
     (job_view was, get_map job_view c.self.inside.jobs.items c.args.at was is.there, ap active_in doing)
 
 pub commit-entry-requires-clause-next : goal.commit-entry-requires-clause-next
@@ -109,7 +109,7 @@ commit-entry-requires-clause-next g c =
     let station = c.self.inside in
     let before = (goal.at.commit-entry-requires-clause-next g c).After-index_mut in
     fits_next g.H.Host.model station.shared station.journal.items station.jobs.items c.args.at c.index_mut.result.now station.opening.script
-    station.rules station.opening.faults station.active station.journal.spare station.lines c.self.invariant.0 c.self.invariant.1
+    station.rules station.opening.faults station.active station.journal.spare station.lines c.self.invariant.steady c.self.invariant.rooms
     PlainStage.Committed (mine g before).tx (is_there g before) (mine g before).doing
 
 pub commit-entry-requires-clause-noted : goal.commit-entry-requires-clause-noted
@@ -118,7 +118,7 @@ commit-entry-requires-clause-noted g c =
     let jobs = c.self.inside.jobs.items in
     let is = is_there g (goal.at.commit-entry-requires-clause-noted g c).After-index_mut in
     let within = notes_within (job_views jobs) c.args.at (job_view was) (get_map job_view jobs c.args.at was is.there) in
-    let noted = c.self.invariant.1.noted in
+    let noted = c.self.invariant.rooms.noted in
     omega (arith, within, noted)
 
 pub enter-requires : goal.enter-requires
@@ -132,7 +132,7 @@ join-requires-clause-jobs g c =
     let all = within g (goal.at.join-requires-clause-jobs g c).After-index_mut in
     let children = ap length c.commit-entry.ensures.children.0 in
     let set = length_set c.self.inside.jobs.items c.args.at c.commit-entry.new.job in
-    let room = c.self.invariant.7.jobs_room in
+    let room = c.self.invariant.starts.jobs_room in
     omega (arith, all, children, set, room)
 
 pub join-requires-clause-few : goal.join-requires-clause-few
@@ -140,22 +140,22 @@ join-requires-clause-few g c =
     let all = within g (goal.at.join-requires-clause-few g c).After-index_mut in
     let children = ap length c.commit-entry.ensures.children.0 in
     let set = length_set c.self.inside.jobs.items c.args.at c.commit-entry.new.job in
-    let below = c.self.invariant.0.kept.started.few in
+    let below = c.self.invariant.steady.kept.started.few in
     omega (arith, all, children, set, below)
 
 pub join-requires-clause-ahead : goal.join-requires-clause-ahead
 join-requires-clause-ahead g c =
     let all = within g (goal.at.join-requires-clause-ahead g c).After-index_mut in
     let children = ap length c.commit-entry.ensures.children.0 in
-    let room = c.self.invariant.7.marks_room in
-    let count = c.self.invariant.2.count in
+    let room = c.self.invariant.starts.marks_room in
+    let count = c.self.invariant.ahead.count in
     omega (arith, all, children, count, room)
 
 pub join-requires-clause-marks : goal.join-requires-clause-marks
 join-requires-clause-marks g c =
     let is = is_there g (goal.at.join-requires-clause-marks g c).After-index_mut in
     ahead_kept c.self.inside.jobs.items c.args.at c.index_mut.result.now c.commit-entry.new.job c.self.inside.ahead.items is.there
-    (ap goes_on is.stage) c.self.invariant.2
+    (ap goes_on is.stage) c.self.invariant.ahead
 
 pub invariant_of-self : goal.invariant_of-self
 invariant_of-self g c =
@@ -183,31 +183,33 @@ invariant_of-self g c =
     let shown : job_views (slice_set jobs at job ++ more) ≡ job_views (slice_set jobs at job) ++ job_views more =
     map-append job_view (slice_set jobs at job) more in
     let counts = length-map more job_view in
-    let sets = length-map (slice_set jobs at job) job_view in (
-      subst (λ js. IsSteady s station.opening.faults (moment model shared' c.enter.new.self.items js)) (sym joins.1)
-          (steady_kept s station.opening.faults at _ _ turn.Went c.self.invariant.0 (turned g c)),
-      subst (λ js. HasRooms shared' (station.active - 1) c.enter.new.self.spare (moment model shared' c.enter.new.self.items js) station.lines) (sym joins.1)
+    let sets = length-map (slice_set jobs at job) job_view in record {
+      steady = subst (λ js. IsSteady s station.opening.faults (moment model shared' c.enter.new.self.items js)) (sym joins.1)
+          (steady_kept s station.opening.faults at _ _ turn.Went c.self.invariant.steady (turned g c));
+      rooms = subst (λ js. HasRooms shared' (station.active - 1) c.enter.new.self.spare (moment model shared' c.enter.new.self.items js) station.lines)
+          (sym joins.1)
           (subst (λ js. HasRooms shared' (station.active - 1) c.enter.new.self.spare
           (record (moment model shared' c.enter.new.self.items (slice_set jobs at job)) { jobs = js }) station.lines) (sym shown)
           (rooms_joined shared' (station.active - 1) c.enter.new.self.spare (moment model shared' c.enter.new.self.items (slice_set jobs at job))
           (job_views more) station.lines idle (omega (arith, few, counts, sets, set))
           (rooms_entered model station.shared station.journal.items jobs at was job station.active station.journal.spare station.lines is.there
-          c.self.invariant.1 s shared' c.enter.new.self.items c.enter.new.self.spare mine.tx c.self.invariant.0.kept.told mine.doing
+          c.self.invariant.rooms s shared' c.enter.new.self.items c.enter.new.self.spare mine.tx c.self.invariant.steady.kept.told mine.doing
           (ap active_of gave.0)
-          freed some.0 c.enter.ensures.spare c.commit-entry.ensures.gone.noted))),
-      c.join.ensures.marks,
-      (let taken = c.self.invariant.3 in let longer = ap length joins.1 ∙ length-append (slice_set jobs at job) more in omega (arith, taken, longer, set)),
-      ap model.plan c.commit-entry.ensures.same.0 ∙ c.self.invariant.4,
-      λ tells.
+          freed some.0 c.enter.ensures.spare c.commit-entry.ensures.gone.noted)));
+      ahead = c.join.ensures.marks;
+      taken = (let taken = c.self.invariant.taken in let longer = ap length joins.1 ∙ length-append (slice_set jobs at job) more in omega
+          (arith, taken, longer, set));
+      plan = ap model.plan c.commit-entry.ensures.same.0 ∙ c.self.invariant.plan;
+      backed = λ tells.
           subst (λ js. AreBacked (model.contents shared'.host) shared'.buffers.kept (job_views js)) (sym joins.1)
           (subst (AreBacked (model.contents shared'.host) shared'.buffers.kept) (sym shown)
           (backed_joined (model.contents shared'.host) shared'.buffers.kept (job_views (slice_set jobs at job)) (job_views more) idle
           (subst (λ h. AreBacked (model.contents h) shared'.buffers.kept (job_views (slice_set jobs at job))) (sym c.commit-entry.ensures.same.0)
           (backed_without _ _ _ jobs at was job is.there
-          (subst (All (IsBacked (model.contents station.shared.host))) (sym c.commit-entry.ensures.gone.kept) ((c.self.invariant.5 tells).kept))
-          (ap active_of gave.0) (c.self.invariant.5 tells))))),
-      c.self.invariant.6,
-      (let all = c.self.invariant.7 in
+          (subst (All (IsBacked (model.contents station.shared.host))) (sym c.commit-entry.ensures.gone.kept) ((c.self.invariant.backed tells).kept))
+          (ap active_of gave.0) (c.self.invariant.backed tells)))));
+      indexed = c.self.invariant.indexed;
+      starts = (let all = c.self.invariant.starts in
           let names : shared'.started.items ≡ station.shared.started.items = ap (λ (r : Roomy (List ℕ)). r.items) c.commit-entry.ensures.started in
           let count = ap length names in
           let rooms = c.join.ensures.rooms in
@@ -221,13 +223,13 @@ invariant_of-self g c =
             jobs_room = omega (arith, count, jobs_room, jobs');
             lines_room = omega (arith, count, lines_room);
             marks_room = omega (arith, count, marks_room, marks');
-          }),
-      subst (AllBackSafely station.rules.undo_tries) (sym joins.1)
+          });
+      undoable = subst (AllBackSafely station.rules.undo_tries) (sym joins.1)
           (backs_joined station.rules.undo_tries (slice_set jobs at job) more
           (backs_set station.rules.undo_tries jobs at was job is.there
-          (safe_without station.rules.undo_tries job (ap active_of gave.0)) c.self.invariant.8)
-          (backs_made station.rules.undo_tries more child_view c.commit-entry.result.children.items (λ child. refl) joins.2)),
-    )
+          (safe_without station.rules.undo_tries job (ap active_of gave.0)) c.self.invariant.undoable)
+          (backs_made station.rules.undo_tries more child_view c.commit-entry.result.children.items (λ child. refl) joins.2));
+    }
 
 pub returns-clause-row : goal.returns-clause-row
 returns-clause-row g c =

@@ -42,7 +42,7 @@ row : (g : Over) (c : After-begin-turn g) →
 row g c =
     let station = c.self.inside in
     c.begin-turn.ensures.row g.H.Host.model.tells (moment g.H.Host.model station.shared station.journal.items station.jobs.items) c.args.at
-    (record { entered = refl; active = c.self.invariant.1.count }) c.self.invariant.1.seats refl
+    (record { entered = refl; active = c.self.invariant.rooms.count }) c.self.invariant.rooms.seats refl
 
 -- the turn that it takes
 turned : (g : Over) (c : After-begin-turn g) (is : IsThere c.self.inside.jobs.items c.args.at PlainStage.Idle c.index_mut.result.now)
@@ -76,33 +76,34 @@ invariant_of-self g c =
     let went : c.begin-turn.result ≡ turn.Went = elim c.match-matches.branch [
       | in-Went w ↦ w.in-Went.is
       | in_default w ↦ let lacks : false ≡ true = sym w.matches-is ∙ c.if-matches.true in cc lacks
-    ] in (
-      steady_kept s station.opening.faults at _ _ c.begin-turn.result c.self.invariant.0 turned,
-      rooms_idle_went model station.shared station.journal.items station.jobs.items at was job station.active station.journal.spare station.lines is.there
-          c.self.invariant.1 s c.begin-turn.new.sentinels journal.items journal.spare c.begin-turn.result (ap active_in (idle_stage
-          (doing_of was) is.stage)) row c.begin-turn.ensures.claims c.begin-turn.ensures.seats c.self.invariant.0.kept.told
-          went (c.begin-turn.ensures.room.0 went),
-      ahead_kept station.jobs.items at was job station.ahead.items is.there (ap goes_on is.stage) c.self.invariant.2,
-      taken_kept station.jobs.items at job station.taken c.self.invariant.3,
-      c.self.invariant.4,
-      λ tells.
-          backed_jobs _ _ _ _ station.jobs.items at was job is.there (keeps_itself (model.contents station.shared.host)) ((c.self.invariant.5 tells).kept)
+    ] in record {
+      steady = steady_kept s station.opening.faults at _ _ c.begin-turn.result c.self.invariant.steady turned;
+      rooms = rooms_idle_went model station.shared station.journal.items station.jobs.items at was job station.active station.journal.spare station.lines
+          is.there
+          c.self.invariant.rooms s c.begin-turn.new.sentinels journal.items journal.spare c.begin-turn.result (ap active_in (idle_stage
+          (doing_of was) is.stage)) row c.begin-turn.ensures.claims c.begin-turn.ensures.seats c.self.invariant.steady.kept.told
+          went (c.begin-turn.ensures.room.0 went);
+      ahead = ahead_kept station.jobs.items at was job station.ahead.items is.there (ap goes_on is.stage) c.self.invariant.ahead;
+      taken = taken_kept station.jobs.items at job station.taken c.self.invariant.taken;
+      plan = c.self.invariant.plan;
+      backed = λ tells.
+          backed_jobs _ _ _ _ station.jobs.items at was job is.there (keeps_itself (model.contents station.shared.host)) ((c.self.invariant.backed tells).kept)
           (λ tx active. subst (All (IsBacked (model.contents station.shared.host)))
           (sym (idle_untaken model station.shared station.journal.items station.jobs.items at was job station.active station.journal.spare station.lines
-          is.there c.self.invariant.1 s c.begin-turn.new.sentinels journal.items journal.spare c.begin-turn.result
+          is.there c.self.invariant.rooms s c.begin-turn.new.sentinels journal.items journal.spare c.begin-turn.result
           (ap active_in (idle_stage (doing_of was) is.stage)) row c.begin-turn.ensures.claims c.begin-turn.ensures.seats tx active))
           (All-nil (IsBacked (model.contents station.shared.host))))
-          (c.self.invariant.5 tells),
-      c.self.invariant.6,
-      starts_still model station.shared (record station.shared { sentinels = c.begin-turn.new.sentinels })
+          (c.self.invariant.backed tells);
+      indexed = c.self.invariant.indexed;
+      starts = starts_still model station.shared (record station.shared { sentinels = c.begin-turn.new.sentinels })
           station.journal.items journal.items station.jobs.items at was job (room_of station.jobs station.lines station.ahead) s
-          station.opening.faults c.begin-turn.result c.self.invariant.0 is.there turned refl
-          (ap (started_in station.opening.script (job_view was)) (idle_stage (doing_of was) is.stage)) c.begin-turn.ensures.children c.self.invariant.7,
-      backs_set station.rules.undo_tries station.jobs.items at was job is.there
+          station.opening.faults c.begin-turn.result c.self.invariant.steady is.there turned refl
+          (ap (started_in station.opening.script (job_view was)) (idle_stage (doing_of was) is.stage)) c.begin-turn.ensures.children c.self.invariant.starts;
+      undoable = backs_set station.rules.undo_tries station.jobs.items at was job is.there
           (safe_idle s at (moment model station.shared station.journal.items station.jobs.items) (job_view was)
           (marks_of c.begin-turn.new.sentinels.seats) station.rules.undo_tries job (get_map job_view station.jobs.items at was is.there)
-          (idle_stage (doing_of was) is.stage) c.begin-turn.result row) c.self.invariant.8,
-    )
+          (idle_stage (doing_of was) is.stage) c.begin-turn.result row) c.self.invariant.undoable;
+    }
 
 pub invariant_of-self-else-matches : goal.invariant_of-self-else-matches
 invariant_of-self-else-matches g c =
@@ -119,33 +120,34 @@ invariant_of-self-else-matches g c =
     let ended : c.begin-turn.result ≢ turn.Went = elim c.match-matches.branch [
       | in-Went w ↦ let lacks : true ≡ false = sym w.matches-is ∙ c.if-matches.false in cc lacks
       | in_default w ↦ λ e. w.in_default.not-Went e
-    ] in (
-      steady_kept s station.opening.faults at _ _ c.begin-turn.result c.self.invariant.0 turned,
-      rooms_idle_halted model station.shared station.journal.items station.jobs.items at was job station.active station.journal.spare station.lines is.there
-          c.self.invariant.1 s c.begin-turn.new.sentinels journal.items journal.spare c.begin-turn.result
+    ] in record {
+      steady = steady_kept s station.opening.faults at _ _ c.begin-turn.result c.self.invariant.steady turned;
+      rooms = rooms_idle_halted model station.shared station.journal.items station.jobs.items at was job station.active station.journal.spare station.lines
+          is.there
+          c.self.invariant.rooms s c.begin-turn.new.sentinels journal.items journal.spare c.begin-turn.result
           (ap active_in (idle_stage (doing_of was) is.stage)) row
-          c.begin-turn.ensures.claims c.begin-turn.ensures.seats ended c.begin-turn.ensures.room.1,
-      ahead_kept station.jobs.items at was job station.ahead.items is.there (ap goes_on is.stage) c.self.invariant.2,
-      taken_kept station.jobs.items at job station.taken c.self.invariant.3,
-      c.self.invariant.4,
-      λ tells.
-          backed_jobs _ _ _ _ station.jobs.items at was job is.there (keeps_itself (model.contents station.shared.host)) ((c.self.invariant.5 tells).kept)
+          c.begin-turn.ensures.claims c.begin-turn.ensures.seats ended c.begin-turn.ensures.room.1;
+      ahead = ahead_kept station.jobs.items at was job station.ahead.items is.there (ap goes_on is.stage) c.self.invariant.ahead;
+      taken = taken_kept station.jobs.items at job station.taken c.self.invariant.taken;
+      plan = c.self.invariant.plan;
+      backed = λ tells.
+          backed_jobs _ _ _ _ station.jobs.items at was job is.there (keeps_itself (model.contents station.shared.host)) ((c.self.invariant.backed tells).kept)
           (λ tx active. subst (All (IsBacked (model.contents station.shared.host)))
           (sym (idle_untaken model station.shared station.journal.items station.jobs.items at was job station.active station.journal.spare station.lines
-          is.there c.self.invariant.1 s c.begin-turn.new.sentinels journal.items journal.spare c.begin-turn.result
+          is.there c.self.invariant.rooms s c.begin-turn.new.sentinels journal.items journal.spare c.begin-turn.result
           (ap active_in (idle_stage (doing_of was) is.stage)) row c.begin-turn.ensures.claims c.begin-turn.ensures.seats tx active))
           (All-nil (IsBacked (model.contents station.shared.host))))
-          (c.self.invariant.5 tells),
-      c.self.invariant.6,
-      starts_still model station.shared (record station.shared { sentinels = c.begin-turn.new.sentinels })
+          (c.self.invariant.backed tells);
+      indexed = c.self.invariant.indexed;
+      starts = starts_still model station.shared (record station.shared { sentinels = c.begin-turn.new.sentinels })
           station.journal.items journal.items station.jobs.items at was job (room_of station.jobs station.lines station.ahead) s
-          station.opening.faults c.begin-turn.result c.self.invariant.0 is.there turned refl
-          (ap (started_in station.opening.script (job_view was)) (idle_stage (doing_of was) is.stage)) c.begin-turn.ensures.children c.self.invariant.7,
-      backs_set station.rules.undo_tries station.jobs.items at was job is.there
+          station.opening.faults c.begin-turn.result c.self.invariant.steady is.there turned refl
+          (ap (started_in station.opening.script (job_view was)) (idle_stage (doing_of was) is.stage)) c.begin-turn.ensures.children c.self.invariant.starts;
+      undoable = backs_set station.rules.undo_tries station.jobs.items at was job is.there
           (safe_idle s at (moment model station.shared station.journal.items station.jobs.items) (job_view was)
           (marks_of c.begin-turn.new.sentinels.seats) station.rules.undo_tries job (get_map job_view station.jobs.items at was is.there)
-          (idle_stage (doing_of was) is.stage) c.begin-turn.result row) c.self.invariant.8,
-    )
+          (idle_stage (doing_of was) is.stage) c.begin-turn.result row) c.self.invariant.undoable;
+    }
 
 pub returns-then-matches-clause-row : goal.returns-then-matches-clause-row
 returns-then-matches-clause-row g c =
@@ -172,4 +174,4 @@ begin-turn-requires-clause-new g c =
     let was = c.index_mut.result.now in
     let station = c.self.inside in
     next_unseated g.H.Host.model station.shared station.journal.items station.jobs.items c.args.at was station.opening.script station.rules
-    station.opening.faults station.active station.journal.spare station.lines c.self.invariant.0 c.self.invariant.1
+    station.opening.faults station.active station.journal.spare station.lines c.self.invariant.steady c.self.invariant.rooms

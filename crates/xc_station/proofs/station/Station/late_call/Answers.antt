@@ -36,7 +36,7 @@ end_late-requires g c =
     let is = lent station.jobs.items at PlainStage.Committing was (subst (λ v. IsStage v.jobs at PlainStage.Committing) (sym c.self.view_is) c.requires.stage)
     c.index_mut.ensures.value in
     let may = may_end_late model station.shared station.journal.items station.jobs.items at was station.opening.script station.rules
-    station.opening.faults station.active station.journal.spare station.lines c.self.invariant.0 c.self.invariant.1 c.self.invariant.5 is in
+    station.opening.faults station.active station.journal.spare station.lines c.self.invariant.steady c.self.invariant.rooms c.self.invariant.backed is in
     let none : next_thread (late_left may.0) ≡ None =
     subst (λ v. (job : Job) → slice_get v.jobs at ≡ Some job → (t : TxView) → doing_of job ≡ Active t → next_thread (late_left t) ≡ None)
     (sym c.self.view_is) c.requires.hosted was is.there may.0 may.1 in
@@ -59,18 +59,18 @@ invariant_of-self g c =
     let turned = committing_turned model station.shared station.journal.items station.jobs.items at was s shared' job (λ tells. tells) is
     none c.end_late.ensures.ends (refl, refl, refl, refl) in
     let mine = committing_stage (doing_of was) is.stage in
-    let gave = c.end_late.ensures.ends mine.tx mine.next mine.later mine.doing mine.left in (
-      steady_kept s station.opening.faults at _ _ turn.Went c.self.invariant.0 turned,
-      rooms_going model station.shared station.journal.items station.jobs.items at was job station.active station.journal.spare station.lines is.there
-          c.self.invariant.1 s shared' mine.tx (with_queue mine.tx gave.0) c.self.invariant.0.kept.told refl mine.doing (ap (λ j. j.doing) gave.1)
-          refl refl refl refl refl,
-      ahead_kept station.jobs.items at was job station.ahead.items is.there (ap goes_on is.stage) c.self.invariant.2,
-      taken_kept station.jobs.items at job station.taken c.self.invariant.3,
-      gave.2.uses.used.plan ∙ c.self.invariant.4,
-      λ tells.
+    let gave = c.end_late.ensures.ends mine.tx mine.next mine.later mine.doing mine.left in record {
+      steady = steady_kept s station.opening.faults at _ _ turn.Went c.self.invariant.steady turned;
+      rooms = rooms_going model station.shared station.journal.items station.jobs.items at was job station.active station.journal.spare station.lines is.there
+          c.self.invariant.rooms s shared' mine.tx (with_queue mine.tx gave.0) c.self.invariant.steady.kept.told refl mine.doing (ap (λ j. j.doing) gave.1)
+          refl refl refl refl refl;
+      ahead = ahead_kept station.jobs.items at was job station.ahead.items is.there (ap goes_on is.stage) c.self.invariant.ahead;
+      taken = taken_kept station.jobs.items at job station.taken c.self.invariant.taken;
+      plan = gave.2.uses.used.plan ∙ c.self.invariant.plan;
+      backed = λ tells.
           let c' = model.contents station.shared.host in
           let d = model.contents c.end_late.new.host in
-          let are = c.self.invariant.5 tells in
+          let are = c.self.invariant.backed tells in
           let keeps = c.end_late.ensures.keeps tells in
           let took = still_backed c' d mine.tx.taken keeps
           (are.taken at mine.tx (job_view was, get_map job_view station.jobs.items at was is.there, ap active_in mine.doing)) in
@@ -79,19 +79,19 @@ invariant_of-self g c =
           let both : Some (with_queue mine.tx gave.0) ≡ Some tx = ap active_in (sym (ap (λ j. j.doing) gave.1)) ∙ active in
           let one : with_queue mine.tx gave.0 ≡ tx = cc both in
           subst (λ (t : TxView). All (IsBacked d) t.taken) one took)
-          are,
-      c.self.invariant.6,
-      starts_set s.script station.shared.started.items station.jobs.items (room_of station.jobs station.lines station.ahead) at was job is.there
-          (ap (map child_view) c.end_late.ensures.children ∙ c.self.invariant.7.children at was is.there
+          are;
+      indexed = c.self.invariant.indexed;
+      starts = starts_set s.script station.shared.started.items station.jobs.items (room_of station.jobs station.lines station.ahead) at was job is.there
+          (ap (map child_view) c.end_late.ensures.children ∙ c.self.invariant.starts.children at was is.there
           ∙ ap (started_in s.script (job_view was)) mine.doing
           ∙ sym (hosted_same s.script (job_view was) mine.tx mine.next mine.later gave.2.end mine.left
           (sym (ap next_thread mine.left) ∙ none mine.tx mine.doing))
           ∙ sym (ap (λ (j : JobView). started_in s.script j j.doing)
-          (gave.1 ∙ ap (λ (queue : Queue). with_tx (job_view was) was.place (with_queue mine.tx queue)) gave.2.noted))) c.self.invariant.7,
-      backs_set station.rules.undo_tries station.jobs.items at was job is.there
+          (gave.1 ∙ ap (λ (queue : Queue). with_tx (job_view was) was.place (with_queue mine.tx queue)) gave.2.noted))) c.self.invariant.starts;
+      undoable = backs_set station.rules.undo_tries station.jobs.items at was job is.there
           (safe_ending station.rules.undo_tries job (with_queue mine.tx gave.0) (ap (λ (j : JobView). j.doing) gave.1) (ap runs mine.phase))
-          c.self.invariant.8,
-    )
+          c.self.invariant.undoable;
+    }
 
 pub returns-clause-row : goal.returns-clause-row
 returns-clause-row g c =

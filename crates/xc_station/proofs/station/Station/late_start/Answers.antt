@@ -114,31 +114,33 @@ invariant_of-self g c =
     let items = items g before job in
     let tx' : TxView = record mine.tx { ends = mine.tx.ends ++ c.start_job-end.result ∷ [] } in
     let place = get_map job_view jobs at was is.there in
-    let all = c.self.invariant.7 in (
-      subst (λ js. IsSteady s station.opening.faults (moment model shared' station.journal.items js)) (sym items)
-          (steady_kept s station.opening.faults at _ _ turn.Went c.self.invariant.0 (turned g before job c.end_start.ensures.ends)),
-      subst (λ js. HasRooms shared' station.active station.journal.spare (moment model shared' station.journal.items js) c.start_job-end.new.lines) (sym items)
+    let all = c.self.invariant.starts in record {
+      steady = subst (λ js. IsSteady s station.opening.faults (moment model shared' station.journal.items js)) (sym items)
+          (steady_kept s station.opening.faults at _ _ turn.Went c.self.invariant.steady (turned g before job c.end_start.ensures.ends));
+      rooms = subst (λ js. HasRooms shared' station.active station.journal.spare (moment model shared' station.journal.items js) c.start_job-end.new.lines)
+          (sym items)
           (rooms_relined shared' station.active station.journal.spare (moment model shared' station.journal.items (slice_set jobs at job)) station.lines
           c.start_job-end.new.lines started.same.0
           (rooms_going model station.shared station.journal.items jobs at was job station.active station.journal.spare station.lines is.there
-          c.self.invariant.1 s shared' mine.tx tx' c.self.invariant.0.kept.told refl mine.doing (ap (λ (j : JobView). j.doing) (gives mine.tx mine.doing))
-          refl refl refl refl refl)),
-      subst (λ js. AreAhead js c.start_job-end.new.ahead.items) (sym items)
+          c.self.invariant.rooms s shared' mine.tx tx' c.self.invariant.steady.kept.told refl mine.doing
+          (ap (λ (j : JobView). j.doing) (gives mine.tx mine.doing))
+          refl refl refl refl refl));
+      ahead = subst (λ js. AreAhead js c.start_job-end.new.ahead.items) (sym items)
           (subst (AreAhead (slice_set jobs at job)) (sym started.same.1)
-          (ahead_kept jobs at was job station.ahead.items is.there (ap goes_on is.stage) c.self.invariant.2)),
-      subst (λ js. station.taken ≤ length js) (sym items) (taken_kept jobs at job station.taken c.self.invariant.3),
-      c.self.invariant.4,
-      λ tells.
-          let are = c.self.invariant.5 tells in
+          (ahead_kept jobs at was job station.ahead.items is.there (ap goes_on is.stage) c.self.invariant.ahead));
+      taken = subst (λ js. station.taken ≤ length js) (sym items) (taken_kept jobs at job station.taken c.self.invariant.taken);
+      plan = c.self.invariant.plan;
+      backed = λ tells.
+          let are = c.self.invariant.backed tells in
           subst (λ js. AreBacked (model.contents station.shared.host) station.shared.buffers.kept (job_views js)) (sym items)
           (backed_jobs _ _ _ _ jobs at was job is.there (keeps_itself (model.contents station.shared.host)) are.kept
           (λ tx active.
           let both : Some tx' ≡ Some tx = ap active_in (sym (ap (λ (j : JobView). j.doing) (gives mine.tx mine.doing))) ∙ active in
           let one : tx' ≡ tx = cc both in
           subst (λ (t : TxView). All (IsBacked (model.contents station.shared.host)) t.taken) one
-          (are.taken at mine.tx (job_view was, place, ap active_in mine.doing))) are),
-      c.self.invariant.6,
-      record {
+          (are.taken at mine.tx (job_view was, place, ap active_in mine.doing))) are);
+      indexed = c.self.invariant.indexed;
+      starts = record {
         children = subst (λ js. (j : ℕ) (x : Job) → slice_get js j ≡ Some x → HasChildren s.script x) (sym items)
             ((starts_set s.script station.shared.started.items jobs (room_of station.jobs station.lines station.ahead) at was job is.there
             (ap (map child_view) c.end_start.ensures.children
@@ -150,12 +152,12 @@ invariant_of-self g c =
         jobs_room = started.jobs_room all.jobs_room;
         lines_room = started.lines_room all.lines_room;
         marks_room = started.ahead_room all.marks_room;
-      },
-      subst (AllBackSafely station.rules.undo_tries) (sym items)
+      };
+      undoable = subst (AllBackSafely station.rules.undo_tries) (sym items)
           (backs_set station.rules.undo_tries jobs at was job is.there
           (safe_ending station.rules.undo_tries job tx' (ap (λ (j : JobView). j.doing) (gives mine.tx mine.doing)) (ap runs mine.phase))
-          c.self.invariant.8),
-    )
+          c.self.invariant.undoable);
+    }
 
 pub returns-clause-row : goal.returns-clause-row
 returns-clause-row g c =

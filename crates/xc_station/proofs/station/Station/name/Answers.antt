@@ -15,7 +15,7 @@ returns-clause-told g c =
     let job = c.args.job in
     let s = setting station.opening.script station.rules model.tells in
     let now = moment model station.shared station.journal.items station.jobs.items in
-    let kept = c.self.invariant.0.kept in
+    let kept = c.self.invariant.steady.kept in
     let same = c.name_in.ensures ∙ ap (λ (names : List (List ℕ)). name_at names job) c.as_slice.ensures in
     subst (λ (v : StationView g.row.H.Denot). 1 ≤ job → job ≤ length v.jobs → IsNameOf v.opening.script v.journal job c.name_in.result) c.self.view_is
     (λ some few. subst (λ (name : Option (List ℕ)). IsNameOf station.opening.script station.journal.items job name) (sym same)

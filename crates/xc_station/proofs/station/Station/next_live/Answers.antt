@@ -11,7 +11,7 @@ loop-next-init g c =
     let jobs = ap (λ v. v.jobs) c.self.view_is in
     let next = c.index-next.result.now in
     subst (λ js. IsAhead js c.args.above next) jobs
-    (read_ahead c.self.inside.jobs.items c.self.inside.ahead.items c.args.above next c.self.invariant.2
+    (read_ahead c.self.inside.jobs.items c.self.inside.ahead.items c.args.above next c.self.invariant.ahead
     (subst (λ js. c.args.above ≤ length js) (sym jobs) c.requires) c.index-next.ensures)
 
 pub loop-next-smaller : goal.loop-next-smaller
@@ -22,7 +22,8 @@ loop-next-smaller g c =
     let test = c.loop-next-test.true in
     let count = c.count.ensures.all in
     let low : c.loop-next.next ≤ length c.self.inside.jobs.items = omega (arith, same, test, count) in
-    let far = read_ahead c.self.inside.jobs.items c.self.inside.ahead.items c.loop-next.next after c.self.invariant.2 low c.index-next-in-loop-next.ensures in
+    let far = read_ahead c.self.inside.jobs.items c.self.inside.ahead.items c.loop-next.next after c.self.invariant.ahead low
+    c.index-next-in-loop-next.ensures in
     let above = far.above in
     omega (arith, above, low, same)
 
@@ -35,26 +36,27 @@ loop-next-preserved g c =
     let count = c.count.ensures.all in
     further_ahead c.args.self.now.jobs c.args.above c.loop-next.next after c.loop-next.invariant (sym c.live.ensures ∙ c.if-not-live.true)
     (subst (λ js. IsAhead js c.loop-next.next after) jobs
-    (read_ahead c.self.inside.jobs.items c.self.inside.ahead.items c.loop-next.next after c.self.invariant.2 (omega (arith, same, test, count))
+    (read_ahead c.self.inside.jobs.items c.self.inside.ahead.items c.loop-next.next after c.self.invariant.ahead (omega (arith, same, test, count))
     c.index-next-in-loop-next.ensures))
 
 pub invariant_of-self : goal.invariant_of-self
 invariant_of-self g c =
     let jobs = ap (λ v. v.jobs) c.self.view_is in
     let same = ap length jobs in
-    let count = c.self.invariant.2.count in
-    let low = c.requires in (
-      c.self.invariant.0,
-      c.self.invariant.1,
-      ahead_set c.self.inside.jobs.items c.self.inside.ahead.items c.args.above c.loop-next.next (omega (arith, same, count, low)) c.self.invariant.2
-          (subst (λ js. IsAhead js c.args.above c.loop-next.next) (sym jobs) c.loop-next.invariant),
-      c.self.invariant.3,
-      c.self.invariant.4,
-      c.self.invariant.5,
-      c.self.invariant.6,
-      c.self.invariant.7,
-      c.self.invariant.8,
-    )
+    let count = c.self.invariant.ahead.count in
+    let low = c.requires in record {
+      steady = c.self.invariant.steady;
+      rooms = c.self.invariant.rooms;
+      ahead = ahead_set c.self.inside.jobs.items c.self.inside.ahead.items c.args.above c.loop-next.next (omega (arith, same, count, low))
+          c.self.invariant.ahead
+          (subst (λ js. IsAhead js c.args.above c.loop-next.next) (sym jobs) c.loop-next.invariant);
+      taken = c.self.invariant.taken;
+      plan = c.self.invariant.plan;
+      backed = c.self.invariant.backed;
+      indexed = c.self.invariant.indexed;
+      starts = c.self.invariant.starts;
+      undoable = c.self.invariant.undoable;
+    }
 
 pub returns-else-next-count-clause-next : goal.returns-else-next-count-clause-next
 returns-else-next-count-clause-next g c number more =

@@ -31,7 +31,7 @@ run-requires-clause-running g c =
     let is = lent station.jobs.items at PlainStage.Running was (subst (λ v. IsStage v.jobs at PlainStage.Running) (sym c.self.view_is) c.requires)
     c.index_mut.ensures.value in
     may_run model station.shared station.journal.items station.jobs.items at was station.opening.script station.rules station.opening.faults station.active
-    station.journal.spare station.lines c.self.invariant.0 c.self.invariant.1 c.self.invariant.5 is
+    station.journal.spare station.lines c.self.invariant.steady c.self.invariant.rooms c.self.invariant.backed is
 
 pub run-requires-clause-count : goal.run-requires-clause-count
 run-requires-clause-count g c =
@@ -42,7 +42,7 @@ run-requires-clause-count g c =
     let s = setting station.opening.script station.rules model.tells in
     let is = lent station.jobs.items at PlainStage.Running was (subst (λ v. IsStage v.jobs at PlainStage.Running) (sym c.self.view_is) c.requires)
     c.index_mut.ensures.value in
-    few_words s station.opening.faults (moment model station.shared station.journal.items station.jobs.items) c.self.invariant.0
+    few_words s station.opening.faults (moment model station.shared station.journal.items station.jobs.items) c.self.invariant.steady
 
 pub run-requires-clause-save : goal.run-requires-clause-save
 run-requires-clause-save g c =
@@ -52,7 +52,7 @@ run-requires-clause-save g c =
     let is = lent station.jobs.items at PlainStage.Running was (subst (λ v. IsStage v.jobs at PlainStage.Running) (sym c.self.view_is) c.requires)
     c.index_mut.ensures.value in
     let mine = running_stage (doing_of was) is.stage in
-    (safe_running station.rules.undo_tries was mine.tx (c.self.invariant.8 at was is.there) mine.doing (ap runs mine.phase)).save
+    (safe_running station.rules.undo_tries was mine.tx (c.self.invariant.undoable at was is.there) mine.doing (ap runs mine.phase)).save
 
 pub invariant_of-self : goal.invariant_of-self
 invariant_of-self g c =
@@ -68,24 +68,24 @@ invariant_of-self g c =
     let row = c.run.ensures.row (moment model station.shared station.journal.items station.jobs.items) at
     (stands_now model station.shared station.journal.items station.jobs.items at was station.opening.script station.rules station.opening.faults
     station.active
-    station.journal.spare station.lines c.self.invariant.0 c.self.invariant.1 PlainStage.Running is) (sym c.len-entered.ensures) in
+    station.journal.spare station.lines c.self.invariant.steady c.self.invariant.rooms PlainStage.Running is) (sym c.len-entered.ensures) in
     let turned = running_turned model station.shared station.journal.items station.jobs.items at was s shared' job c.run.result is c.run.ensures.started row in
     let mine = running_stage (doing_of was) is.stage in
-    let lends = c.run.ensures.lends mine.tx mine.doing in (
-      steady_kept s station.opening.faults at _ _ c.run.result c.self.invariant.0 turned,
-      rooms_running model station.shared station.journal.items station.jobs.items at was job station.active station.journal.spare station.lines is.there
-          c.self.invariant.1 s shared' c.run.result row
+    let lends = c.run.ensures.lends mine.tx mine.doing in record {
+      steady = steady_kept s station.opening.faults at _ _ c.run.result c.self.invariant.steady turned;
+      rooms = rooms_running model station.shared station.journal.items station.jobs.items at was job station.active station.journal.spare station.lines is.there
+          c.self.invariant.rooms s shared' c.run.result row
           (let noted = lends.2.noted in
           let before = ap (λ d. notes_in (active_in d)) mine.doing in
           let behind = ap (λ d. notes_in (active_in d)) lends.1 in
-          omega (arith, noted, before, behind)),
-      ahead_kept station.jobs.items at was job station.ahead.items is.there (ap goes_on is.stage) c.self.invariant.2,
-      taken_kept station.jobs.items at job station.taken c.self.invariant.3,
-      c.run.ensures.plan ∙ c.self.invariant.4,
-      λ tells.
+          omega (arith, noted, before, behind));
+      ahead = ahead_kept station.jobs.items at was job station.ahead.items is.there (ap goes_on is.stage) c.self.invariant.ahead;
+      taken = taken_kept station.jobs.items at job station.taken c.self.invariant.taken;
+      plan = c.run.ensures.plan ∙ c.self.invariant.plan;
+      backed = λ tells.
           let c' = model.contents station.shared.host in
           let d = model.contents shared'.host in
-          let are = c.self.invariant.5 tells in
+          let are = c.self.invariant.backed tells in
           let keeps = lends.2.keeps tells in
           let took = still_backed c' d (lends.0).taken keeps (lends.2.taken tells are.kept (are.taken at mine.tx
           (job_view was, get_map job_view station.jobs.items at was is.there, ap active_in mine.doing))) in
@@ -94,14 +94,14 @@ invariant_of-self g c =
           let both : Some (lends.0) ≡ Some tx = ap active_in (sym lends.1) ∙ active in
           let one : lends.0 ≡ tx = cc both in
           subst (λ (t : TxView). All (IsBacked d) t.taken) one took)
-          are,
-      c.self.invariant.6,
-      starts_still model station.shared shared' station.journal.items station.journal.items station.jobs.items at was job
-          (room_of station.jobs station.lines station.ahead) s station.opening.faults c.run.result c.self.invariant.0 is.there turned c.run.ensures.started
+          are;
+      indexed = c.self.invariant.indexed;
+      starts = starts_still model station.shared shared' station.journal.items station.journal.items station.jobs.items at was job
+          (room_of station.jobs station.lines station.ahead) s station.opening.faults c.run.result c.self.invariant.steady is.there turned c.run.ensures.started
           (none_running s station.opening.faults (moment model station.shared station.journal.items station.jobs.items) at (job_view was) mine.tx
-          c.self.invariant.0 (get_map job_view station.jobs.items at was is.there) mine.doing mine.phase) c.run.ensures.children c.self.invariant.7,
-      backs_set station.rules.undo_tries station.jobs.items at was job is.there c.run.ensures.backs c.self.invariant.8,
-    )
+          c.self.invariant.steady (get_map job_view station.jobs.items at was is.there) mine.doing mine.phase) c.run.ensures.children c.self.invariant.starts;
+      undoable = backs_set station.rules.undo_tries station.jobs.items at was job is.there c.run.ensures.backs c.self.invariant.undoable;
+    }
 
 pub returns-clause-row : goal.returns-clause-row
 returns-clause-row g c =
@@ -117,7 +117,7 @@ returns-clause-row g c =
     let row = c.run.ensures.row (moment model station.shared station.journal.items station.jobs.items) at
     (stands_now model station.shared station.journal.items station.jobs.items at was station.opening.script station.rules station.opening.faults
     station.active
-    station.journal.spare station.lines c.self.invariant.0 c.self.invariant.1 PlainStage.Running is) (sym c.len-entered.ensures) in
+    station.journal.spare station.lines c.self.invariant.steady c.self.invariant.rooms PlainStage.Running is) (sym c.len-entered.ensures) in
     let turned = running_turned model station.shared station.journal.items station.jobs.items at was s shared' job c.run.result is c.run.ensures.started row in
     subst (λ v. IsTurn (setting_of model v) at (now_of model v) c.run.result (moment model shared' station.journal.items (slice_set station.jobs.items at job)))
     c.self.view_is turned

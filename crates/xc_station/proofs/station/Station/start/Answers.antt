@@ -34,20 +34,20 @@ invariant_of-result g c =
       started = c.in-Ok.ensures.started;
       marks = λ n. ap mark_of (c.new-sentinels.ensures.nobody n);
       calls = c.in_default-open_with.ensures.fresh;
-    } in (
-      started s _ _ (record { read = c.requires.script; attempts = c.requires.rules.0; tries = c.requires.rules.1 }) c.requires.limits opening
+    } in record {
+      steady = started s _ _ (record { read = c.requires.script; attempts = c.requires.rules.0; tries = c.requires.rules.1 }) c.requires.limits opening
           (c.open_with.ensures.count ∙ sym c.faults-faults.ensures)
           (λ t. ap (λ (lent : Lent). with_kept (model.contents c.open_with.new.self) lent.kept) c.in-Ok.ensures.buffers
-          ∙ c.in_default-open_with.ensures.ok t ∙ ap (λ (p : Outline). opened p.prologue.objects) c.outline.ensures),
-      roomy c.args.script _ _ _ _ c.requires.script opening c.new-sentinels.ensures.nothing c.new-sentinels.ensures.nobody
+          ∙ c.in_default-open_with.ensures.ok t ∙ ap (λ (p : Outline). opened p.prologue.objects) c.outline.ensures);
+      rooms = roomy c.args.script _ _ _ _ c.requires.script opening c.new-sentinels.ensures.nothing c.new-sentinels.ensures.nobody
           c.in-Ok.ensures.lines.1
-          (ap (λ (lent : Lent). lent.noted) c.in-Ok.ensures.buffers),
-      c.in-Ok.ensures.ahead,
-      omega arith,
-      c.in_default-open_with.ensures.plan ∙ ap (λ (p : Outline). plan_of p.prologue) c.outline.ensures,
-      λ tells. backed_at_start c.args.script _ _ _ c.in-Ok.ensures.jobs (ap (λ (lent : Lent). lent.kept) c.in-Ok.ensures.buffers),
-      c.in-Ok.ensures.places,
-      (let count = sym (length-map rooms.jobs.items job_view) ∙ ap length c.in-Ok.ensures.jobs
+          (ap (λ (lent : Lent). lent.noted) c.in-Ok.ensures.buffers);
+      ahead = c.in-Ok.ensures.ahead;
+      taken = omega arith;
+      plan = c.in_default-open_with.ensures.plan ∙ ap (λ (p : Outline). plan_of p.prologue) c.outline.ensures;
+      backed = λ tells. backed_at_start c.args.script _ _ _ c.in-Ok.ensures.jobs (ap (λ (lent : Lent). lent.kept) c.in-Ok.ensures.buffers);
+      indexed = c.in-Ok.ensures.places;
+      starts = (let count = sym (length-map rooms.jobs.items job_view) ∙ ap length c.in-Ok.ensures.jobs
           ∙ length-map c.args.script.outline.jobs (opened_job c.args.script) in
           let names = ap length c.in-Ok.ensures.started in
           let lines = c.in-Ok.ensures.lines.0 in
@@ -59,9 +59,9 @@ invariant_of-result g c =
             jobs_room = omega (arith, count, names, jobs_len, jobs_cap);
             lines_room = omega (arith, count, names, lines);
             marks_room = omega (arith, count, names, marks, ahead_len, ahead_cap);
-          }),
-      backs_made c.args.rules.undo_tries rooms.jobs.items (opened_job c.args.script) c.args.script.outline.jobs (λ name. refl) c.in-Ok.ensures.jobs,
-    )
+          });
+      undoable = backs_made c.args.rules.undo_tries rooms.jobs.items (opened_job c.args.script) c.args.script.outline.jobs (λ name. refl) c.in-Ok.ensures.jobs;
+    }
 
 pub returns-clause-opening : goal.returns-clause-opening
 returns-clause-opening g c =

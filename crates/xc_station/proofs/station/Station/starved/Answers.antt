@@ -26,26 +26,26 @@ invariant_of-self g c =
     let s = setting station.opening.script station.rules model.tells in
     let is = lent station.jobs.items at PlainStage.Starved was (subst (λ v. IsStage v.jobs at PlainStage.Starved)
     (sym c.self.view_is) c.requires) c.index_mut.ensures.value in
-    let turned = starved_turned model station.shared station.journal.items station.jobs.items at was s job c.end.result is c.end.ensures.ended in (
-      steady_kept s station.opening.faults at _ _ c.end.result c.self.invariant.0 turned,
-      rooms_still model station.shared station.journal.items station.jobs.items at was job station.active station.journal.spare station.lines is.there
-          c.self.invariant.1 station.shared.sentinels station.journal.items station.journal.spare refl (λ n. refl)
+    let turned = starved_turned model station.shared station.journal.items station.jobs.items at was s job c.end.result is c.end.ensures.ended in record {
+      steady = steady_kept s station.opening.faults at _ _ c.end.result c.self.invariant.steady turned;
+      rooms = rooms_still model station.shared station.journal.items station.jobs.items at was job station.active station.journal.spare station.lines is.there
+          c.self.invariant.rooms station.shared.sentinels station.journal.items station.journal.spare refl (λ n. refl)
           (ap active_in (starved_stage (doing_of was) is.stage))
           (ap active_of c.end.ensures.ended.0)
-          (omega arith),
-      ahead_kept station.jobs.items at was job station.ahead.items is.there (ap goes_on is.stage) c.self.invariant.2,
-      taken_kept station.jobs.items at job station.taken c.self.invariant.3,
-      c.self.invariant.4,
-      λ tells.
-          backed_without _ _ _ station.jobs.items at was job is.there ((c.self.invariant.5 tells).kept) (ap active_of c.end.ensures.ended.0)
-          (c.self.invariant.5 tells),
-      c.self.invariant.6,
-      starts_still model station.shared station.shared station.journal.items station.journal.items station.jobs.items at was job
-          (room_of station.jobs station.lines station.ahead) s station.opening.faults c.end.result c.self.invariant.0 is.there turned refl
-          (ap (started_in station.opening.script (job_view was)) (starved_stage (doing_of was) is.stage)) c.end.ensures.children c.self.invariant.7,
-      backs_set station.rules.undo_tries station.jobs.items at was job is.there
-          (safe_without station.rules.undo_tries job (ap active_of c.end.ensures.ended.0)) c.self.invariant.8,
-    )
+          (omega arith);
+      ahead = ahead_kept station.jobs.items at was job station.ahead.items is.there (ap goes_on is.stage) c.self.invariant.ahead;
+      taken = taken_kept station.jobs.items at job station.taken c.self.invariant.taken;
+      plan = c.self.invariant.plan;
+      backed = λ tells.
+          backed_without _ _ _ station.jobs.items at was job is.there ((c.self.invariant.backed tells).kept) (ap active_of c.end.ensures.ended.0)
+          (c.self.invariant.backed tells);
+      indexed = c.self.invariant.indexed;
+      starts = starts_still model station.shared station.shared station.journal.items station.journal.items station.jobs.items at was job
+          (room_of station.jobs station.lines station.ahead) s station.opening.faults c.end.result c.self.invariant.steady is.there turned refl
+          (ap (started_in station.opening.script (job_view was)) (starved_stage (doing_of was) is.stage)) c.end.ensures.children c.self.invariant.starts;
+      undoable = backs_set station.rules.undo_tries station.jobs.items at was job is.there
+          (safe_without station.rules.undo_tries job (ap active_of c.end.ensures.ended.0)) c.self.invariant.undoable;
+    }
 
 pub returns-clause-row : goal.returns-clause-row
 returns-clause-row g c =

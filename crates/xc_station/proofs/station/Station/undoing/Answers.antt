@@ -33,7 +33,7 @@ undo-requires-clause-undoing g c =
     let is = lent station.jobs.items at PlainStage.Undoing was (subst (λ v. IsStage v.jobs at PlainStage.Undoing) (sym c.self.view_is) c.requires)
     c.index_mut.ensures.value in
     may_undo model station.shared station.journal.items station.jobs.items at was station.opening.script station.rules station.opening.faults station.active
-    station.journal.spare station.lines c.self.invariant.0 c.self.invariant.1 c.self.invariant.5 is
+    station.journal.spare station.lines c.self.invariant.steady c.self.invariant.rooms c.self.invariant.backed is
 
 pub invariant_of-self : goal.invariant_of-self
 invariant_of-self g c =
@@ -47,24 +47,26 @@ invariant_of-self g c =
     let shared' : Shared g.row.H.Denot = record station.shared { host = c.undo.new.host } in
     let job = c.undo.new.job in
     let away = undo_elsewhere model station.shared station.journal.items station.jobs.items at was station.opening.script station.rules station.opening.faults
-    station.active station.journal.spare station.lines c.self.invariant.0 c.self.invariant.1 c.self.invariant.5 is in
+    station.active station.journal.spare station.lines c.self.invariant.steady c.self.invariant.rooms c.self.invariant.backed is in
     let turned = undoing_turned model station.shared station.journal.items station.jobs.items at was station.opening.script station.rules shared' job is
     c.undo.ensures.undone away (refl, refl, refl, refl) in
     let back = undoing_stage (doing_of was) is.stage in
-    let gave = c.undo.ensures.undone back.tx back.doing in (
-      steady_kept s station.opening.faults at _ _ turn.Went c.self.invariant.0 turned,
-      rooms_going model station.shared station.journal.items station.jobs.items at was job station.active station.journal.spare station.lines is.there
-          c.self.invariant.1 s shared' back.tx (record back.tx { undo = gave.0 }) c.self.invariant.0.kept.told refl back.doing (ap (λ j. j.doing) gave.1)
-          refl refl refl refl refl,
-      ahead_kept station.jobs.items at was job station.ahead.items is.there (ap goes_on is.stage) c.self.invariant.2,
-      taken_kept station.jobs.items at job station.taken c.self.invariant.3,
-      gave.2.uses.used.plan ∙ c.self.invariant.4,
-      λ tells.
+    let gave = c.undo.ensures.undone back.tx back.doing in record {
+      steady = steady_kept s station.opening.faults at _ _ turn.Went c.self.invariant.steady turned;
+      rooms = rooms_going model station.shared station.journal.items station.jobs.items at was job station.active station.journal.spare station.lines is.there
+          c.self.invariant.rooms s shared' back.tx (record back.tx { undo = gave.0 }) c.self.invariant.steady.kept.told refl back.doing
+          (ap (λ j. j.doing) gave.1)
+          refl refl refl refl refl;
+      ahead = ahead_kept station.jobs.items at was job station.ahead.items is.there (ap goes_on is.stage) c.self.invariant.ahead;
+      taken = taken_kept station.jobs.items at job station.taken c.self.invariant.taken;
+      plan = gave.2.uses.used.plan ∙ c.self.invariant.plan;
+      backed = λ tells.
           let tried = gave.2 in
           let c' = model.contents station.shared.host in
-          let are = c.self.invariant.5 tells in
+          let are = c.self.invariant.backed tells in
           let took = took_elsewhere model station.shared station.journal.items station.jobs.items at was station.opening.script station.rules
-          station.opening.faults station.active station.journal.spare station.lines c.self.invariant.0 c.self.invariant.1 c.self.invariant.5 is tried.older
+          station.opening.faults station.active station.journal.spare station.lines c.self.invariant.steady c.self.invariant.rooms c.self.invariant.backed is
+          tried.older
           tried.tried tried.was tells in
           subst (λ d. AreBacked d station.shared.buffers.kept (job_views (slice_set station.jobs.items at job))) (sym (tried.effect tells))
           (backed_undone c' station.shared.buffers.kept station.jobs.items at was job tried.tried tried.end is.there
@@ -73,17 +75,17 @@ invariant_of-self g c =
           let both : Some (record back.tx { undo = gave.0 }) ≡ Some tx = ap active_in (sym (ap (λ j. j.doing) gave.1)) ∙ active in
           let one : record back.tx { undo = gave.0 } ≡ tx = cc both in
           (back.tx, (job_view was, get_map job_view station.jobs.items at was is.there, ap active_in back.doing), ap (λ (t : TxView). t.taken) one))
-          are),
-      c.self.invariant.6,
-      starts_still model station.shared shared' station.journal.items station.journal.items station.jobs.items at was job
-          (room_of station.jobs station.lines station.ahead) s station.opening.faults turn.Went c.self.invariant.0 is.there turned refl
+          are);
+      indexed = c.self.invariant.indexed;
+      starts = starts_still model station.shared shared' station.journal.items station.journal.items station.jobs.items at was job
+          (room_of station.jobs station.lines station.ahead) s station.opening.faults turn.Went c.self.invariant.steady is.there turned refl
           (none_undoing s station.opening.faults (moment model station.shared station.journal.items station.jobs.items) at (job_view was) back.tx
-          back.cause c.self.invariant.0 (get_map job_view station.jobs.items at was is.there) back.doing back.phase) c.undo.ensures.children
-          c.self.invariant.7,
-      backs_set station.rules.undo_tries station.jobs.items at was job is.there
+          back.cause c.self.invariant.steady (get_map job_view station.jobs.items at was is.there) back.doing back.phase) c.undo.ensures.children
+          c.self.invariant.starts;
+      undoable = backs_set station.rules.undo_tries station.jobs.items at was job is.there
           (safe_ending station.rules.undo_tries job (record back.tx { undo = gave.0 }) (ap (λ j. j.doing) gave.1) (ap runs back.phase))
-          c.self.invariant.8,
-    )
+          c.self.invariant.undoable;
+    }
 
 pub returns-clause-row : goal.returns-clause-row
 returns-clause-row g c =
@@ -97,7 +99,7 @@ returns-clause-row g c =
     let shared' : Shared g.row.H.Denot = record station.shared { host = c.undo.new.host } in
     let job = c.undo.new.job in
     let away = undo_elsewhere model station.shared station.journal.items station.jobs.items at was station.opening.script station.rules station.opening.faults
-    station.active station.journal.spare station.lines c.self.invariant.0 c.self.invariant.1 c.self.invariant.5 is in
+    station.active station.journal.spare station.lines c.self.invariant.steady c.self.invariant.rooms c.self.invariant.backed is in
     let turned = undoing_turned model station.shared station.journal.items station.jobs.items at was station.opening.script station.rules shared' job is
     c.undo.ensures.undone away (refl, refl, refl, refl) in
     subst (λ v. IsTurn (setting_of model v) at (now_of model v) turn.Went (moment model shared' station.journal.items (slice_set station.jobs.items at job)))

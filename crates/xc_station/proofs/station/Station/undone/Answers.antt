@@ -38,7 +38,7 @@ room : (g : Over) (c : After-index_mut g) → (1 ≤ c.self.inside.active) × (1
 room g c =
     let station = c.self.inside in
     has_room g.H.Host.model station.shared station.journal.items station.jobs.items c.args.at c.index_mut.result.now station.opening.script
-    station.rules station.opening.faults station.active station.journal.spare station.lines c.self.invariant.0 c.self.invariant.1
+    station.rules station.opening.faults station.active station.journal.spare station.lines c.self.invariant.steady c.self.invariant.rooms
     PlainStage.Undone (mine g c).tx (is_there g c) (mine g c).doing
 
 -- the turn that it takes
@@ -66,15 +66,15 @@ abort-entry-requires-clause-attempts g c =
     let before = (goal.at.abort-entry-requires-clause-attempts g c).After-index_mut in
     let fits : Fits w32 station.rules.attempts = search rules in
     fits_failures g.H.Host.model station.shared station.journal.items station.jobs.items c.args.at c.index_mut.result.now
-    station.opening.script station.rules station.opening.faults station.active station.journal.spare station.lines c.self.invariant.0
-    c.self.invariant.1
+    station.opening.script station.rules station.opening.faults station.active station.journal.spare station.lines c.self.invariant.steady
+    c.self.invariant.rooms
     PlainStage.Undone (mine g before).tx (is_there g before) (mine g before).doing (omega (arith, fits))
 
 pub abort-entry-requires-clause-table : goal.abort-entry-requires-clause-table
 abort-entry-requires-clause-table g c tx doing =
     let was = c.index_mut.result.now in
     let is = is_there g (goal.at.abort-entry-requires-clause-table g c).After-index_mut in
-    λ o. (c.self.invariant.1.claims o).held c.args.at tx
+    λ o. (c.self.invariant.rooms.claims o).held c.args.at tx
     (job_view was, get_map job_view c.self.inside.jobs.items c.args.at was is.there, ap active_in doing)
 
 pub abort-entry-requires-clause-next : goal.abort-entry-requires-clause-next
@@ -82,7 +82,7 @@ abort-entry-requires-clause-next g c =
     let station = c.self.inside in
     let before = (goal.at.abort-entry-requires-clause-next g c).After-index_mut in
     fits_next g.H.Host.model station.shared station.journal.items station.jobs.items c.args.at c.index_mut.result.now station.opening.script
-    station.rules station.opening.faults station.active station.journal.spare station.lines c.self.invariant.0 c.self.invariant.1
+    station.rules station.opening.faults station.active station.journal.spare station.lines c.self.invariant.steady c.self.invariant.rooms
     PlainStage.Undone (mine g before).tx (is_there g before) (mine g before).doing
 
 pub abort-entry-requires-clause-noted : goal.abort-entry-requires-clause-noted
@@ -91,7 +91,7 @@ abort-entry-requires-clause-noted g c =
     let jobs = c.self.inside.jobs.items in
     let is = is_there g (goal.at.abort-entry-requires-clause-noted g c).After-index_mut in
     let within = notes_within (job_views jobs) c.args.at (job_view was) (get_map job_view jobs c.args.at was is.there) in
-    let noted = c.self.invariant.1.noted in
+    let noted = c.self.invariant.rooms.noted in
     omega (arith, within, noted)
 
 pub enter-requires : goal.enter-requires
@@ -115,33 +115,33 @@ invariant_of-self g c =
     let shared' = c.abort-entry.new.shared in
     let job = c.abort-entry.new.job in
     let gave = c.abort-entry.ensures.entry mine.tx mine.cause at mine.doing mine.phase refl in
-    let freed = c.abort-entry.ensures.freed mine.tx mine.doing in (
-      steady_kept s station.opening.faults at _ _ turn.Went c.self.invariant.0 turned,
-      rooms_entered model station.shared station.journal.items station.jobs.items at was job station.active station.journal.spare station.lines is.there
-          c.self.invariant.1 s shared' c.enter.new.self.items c.enter.new.self.spare mine.tx c.self.invariant.0.kept.told mine.doing
+    let freed = c.abort-entry.ensures.freed mine.tx mine.doing in record {
+      steady = steady_kept s station.opening.faults at _ _ turn.Went c.self.invariant.steady turned;
+      rooms = rooms_entered model station.shared station.journal.items station.jobs.items at was job station.active station.journal.spare station.lines is.there
+          c.self.invariant.rooms s shared' c.enter.new.self.items c.enter.new.self.spare mine.tx c.self.invariant.steady.kept.told mine.doing
           (ap active_of gave.0 ∙ back_none (job_view was) mine.tx mine.cause)
-          freed some.0 c.enter.ensures.spare c.abort-entry.ensures.given.noted,
-      ahead_kept station.jobs.items at was job station.ahead.items is.there (ap goes_on is.stage) c.self.invariant.2,
-      taken_kept station.jobs.items at job station.taken c.self.invariant.3,
-      ap model.plan c.abort-entry.ensures.same.0 ∙ c.self.invariant.4,
-      λ tells.
-          let are = c.self.invariant.5 tells in
+          freed some.0 c.enter.ensures.spare c.abort-entry.ensures.given.noted;
+      ahead = ahead_kept station.jobs.items at was job station.ahead.items is.there (ap goes_on is.stage) c.self.invariant.ahead;
+      taken = taken_kept station.jobs.items at job station.taken c.self.invariant.taken;
+      plan = ap model.plan c.abort-entry.ensures.same.0 ∙ c.self.invariant.plan;
+      backed = λ tells.
+          let are = c.self.invariant.backed tells in
           let backed = given_all (IsBacked (model.contents station.shared.host)) mine.tx.taken station.shared.buffers.kept shared'.buffers.kept
           (λ item. c.abort-entry.ensures.given.among item mine.tx mine.doing)
           (are.taken at mine.tx (job_view was, get_map job_view station.jobs.items at was is.there, ap active_in mine.doing)) are.kept in
           subst (λ h. AreBacked (model.contents h) shared'.buffers.kept (job_views (slice_set station.jobs.items at job))) (sym c.abort-entry.ensures.same.0)
           (backed_without _ _ _ station.jobs.items at was job is.there backed
-          (ap active_of gave.0 ∙ back_none (job_view was) mine.tx mine.cause) are),
-      c.self.invariant.6,
-      starts_still model station.shared shared' station.journal.items c.enter.new.self.items station.jobs.items at was job
-          (room_of station.jobs station.lines station.ahead) s station.opening.faults turn.Went c.self.invariant.0 is.there turned
+          (ap active_of gave.0 ∙ back_none (job_view was) mine.tx mine.cause) are);
+      indexed = c.self.invariant.indexed;
+      starts = starts_still model station.shared shared' station.journal.items c.enter.new.self.items station.jobs.items at was job
+          (room_of station.jobs station.lines station.ahead) s station.opening.faults turn.Went c.self.invariant.steady is.there turned
           c.abort-entry.ensures.started
           (none_undoing s station.opening.faults (moment model station.shared station.journal.items station.jobs.items) at (job_view was) mine.tx
-          mine.cause c.self.invariant.0 (get_map job_view station.jobs.items at was is.there) mine.doing mine.phase) c.abort-entry.ensures.children
-          c.self.invariant.7,
-      backs_set station.rules.undo_tries station.jobs.items at was job is.there
-          (safe_without station.rules.undo_tries job (ap active_of gave.0 ∙ back_none (job_view was) mine.tx mine.cause)) c.self.invariant.8,
-    )
+          mine.cause c.self.invariant.steady (get_map job_view station.jobs.items at was is.there) mine.doing mine.phase) c.abort-entry.ensures.children
+          c.self.invariant.starts;
+      undoable = backs_set station.rules.undo_tries station.jobs.items at was job is.there
+          (safe_without station.rules.undo_tries job (ap active_of gave.0 ∙ back_none (job_view was) mine.tx mine.cause)) c.self.invariant.undoable;
+    }
 
 pub returns-clause-row : goal.returns-clause-row
 returns-clause-row g c =
