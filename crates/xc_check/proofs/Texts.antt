@@ -1,6 +1,6 @@
 -- What the lines of a text are, and what a verdict on it says of the whole.
 use Rattle.std.proofs.Common.{◌≡◌, ◌∙◌, inl, inr, ◌+◌, ◌<◌, ◌≤◌, ℕ, suc, All, Err, IfOk, List, [], ◌∷◌, ◌++◌, Ok, length, ap, sym, subst, arith}
-use Rattle.std.specs.Prelude.{Result, false}
+use Rattle.std.specs.Prelude.{Result, true, false}
 use Rattle.std.proofs.lemmas.Bool.{cases_lt}
 use Rattle.std.proofs.lemmas.List.{length-append}
 use Rattle.std.proofs.lemmas.List.Elements.{All-head, All-tail}
@@ -93,10 +93,10 @@ shown_by entries tail lines text parts whole plainly behind =
 
 -- a verdict on them is one on the text that shows them
 pub verdict_on : (s : Setting) (entries : List Shown) (tail lines : List Line) (text : List ℕ) → lines ≡ shown_lines entries ++ tail
-    → AreWholeFrom Between lines text → IsShownBy text entries tail → (verdict : Verdict) → IsVerdictIn s entries tail verdict
+    → AreWholeFrom Between lines text → IsShownBy text entries tail → s.tells ≡ true → (verdict : Verdict) → IsVerdictIn s entries tail verdict
     → IsVerdictOn s text verdict
-verdict_on s entries tail lines text parts whole shown Yes says = true_text s entries tail lines text says parts whole.written
-verdict_on s entries tail lines text parts whole shown (No line r) says =
+verdict_on s entries tail lines text parts whole shown tells Yes says = true_text s entries tail lines text tells says parts whole.written
+verdict_on s entries tail lines text parts whole shown tells (No line r) says =
     record { entries = entries; tail = tail; shown = shown; false_in = says }
 
 -- ---- of what was read

@@ -1,5 +1,5 @@
 -- A true text has no first reason for which it is false; and what was found true is a true text.
-use Rattle.std.proofs.Common.{◌≡◌, ◌∙◌, ℕ, List, [], ◌∷◌, ◌++◌, length, map, drop, get_or, refl, ap, sym, subst}
+use Rattle.std.proofs.Common.{◌≡◌, ◌∙◌, ℕ, true, false, List, [], ◌∷◌, ◌++◌, length, map, drop, get_or, refl, ap, sym, subst}
 use Rattle.std.specs.List.{fold}
 use Rattle.std.proofs.lemmas.List.{length-map}
 use Rattle.xc_data.specs.declared.entry.Entry.{Entry}
@@ -27,9 +27,9 @@ front_size : (s : Setting) (entries : List Shown) (tail : List Line) (h : IsTrue
 front_size s entries tail h = sym (ap length h.shows) ∙ length-map h.journal shown_of
 
 -- what was found true is a true text
-pub true_text : (s : Setting) (entries : List Shown) (tail lines : List Line) (text : List ℕ) → IsTrueIn s entries tail
+pub true_text : (s : Setting) (entries : List Shown) (tail lines : List Line) (text : List ℕ) → s.tells ≡ true → IsTrueIn s entries tail
     → lines ≡ shown_lines entries ++ tail → text ≡ lines_text lines → IsTrueText s text
-true_text s entries tail lines text h parts written =
+true_text s entries tail lines text tells h parts written =
     let journal = h.journal in
     let words = (progress_of s.script journal).state.world.words in
     let numbered : AreNumbered (length journal) (entry_begins journal) =
@@ -48,6 +48,7 @@ true_text s entries tail lines text h parts written =
             numbers = counted.0;
             begins = counted.1;
             grounded = h.grounded;
+            handled = λ opaque. (let wrong : true ≡ false = sym tells ∙ opaque in cc wrong);
           };
           asked = h.front.asked;
         };

@@ -15,6 +15,8 @@ mod Keeping
 mod Stopped
 mod Leaving
 mod Lengths
+mod Counting
+mod Rerun
 mod Tracing
 mod Reporting
 mod Showing

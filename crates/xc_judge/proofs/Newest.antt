@@ -2,7 +2,7 @@
 use Rattle.std.proofs.Common.{◌≡◌, ℕ, suc, ◌+◌, ◌-◌, ◌<◌, ◌≤◌, Bool, true, List, [], ◌∷◌, ◌++◌, length, get_or, take, drop, refl, ap, sym, ◌∙◌, subst, arith}
 use Rattle.std.proofs.Common.{length-take}
 use Rattle.std.specs.Bool.{Decides}
-use Rattle.std.specs.Prelude.{All}
+use Rattle.std.specs.Prelude.{All, Option}
 use Rattle.std.proofs.lemmas.List.{take-append-drop}
 use Rattle.std.proofs.lemmas.List.Elements.{All-cons, All-head, All-tail}
 use Rattle.xc_data.specs.declared.entry.Cause.{Cause}
@@ -11,7 +11,7 @@ use Rattle.xc_data.specs.declared.undo.Undo.{Undo}
 use Rattle.xc_data.specs.declared.undo.UndoEnd.TheVariants.{Undone, Failed, Blocked}
 use Rattle.xc_world.specs.Ends.{Ending, is_undone}
 use Rattle.xc_machine.proofs.MachineRun.{left-cons}
-use Rattle.xc_model.specs.RecordCounts.{RecordCount, IsNewestFailed, IsStuckIn}
+use Rattle.xc_model.specs.Recorded.{IsNewestFailed, IsStuckIn}
 use Rattle.xc_judge.specs.Ran.{has_failed}
 use Rattle.xc_judge.specs.Traced.{ends_of}
 
@@ -110,7 +110,7 @@ newest_behind (o ∷ older) u done faults newer (y ∷ ys) failed from same undo
     }
 
 -- so a way back got stuck among them at the same number
-pub stuck_alike : (k : RecordCount) (c : Cause) (xs ys : List Ending) → ends_of xs ≡ ends_of ys → IsStuckIn k 1 xs c → IsStuckIn k 1 ys c
+pub stuck_alike : (k : Option ℕ) (c : Cause) (xs ys : List Ending) → ends_of xs ≡ ends_of ys → IsStuckIn k 1 xs c → IsStuckIn k 1 ys c
 stuck_alike k (cause.Stuck failed) xs ys same so =
     let at = so.1 in
     let cut : ends_of (at.older ++ (at.stuck, Failed at.done at.faults) ∷ at.newer) ≡ ends_of ys = sym (ap ends_of at.parts) ∙ same in

@@ -79,7 +79,7 @@ append_stays w me h bytes _ = stays w me _ refl
 
 -- a place that is sought
 seek_stays : (w : World) (me : Private) (h to : ℕ) (p : Place) → Stays w (seek_at w me h to p)
-seek_stays w me h to (place.File num at) = stays w _ _ refl
+seek_stays w me h to (place.File num at) = chosen_so (Stays w) _ _ _ (λ _. stays w me _ refl) (λ _. stays w _ _ refl)
 seek_stays w me h to _ = stays w me _ refl
 
 -- a length that is asked

@@ -19,7 +19,7 @@ use Rattle.xc_model.specs.declared.rules.Rules.{Rules}
 use Rattle.xc_model.specs.Course.{Course, Standing}
 use Rattle.xc_model.specs.Machine.{HasLateEnds, HasReplies}
 use Rattle.xc_model.specs.Progress.{body_of, private_of}
-use Rattle.xc_model.specs.RecordCounts.{AreFewFaults, no_records}
+use Rattle.xc_model.specs.Recorded.{AreFewFaults, no_records}
 use Rattle.xc_judge.specs.Judged.{telling}
 use Rattle.xc_judge.specs.Ran.{IsRan}
 use Rattle.xc_judge.specs.declared.ran.Ran.{Ran}

@@ -1,5 +1,5 @@
 -- The report of an aborted entry, by what is shown of its records.
-use Rattle.std.proofs.Common.{◌≡◌, ℕ, Bool, true, false, List, map, refl, sym, ◌∙◌, subst}
+use Rattle.std.proofs.Common.{◌≡◌, ℕ, Bool, true, false, List, length, map, refl, sym, ◌∙◌, subst}
 use Rattle.std.specs.Prelude.{MatchBool}
 use Rattle.xc_data.specs.declared.entry.Cause.{Cause}
 use Rattle.xc_data.specs.declared.entry.Entry.{Entry}
@@ -15,13 +15,18 @@ use Rattle.xc_world.specs.Ends.{Ending}
 use Rattle.xc_world.specs.Run.{BodyResult}
 use Rattle.xc_model.specs.declared.rules.Rules.{Rules}
 use Rattle.xc_model.specs.Course.{Course}
-use Rattle.xc_model.specs.EntryEnds.{AreRecords, IsReport}
-use Rattle.xc_model.specs.Machine.{HasReport}
-use Rattle.xc_model.specs.Progress.{body_of}
-use Rattle.xc_model.specs.RecordCounts.{RecordCount, all_records, no_records}
+use Rattle.xc_world.specs.RecordOf.{AreRecordsOf}
+use Rattle.xc_model.specs.EntryEnds.{AreRecords}
+use Rattle.xc_model.specs.Machine.{HasReplies, HasReport}
+use Rattle.xc_model.specs.Progress.{body_of, private_of}
+use Rattle.xc_model.specs.Recorded.{Recorded, all_records, no_records}
+use Rattle.xc_judge.specs.Counts.{IsCountedReport}
 use Rattle.xc_judge.specs.Judged.{telling}
 use Rattle.xc_judge.specs.Traced.{AreAllAlike, AreNotTraced, AreShown, AreTraced, IsShownSo, ReportShown, ends_of, report_shown, shown_ends, undos_of}
 use Rattle.xc_judge.proofs.Cases.{tested_false, tested_true}
+use Rattle.xc_judge.proofs.Committing.{replayed_from}
+use Rattle.xc_judge.proofs.Counting.{report_counted, report_so}
+use Rattle.xc_judge.proofs.Rerun.{body_of_calls}
 
 -- ---- what the code has of what is shown
 -- what is shown of a report, by its parts
@@ -48,13 +53,18 @@ module _ (b : BodyResult) (tx : ℕ) (last : Ask) (why : Cause) (shown : Shown) 
 -- ---- its report
 module _ (rules : Rules) (c : Course) (last : Ask) (e : Entry) (seen : ReportShown) where
   -- the records that its calls left
-  abbrev left : RecordCount
+  abbrev left : Recorded
   left = all_records no_records e.calls e.replies
 
-  -- a report of such records is one that a machine may give
+  -- a report of such records has as many
   counted : (report : Report) → IsShownSo seen report → HasReport (telling rules) c last e report
-      → IsReport rules.undo_tries left (record { cause = seen.cause; records = report.records })
-  counted report so has = subst (λ y. IsReport rules.undo_tries left (record { cause = y; records = report.records })) so.cause has.counted
+      → IsCountedReport rules.undo_tries (length left.now) (record { cause = seen.cause; records = report.records })
+  counted report so has = subst (λ y. IsCountedReport rules.undo_tries (length left.now) (record { cause = y; records = report.records })) so.cause
+      (report_counted rules.undo_tries left report has.counted)
+
+  -- the records of its body, with the replies that it tells, are those of its calls
+  of_calls : HasReplies (telling rules) c e → AreRecordsOf left.now (body_of c.state e).trail
+  of_calls has = body_of_calls c.state.world (private_of c.state e.job) e.tx e.calls e.replies (replayed_from c.state e (has.played refl))
 
   -- its records are true
   traced : (report : Report) → IsShownSo seen report → HasReport (telling rules) c last e report
@@ -87,24 +97,28 @@ module _ (rules : Rules) (c : Course) (last : Ask) (e : Entry) (seen : ReportSho
     not_effects none report so has = none (sym (like report so has).effects ∙ so.effects)
 
     -- no report has them
-    pub not_reported : (k : RecordCount) (cause : Cause) → k ≡ left → cause ≡ seen.cause
-        → (IsReport rules.undo_tries k (record { cause = cause; records = records }) → ⊥) → (report : Report) → IsShownSo seen report
+    pub not_reported : (k : ℕ) (cause : Cause) → k ≡ length left.now → cause ≡ seen.cause
+        → (IsCountedReport rules.undo_tries k (record { cause = cause; records = records }) → ⊥) → (report : Report) → IsShownSo seen report
         → HasReport (telling rules) c last e report → ⊥
     not_reported k cause count same none report so has =
-        none (subst (λ y. IsReport rules.undo_tries k (record { cause = y; records = records })) (sym same)
-        (subst (λ n. IsReport rules.undo_tries n (record { cause = seen.cause; records = records })) (sym count)
-        ((like report so has).reports rules.undo_tries left (counted report so has))))
+        none (subst (λ y. IsCountedReport rules.undo_tries k (record { cause = y; records = records })) (sym same)
+        (subst (λ n. IsCountedReport rules.undo_tries n (record { cause = seen.cause; records = records })) (sym count)
+        ((like report so has).reports rules.undo_tries (length left.now) (counted report so has))))
 
     -- a report has them
-    pub reported : (k : RecordCount) (cause : Cause) → k ≡ left → cause ≡ seen.cause → map record_shown records ≡ seen.records
-        → effects_shown records ≡ seen.effects → IsReport rules.undo_tries k (record { cause = cause; records = records })
+    pub reported : HasReplies (telling rules) c e → (k : ℕ) (cause : Cause) → k ≡ length left.now → cause ≡ seen.cause
+        → map record_shown records ≡ seen.records → effects_shown records ≡ seen.effects
+        → IsCountedReport rules.undo_tries k (record { cause = cause; records = records })
         → IsShownSo seen (record { cause = cause; records = records })
         × HasReport (telling rules) c last e (record { cause = cause; records = records })
-    reported k cause count same kinds effects report = (
-      record { cause = same; kinds = kinds; effects = effects },
-      record {
-        counted = subst (λ n. IsReport rules.undo_tries n (record { cause = cause; records = records })) count report;
-        played = λ _. subst (λ y. AreRecords (body_of c.state e) e.tx last y (undos_of records)) (sym same)
-            (subst (AreRecords (body_of c.state e) e.tx last seen.cause) (sym undos) trail.records);
-      },
-    )
+    reported replies k cause count same kinds effects report =
+        let true_so : AreRecords (body_of c.state e) e.tx last cause (undos_of records) =
+        subst (λ y. AreRecords (body_of c.state e) e.tx last y (undos_of records)) (sym same)
+        (subst (AreRecords (body_of c.state e) e.tx last seen.cause) (sym undos) trail.records) in (
+          record { cause = same; kinds = kinds; effects = effects },
+          record {
+            counted = report_so rules.undo_tries left (body_of c.state e) e.tx last (record { cause = cause; records = records }) (of_calls replies) true_so
+                (subst (λ n. IsCountedReport rules.undo_tries n (record { cause = cause; records = records })) count report);
+            played = λ _. true_so;
+          },
+        )

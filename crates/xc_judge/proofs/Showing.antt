@@ -14,7 +14,7 @@ use Rattle.xc_model.specs.Course.{Course, Standing, standing_of}
 use Rattle.xc_model.specs.EntryEnds.{IsCauseOf, IsHeld, cause_in, failures_with}
 use Rattle.xc_model.specs.Machine.{HasLates, HasRecordsOf, HasReplies, IsAttempt, IsEndAsked, IsMachineTrue}
 use Rattle.xc_model.specs.Progress.{body_of}
-use Rattle.xc_model.specs.RecordCounts.{IsStuckIn, all_records, no_records}
+use Rattle.xc_model.specs.Recorded.{IsStuckIn, all_records, no_records, saved_records}
 use Rattle.xc_judge.specs.Judged.{IsNumbered, IsToldBy, place_of_reason, telling}
 use Rattle.xc_judge.specs.Judgement.{FailsToRun, IsRunSo}
 use Rattle.xc_judge.specs.Stepped.{IsRefusedSo, MeetsSo}
@@ -128,9 +128,9 @@ asked_alike last e d (Aborted report) (Aborted other) calls replies same records
     let count : all_records no_records e.calls e.replies ≡ all_records no_records d.calls d.replies = λ i. all_records no_records (calls i) (replies i) in
     record {
       asked = subst (λ z. IsCauseOf z last) why asked.asked;
-      stuck = subst (λ z. IsStuckIn (all_records no_records d.calls d.replies) 1 other.records z) why
-          (subst (λ k. IsStuckIn k 1 other.records report.cause) count
-          (stuck_alike (all_records no_records e.calls e.replies) report.cause report.records other.records ends asked.stuck));
+      stuck = subst (λ z. IsStuckIn (saved_records (all_records no_records d.calls d.replies)) 1 other.records z) why
+          (subst (λ k. IsStuckIn (saved_records k) 1 other.records report.cause) count
+          (stuck_alike (saved_records (all_records no_records e.calls e.replies)) report.cause report.records other.records ends asked.stuck));
     }
 
 -- so of two entries that are shown alike both tell their story, or neither

@@ -108,15 +108,15 @@ module _ (u v : Undo) (end : UndoEnd) (so : AreAlike u v end) where
       record {
         kinds = kinds_alike front;
         effects = effects_alike front;
-        reports = λ tries k report. record {
-          count = subst (λ n. (k.now ≤ n) × (n ≤ k.now + 1)) (as_many front) report.count;
+        reports = λ tries count report. record {
+          many = subst (λ n. (count ≤ n) × (n ≤ count + 1)) (as_many front) report.many;
           legal = legal_alike tries 1 front report.legal;
         };
       }
 
 -- equal lists are alike
 alike_equal : (why : Cause) (xs ys : List Ending) → xs ≡ ys → AreAllAlike why xs ys
-alike_equal why xs ys same = subst (AreAllAlike why xs) same (record { kinds = refl; effects = refl; reports = λ tries k report. report })
+alike_equal why xs ys same = subst (AreAllAlike why xs) same (record { kinds = refl; effects = refl; reports = λ tries count report. report })
 
 -- ---- what is shown last
 -- nothing newer is in the way of the last record

@@ -11,8 +11,8 @@ use Rattle.xc_shown.specs.Shown.{effects_shown, record_shown}
 use Rattle.xc_shown.specs.declared.shown.Shown.{Shown}
 use Rattle.xc_world.specs.Ends.{AreLegal, Ending}
 use Rattle.xc_world.specs.Run.{BodyResult}
-use Rattle.xc_model.specs.EntryEnds.{AreRecords, IsReport}
-use Rattle.xc_model.specs.RecordCounts.{RecordCount}
+use Rattle.xc_model.specs.EntryEnds.{AreRecords}
+use Rattle.xc_judge.specs.Counts.{IsCountedReport}
 
 -- what a text shows of a report: its cause, the kinds of its records with their ends, and the effects that stand
 pub record ReportShown : Type 0 where
@@ -54,8 +54,8 @@ pub record AreShown (seen : ReportShown) (records : List Ending) : Type 0 where
 pub record AreAllAlike (why : Cause) (records others : List Ending) : Type 0 where
   pub kinds : map record_shown records ≡ map record_shown others
   pub effects : effects_shown records ≡ effects_shown others
-  pub reports : (tries : ℕ) (k : RecordCount) → IsReport tries k (record { cause = why; records = records })
-      → IsReport tries k (record { cause = why; records = others })
+  pub reports : (tries count : ℕ) → IsCountedReport tries count (record { cause = why; records = records })
+      → IsCountedReport tries count (record { cause = why; records = others })
 
 -- ---- what a body left
 -- these are true records, as many as are shown; and all that are true and shown so are like these with the ends that are shown

@@ -1,6 +1,7 @@
-ghost use Rattle.std.specs.Prelude.{◌≡◌, ◌≤◌, ◌<◌, ◌+◌, ◌^◌};
-ghost use Rattle.xc_judge.specs.Counts.{counts};
-ghost use Rattle.xc_model.specs.RecordCounts.{no_records, record_count, records_with, written_count};
+ghost use Rattle.std.specs.Prelude.{◌≡◌, ◌<◌, ◌+◌, ◌^◌};
+ghost use Rattle.xc_judge.specs.Counts.{count_of, count_with, counts};
+ghost use Rattle.xc_model.specs.Recorded.{no_records};
+ghost use Rattle.xc_world.specs.RecordOf.{leaves_record, wrote_some};
 
 use xc_data::{Call, Chunk, Reply};
 
@@ -11,40 +12,38 @@ pub(crate) struct Counted {
     pub(crate) saved: Option<usize>,
 }
 
-// A write that did some of its bytes leaves a record.
-fn written_count(bytes: &Chunk, reply: &Reply) -> usize
-    ensures value { result ≡ written_count bytes.now reply.now }
-    ensures bound { result ≤ 1 }
+// A write did some of its bytes.
+fn wrote_some(bytes: &Chunk, reply: &Reply) -> bool
+    ensures { result ≡ wrote_some bytes.now reply.now }
 {
     match reply {
-        Reply::Done if bytes.len() > 0 => 1,
-        Reply::Fault(n) if *n > 0 => 1,
+        Reply::Done => bytes.len() > 0,
+        Reply::Fault(n) => *n > 0,
         // With any other reply nothing was done, also with one yet to come.
-        _ => 0,
+        _ => false,
     }
 }
 
-// How many records a call with this reply leaves.
-fn record_count(call: &Call, reply: &Reply) -> usize
-    ensures value { result ≡ record_count call.now reply.now }
-    ensures bound { result ≤ 1 }
+// A call with this reply leaves a record.
+fn leaves_record(call: &Call, reply: &Reply) -> bool
+    ensures { result ≡ leaves_record call.now reply.now }
 {
     match (call, reply) {
-        (Call::XWriteOvr { bytes, .. } | Call::XWriteSeq { bytes, .. }, _) => written_count(
+        (Call::XWriteOvr { bytes, .. } | Call::XWriteSeq { bytes, .. }, _) => wrote_some(
             bytes, reply,
         ),
-        (Call::XCreate { .. } | Call::XPipe, Reply::Made(_)) => 1,
-        (Call::XPair, Reply::MadePair(..)) => 1,
-        (Call::XRename { .. }, Reply::Done) => 1,
+        (Call::XCreate { .. } | Call::XPipe, Reply::Made(_)) => true,
+        (Call::XPair, Reply::MadePair(..)) => true,
+        (Call::XRename { .. }, Reply::Done) => true,
         // No other call leaves one.
-        _ => 0,
+        _ => false,
     }
 }
 
 impl Counted {
     /// Before the first call.
     pub(crate) fn none() -> Counted
-        ensures { counts result ≡ no_records }
+        ensures { counts result ≡ count_of no_records }
     {
         Counted {
             count: 0,
@@ -55,7 +54,7 @@ impl Counted {
     /// With one call more. A back leaves those of the save.
     pub(crate) fn take_call(&mut self, call: &Call, reply: &Reply)
         requires { self.old.count + 1 < 2 ^ 64 }
-        ensures { counts self.new ≡ records_with (counts self.old) call.now reply.now }
+        ensures { counts self.new ≡ count_with (counts self.old) call.now reply.now }
     {
         match call {
             Call::Save => self.saved = Some(self.count),
@@ -65,7 +64,11 @@ impl Counted {
                 self.saved = None;
             }
             // Any other call is made in the block that is open, also one yet to come.
-            _ => self.count += record_count(call, reply),
+            _ => {
+                if leaves_record(call, reply) {
+                    self.count += 1;
+                }
+            }
         }
     }
 }

@@ -1,9 +1,8 @@
 ghost use Rattle.std.specs.Bool.{Decides};
 ghost use Rattle.std.specs.Prelude.{◌≡◌, true, All};
-ghost use Rattle.xc_judge.specs.Counts.{counts};
+ghost use Rattle.xc_judge.specs.Counts.{IsCount, IsCountedReport};
 ghost use Rattle.xc_judge.specs.Ran.{has_failed, is_starved};
-ghost use Rattle.xc_model.specs.EntryEnds.{IsReport};
-ghost use Rattle.xc_model.specs.RecordCounts.{HasRecords, IsNewestFailed, IsOfBlock, IsStuckIn};
+ghost use Rattle.xc_model.specs.Recorded.{IsNewestFailed, IsOfBlock, IsStuckIn};
 ghost use Rattle.xc_world.specs.Ends.{Ending, is_undone};
 
 use crate::counted::Counted;
@@ -12,9 +11,9 @@ use std::alloc::Global;
 use xc_data::{Cause, Report, Undo, UndoEnd};
 
 impl Counted {
-    // Each call has left its record. Without memory one of the next call may stand last.
-    fn has_records(&self, cause: &Cause, n: usize) -> bool
-        ensures { Decides result (HasRecords (counts self.now) cause.now n) }
+    // There are as many records as calls left one. Without memory one of the next call may stand last.
+    fn is_count(&self, cause: &Cause, n: usize) -> bool
+        ensures { Decides result (IsCount self.now.count cause.now n) }
     {
         match cause {
             Cause::NoMemory => self.count <= n && n - self.count <= 1,
@@ -35,7 +34,7 @@ impl Counted {
 
     /// A way back got stuck at a record of its block.
     pub(crate) fn is_stuck_in(&self, records: &[(Undo, UndoEnd)], cause: &Cause) -> bool
-        ensures { Decides result (IsStuckIn (counts self.now) 1 records.now cause.now) }
+        ensures { Decides result (IsStuckIn self.now.saved 1 records.now cause.now) }
     {
         match cause {
             Cause::Stuck { failed } => self.is_of_block(*failed)
@@ -45,12 +44,13 @@ impl Counted {
         }
     }
 
-    /// What a report says of records, where the calls left so many.
+    /// A report has as many records as the calls left, with legal ends. Whether each is of its call isn't looked at: those of a body
+    /// that was run again are.
     pub(crate) fn is_report(&self, alloc: Global, tries: u32, report: &Report) -> bool
-        ensures { Decides result (IsReport tries (counts self.now) report.now) }
+        ensures { Decides result (IsCountedReport tries self.now.count report.now) }
     {
         let records = report.records.as_slice();
-        self.has_records(&report.cause, records.len()) && are_legal(alloc, tries, records)
+        self.is_count(&report.cause, records.len()) && are_legal(alloc, tries, records)
     }
 }
 

@@ -1,9 +1,10 @@
 ghost use Rattle.std.specs.Bool.{Decides};
 ghost use Rattle.std.specs.Prelude.{◌≡◌, ◌≢◌, ◌<◌, ◌+◌, ◌^◌, [], ℕ, IfOk, MatchOption, MatchResult};
-ghost use Rattle.xc_judge.specs.Judged.{IsNumbered, IsOpenTo, IsToldBy};
+ghost use Rattle.xc_judge.specs.Judged.{IsNumbered, IsOpenTo, IsToldBy, telling};
 ghost use Rattle.xc_judge.specs.Ran.{IsLedOnBy};
 ghost use Rattle.xc_judge.specs.Judgement.{FailsToRun, HasNoRecords, IsFoundSo, IsJudgedSo, IsRunSo};
 ghost use Rattle.xc_judge.specs.Stepped.{IsRefusedSo, IsSteppedTo, WhereEntered, WhereRefused};
+ghost use Rattle.xc_model.specs.Machine.{HasReplies};
 ghost use Rattle.xc_model.specs.Progress.{body_of};
 ghost use Rattle.xc_shown.specs.Shown.{bare};
 
@@ -42,6 +43,7 @@ impl Progress {
         shown: Shown,
     ) -> Result<Option<(Entry, Option<Ran>)>, NoMemory>
         requires ran { IsLedOnBy ran (body_of self.now.state shown.entry) shown.entry.tx shown.entry.outcome }
+        requires replies { HasReplies (telling rules.now) self.now shown.entry }
         requires bare { bare shown.entry ≡ shown.entry }
         ensures { IfOk result (λ found. MatchOption found (HasNoRecords rules.now self.now last.now shown)
             (IsFoundSo rules.now self.now last.now shown)) }

@@ -2,7 +2,7 @@ ghost use Rattle.std.specs.Bool.{Decides};
 ghost use Rattle.std.specs.Prelude.{◌≡◌, ◌≤◌};
 ghost use Rattle.xc_model.specs.EntryEnds.{IsCauseOf, IsCaused, failures_with, is_tried_again};
 ghost use Rattle.xc_model.specs.Machine.{IsAttempt, IsEndAsked};
-ghost use Rattle.xc_model.specs.RecordCounts.{all_records, no_records};
+ghost use Rattle.xc_model.specs.Recorded.{all_records, no_records};
 
 use crate::Standing;
 use crate::faults::records_of;

@@ -4,7 +4,7 @@ ghost use Rattle.xc_data.specs.declared.entry.Report.{Report as PlainReport};
 ghost use Rattle.xc_judge.specs.Judged.{telling};
 ghost use Rattle.xc_judge.specs.Ran.{IsRan, is_starved};
 ghost use Rattle.xc_judge.specs.Traced.{AreNotTraced, AreTraced, IsShownSo, ReportShown, ends_of, report_shown, shown_ends, undos_of};
-ghost use Rattle.xc_model.specs.Machine.{HasReport};
+ghost use Rattle.xc_model.specs.Machine.{HasReplies, HasReport};
 ghost use Rattle.xc_model.specs.Progress.{body_of};
 ghost use Rattle.xc_world.specs.Run.{BodyResult};
 ghost use Rattle.xc_world.specs.Sound.{IsSound};
@@ -104,6 +104,7 @@ impl Progress {
         shown: &Shown,
     ) -> Result<Option<Report>, NoMemory>
         requires ran { IsRan ran (body_of self.now.state shown.now.entry) shown.now.entry.tx }
+        requires replies { HasReplies (telling rules.now) self.now shown.now.entry }
         ensures { let seen = report_shown cause.now shown.now in IfOk result (λ found. MatchOption found
             ((report : PlainReport) → IsShownSo seen report → HasReport (telling rules.now) self.now last.now shown.now.entry report → ⊥)
             (λ report. IsShownSo seen report × HasReport (telling rules.now) self.now last.now shown.now.entry report)) }

@@ -1,5 +1,5 @@
 -- One call more of a body that is made call by call, and what a way back leaves of it.
-use Rattle.std.proofs.Common.{◌≡◌, ◌≢◌, ℕ, ◌+◌, ◌<◌, ◌≤◌, Option, Some, None, List, [], ◌∷◌, ◌++◌, length, get_or, take, ap, ap₂, sym, ◌∙◌, subst, refl, arith}
+use Rattle.std.proofs.Common.{◌≡◌, ℕ, ◌+◌, ◌<◌, ◌≤◌, Option, Some, None, List, [], ◌∷◌, ◌++◌, length, get_or, take, ap, ap₂, sym, ◌∙◌, subst, refl, arith}
 use Rattle.std.proofs.Common.{length-append}
 use Rattle.std.specs.Prelude.{All, IsTrue}
 use Rattle.std.proofs.lemmas.Bool.{and_from}
@@ -16,11 +16,11 @@ use Rattle.xc_world.specs.Act.Step.{Stepped}
 use Rattle.xc_world.specs.Modes.{claims_of}
 use Rattle.xc_world.specs.Fits.{fits}
 use Rattle.xc_world.specs.Late.{kept_call}
-use Rattle.xc_world.specs.Run.{BodyResult, BlockState, taken_by, step, block_step, opens, body, body_state, body_fits}
+use Rattle.xc_world.specs.Run.{BodyResult, BlockState, step, block_step, opens, body, body_state, body_fits}
 use Rattle.xc_world.specs.Sound.{IsReady, IsSound}
 use Rattle.xc_world.proofs.Blocks.{Fits, fit_all, runs_keep}
 use Rattle.xc_world.proofs.Bodies.{body_keeps}
-use Rattle.xc_world.proofs.EffectsBody.{back_sound, body-sound, body-others_sound}
+use Rattle.xc_world.proofs.EffectsBody.{back_sound, body-sound}
 use Rattle.xc_world.proofs.Joined.{body_last, body_fits_last}
 use Rattle.xc_world.proofs.Sound.{act_sound}
 use Rattle.xc_world.proofs.SoundReady.{act_keeps_ready, act_leaves_ready}
@@ -72,14 +72,11 @@ saved_more tx (Some k) (Some s) now c so =
       world = so.world;
       places = so.places;
       late = front_more k.late now.late s.late (kept_call c.call now.me reply) so.late;
-      taken = front_more k.taken now.taken s.taken (taken_by c.call now.me reply) so.taken;
     }
 
 -- what such a call adds, made in this world and with this private state
 pub record Adds (tx : ℕ) (v : World) (m : Private) (c : CallWithAnswer) (step : Step Replied) : Type 0 where
-  pub replies : step.new.replies ≡ step.old.replies ++ (act v m tx c.call c.answer).reply ∷ []
   pub late : step.new.late ≡ step.old.late ++ kept_call c.call m (act v m tx c.call c.answer).reply
-  pub taken : step.new.taken ≡ step.old.taken ++ taken_by c.call m (act v m tx c.call c.answer).reply
   pub held : step.new.held.items ≡ holding step.old.held.items (claims_of c.call m (length v.words))
 
 -- a body that such a call is added to stands a step further
@@ -94,9 +91,7 @@ stands_more tx v x m n made next b c gave keeps world me so =
       world_is = world ∙ ap (λ (s : Stepped). s.world) same;
       me_is = me ∙ ap (λ (s : Stepped). s.me) same;
       gave = record {
-        replies = gave.replies ∙ ap₂ (λ rs r. rs ++ r ∷ []) so.gave.replies reply;
         late = gave.late ∙ ap₂ (λ ls k. ls ++ k) so.gave.late (ap₂ (kept_call c.call) so.me_is reply);
-        taken = gave.taken ∙ ap₂ (λ ts t. ts ++ t) so.gave.taken (ap₂ (taken_by c.call) so.me_is reply);
         held =
             gave.held ∙ ap₂ holding so.gave.held (ap₂ (λ p (w : World). claims_of c.call p (length w.words)) so.me_is so.world_is)
             ∙ sym (fold-append holding_one [] b.now.touched (claims_of c.call b.now.me (length b.now.world.words)));
@@ -152,10 +147,9 @@ module _ (w : World) (me : Private) (tx : ℕ) (asked : List CallWithAnswer) whe
         words = ap (λ (x : World). length x.words) here.world_is ∙ (body_keeps w me tx (take (i + 1) asked)).count;
       }
 
-  -- what it is at the end: the whole body, which leaves others sound and late calls ready
+  -- what it is at the end: the whole body, which leaves late calls ready
   pub record MadeWhole (v : World) (m : Private) (made : Body) : Type 0 where
     pub stands : StandsAt v m made (body_state w me tx asked)
-    pub others : (you : Private) (ty : ℕ) → (ty ≢ tx) → IsSound w you ty → IsSound v you ty
     pub ready : All (IsReady v) made.replied.late
 
   pub made_whole : (i : ℕ) (v : World) (m : Private) (made : Body) → IsSound w me tx → length asked ≤ i → IsMade i v m made → MadeWhole v m made
@@ -166,7 +160,6 @@ module _ (w : World) (me : Private) (tx : ℕ) (asked : List CallWithAnswer) whe
       let fit = subst (λ xs. IsTrue (body_fits w me tx xs)) all so.fits in
       record {
         stands = stands;
-        others = λ you ty apart other. subst (λ x. IsSound x you ty) (sym stands.world_is) (body-others_sound w me you tx ty asked sound fit other apart);
         ready = subst (λ x. All (IsReady x) made.replied.late) (sym stands.world_is)
             (subst (All (IsReady r.world)) (sym stands.gave.late) (leaves_ready w me tx asked sound fit));
       }

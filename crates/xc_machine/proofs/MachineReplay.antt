@@ -1,6 +1,7 @@
 -- A body and late calls that are run again: one call more, and all of them.
 use Rattle.std.proofs.Common.{◌≡◌, ℕ, ◌<◌, zero, suc, List, [], ◌∷◌, ◌++◌, length, get_or, ◌≤◌, take, sym, ap, subst, ◌∙◌, refl, arith, append_assoc}
-use Rattle.std.specs.Prelude.{IsTrue, All}
+use Rattle.std.specs.Prelude.{All, IfSome, IsTrue, Option}
+use Rattle.std.specs.declared.option.Option.TheVariants.{Some}
 use Rattle.std.proofs.lemmas.Bool.{and_parts, and_from}
 use Rattle.std.proofs.lemmas.List.{append-nil, take_all}
 use Rattle.std.proofs.lemmas.List.Elements.{All-head, All-tail}
@@ -22,6 +23,10 @@ use Rattle.xc_world.proofs.Runs.{late_keeps_others}
 use Rattle.xc_world.proofs.SoundReady.{late_keeps_ready}
 use Rattle.xc_world.proofs.SoundLate.{late_fit, late_sound}
 use Rattle.xc_machine.specs.Replay.{IsReplayed, AreReplayed, AreReplayedOn, told, IsEnded, AreEnded, led_by}
+
+-- a fact of what is there, of what it is
+pub if_some : {A : Type 0} {o : Option A} (P : A → Type 0) (x : A) → o ≡ Some x → IfSome o P → P x
+if_some P x e h = subst (λ o. IfSome o P) e h
 
 -- there are as many answers as calls
 pub asked_length : (calls : List Call) (replies : List Reply) → length (asked_of calls replies) ≡ length calls

@@ -14,12 +14,11 @@ pub record IsFront {T : Type 0} (n : ℕ) (now saved : List T) : Type 0 where
   pub within : n ≤ length now
   pub front : take n now ≡ saved
 
--- the world and the handles of the save, and how much of what the body gave was there
+-- the world and the handles of the save, and how many of the late calls were there
 pub record IsCopy (kept : Saved) (saved now : BodyResult) : Type 0 where
   pub world : kept.world ≡ saved.world
   pub places : kept.me.places ≡ saved.me.places
   pub late : IsFront kept.late now.late saved.late
-  pub taken : IsFront kept.taken now.taken saved.taken
 
 -- there is a copy exactly where a block is open
 abbrev pub IsSaved : Option Saved → Option BodyResult → BodyResult → Type 0
@@ -30,9 +29,7 @@ IsSaved (Some kept) None now = ⊥
 
 -- the plain machine's body gave this
 pub record HasReplied (replied : Replied) (now : BodyResult) : Type 0 where
-  pub replies : replied.replies ≡ now.replies
   pub late : replied.late ≡ now.late
-  pub taken : replied.taken ≡ now.taken
   pub held : replied.held.items ≡ held_of now.touched
 
 -- in this world and with this private state, a body stands where the plain machine's does

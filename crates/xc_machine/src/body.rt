@@ -1,4 +1,4 @@
-ghost use Rattle.std.specs.Prelude.{◌≡◌, ◌<◌, ◌^◌, ◌++◌, ◌∷◌, [], length, take, IsTrue, OnOk};
+ghost use Rattle.std.specs.Prelude.{◌≡◌, ◌<◌, ◌^◌, length, take, IfOk, IsTrue, OnOk};
 ghost use Rattle.std.specs.declared.option.Option.TheVariants.{None, Some};
 ghost use Rattle.xc_world.specs.Sound.{IsSound};
 ghost use Rattle.xc_world.specs.Act.{act};
@@ -11,16 +11,14 @@ ghost use Rattle.xc_machine.specs.Blocks.{StandsAt};
 use crate::{Replied, World};
 use std::alloc::Global;
 use std::mem;
-use xc_data::{Answer, Call, Items, NoMemory, Private};
+use xc_data::{Answer, Call, Items, NoMemory, Private, Reply};
 
-/// What a body was at the save of its open block: its world and private state, and how many late calls and how many items
-/// that it took it had.
+/// What a body was at the save of its open block: its world and private state, and how many late calls it had.
 #[derive(Drop)]
 pub(crate) struct Saved {
     world: World,
     me: Private,
     late: usize,
-    taken: usize,
 }
 
 /// A body that is made call by call: what it gave so far and, in an open block, what it was at the save.
@@ -60,7 +58,6 @@ impl Body {
             world: world.copy()?,
             me: *me,
             late: self.replied.late.len(),
-            taken: self.replied.taken.len(),
         };
         self.saved = Some(saved);
         Ok(())
@@ -70,7 +67,6 @@ impl Body {
     fn back(&mut self, world: &mut World, me: &mut Private)
         ensures stands { (b : BlockState) → StandsAt world.old me.old self.old b
             → StandsAt world.new me.new self.new (record { now = back_from b.saved b.now; saved = None }) }
-        ensures replies { self.new.replied.replies ≡ self.old.replied.replies }
     {
         let Some(saved) = self.saved.take() else {
             return;
@@ -80,14 +76,12 @@ impl Body {
         *world = saved.world;
         me.places = places;
         cut(alloc, &mut self.replied.late, saved.late);
-        cut(alloc, &mut self.replied.taken, saved.taken);
     }
 
     // What a call does to the open block.
     fn mark(&mut self, world: &mut World, me: &mut Private, call: &Call) -> Result<(), NoMemory>
         ensures stands { (b : BlockState) → StandsAt world.old me.old self.old b
             → OnOk result (StandsAt world.new me.new self.new (marked call.now b.saved b.now)) }
-        ensures replies { OnOk result (self.new.replied.replies ≡ self.old.replied.replies) }
     {
         match call {
             Call::Save => self.save(world, me),
@@ -104,7 +98,7 @@ impl Body {
         }
     }
 
-    /// Makes a call, with what it met at the host.
+    /// Makes a call, with what it met at the host, and gives its reply.
     pub(crate) fn make_call(
         &mut self,
         world: &mut World,
@@ -112,16 +106,16 @@ impl Body {
         tx: u32,
         call: &Call,
         answer: Answer,
-    ) -> Result<(), NoMemory>
+    ) -> Result<Reply, NoMemory>
         requires sound { IsSound world.old me.old tx }
         requires fits { IsTrue (fits world.old me.old tx call.now answer) }
         requires words { length world.old.words < 2 ^ 32 }
         ensures stands { (b : BlockState) → StandsAt world.old me.old self.old b → OnOk result
             (StandsAt world.new me.new self.new (block_step tx b (record { call = call.now; answer = answer }))) }
-        ensures replies { OnOk result
-            (self.new.replied.replies ≡ self.old.replied.replies ++ (act world.old me.old tx call.now answer).reply ∷ []) }
+        ensures reply { IfOk result (λ reply. reply ≡ (act world.old me.old tx call.now answer).reply) }
     {
-        self.replied.take_call(world, me, tx, call, answer)?;
-        self.mark(world, me, call)
+        let reply = self.replied.take_call(world, me, tx, call, answer)?;
+        self.mark(world, me, call)?;
+        Ok(reply)
     }
 }

@@ -11,7 +11,6 @@ mod opening;
 mod parts;
 mod pipes;
 mod record;
-mod remain;
 mod shared;
 mod taking;
 

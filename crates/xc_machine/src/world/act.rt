@@ -10,7 +10,7 @@ ghost use Rattle.xc_world.specs.Act.Step.{step_to, storing_call, storing_reply, 
 ghost use Rattle.xc_world.specs.Act.Files.{seek_at};
 
 use super::World;
-use xc_data::{Answer, Call, NoMemory, Place, Private, Reply};
+use xc_data::{Answer, Call, MOST_FILE_BYTES, NoMemory, Place, Private, Reply};
 use xc_world::checks::{is_bad_handle, is_bad_word, is_too_big, is_too_much};
 
 // The bytes of a call and of its reply are stored.
@@ -26,13 +26,16 @@ fn count(me: &mut Private, call: &Call, reply: &Reply)
     }
 }
 
+// The handle's position is set, and stays where it would be past 65,536.
 fn seek(me: &mut Private, h: u16, to: u64) -> Reply
-    requires { to ≤ 65536 }
     ensures { (w : _) → seek_at w me.old h to (place_of me.old.places h) ≡ step_to w me.new result }
 {
     let Place::File { num, .. } = me.place(h) else {
         return Reply::BadHandle;
     };
+    if to > MOST_FILE_BYTES {
+        return Reply::TooBig;
+    }
     me.set_place(h, Place::File { num, at: to as u32 });
     Reply::Done
 }

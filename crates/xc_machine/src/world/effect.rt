@@ -1,11 +1,14 @@
-ghost use Rattle.std.specs.Prelude.{◌≡◌, ◌+◌, ◌<◌, ◌^◌, take, drop, OnOk};
+ghost use Rattle.std.specs.FinMap as map;
+ghost use Rattle.std.specs.Prelude.{◌≡◌, ◌+◌, ◌++◌, ◌<◌, ◌^◌, take, drop, OnOk};
 ghost use Rattle.xc_world.specs.Act.Files.{overwritten};
-ghost use Rattle.xc_world.specs.Trail.{with_effect};
-ghost use Rattle.xc_world.specs.World.{file_of, with_file};
+ghost use Rattle.xc_world.specs.Act.Names.{with_new_file};
+ghost use Rattle.xc_world.specs.Trail.{with_effect, move_name};
+ghost use Rattle.xc_world.specs.World.{file_of, with_file, with_pipe, empty_pipe};
 
 use super::parts::{behind, front};
-use super::{PairBody, World};
-use xc_data::{Chunk, NoMemory, Num, Undo};
+use super::shared::joined;
+use super::{PairBody, PipeBody, World};
+use xc_data::{Chunk, Name, NoMemory, Num, Undo};
 
 // The covered bytes of a record from this one on.
 fn covered(after: &Chunk, from: u32, n: u32) -> &[u8]
@@ -26,6 +29,41 @@ impl World {
         next.extend_from_slice(bytes)?;
         next.extend_from_slice(behind(file, at + bytes.len()))?;
         self.files.insert(num, Chunk::from_vec(next)?)
+    }
+
+    // These bytes come behind those of a file.
+    fn put_behind(&mut self, num: Num, bytes: &[u8]) -> Result<(), NoMemory>
+        ensures { OnOk result (self.new ≡ with_file self.old num (file_of self.old num ++ bytes.now)) }
+    {
+        let next = joined(self.alloc, self.file(num), bytes)?;
+        self.files.insert(num, next)
+    }
+
+    // An empty file of this number under this name.
+    fn add_named(&mut self, name: Name, num: Num) -> Result<(), NoMemory>
+        ensures { OnOk result (self.new ≡ with_new_file self.old name num) }
+    {
+        self.files.insert(num, Chunk::new(self.alloc, &[])?)?;
+        self.names.insert(name, num)
+    }
+
+    // The file of a name goes to another one.
+    fn give_name(&mut self, from: Name, to: Name) -> Result<(), NoMemory>
+        ensures { OnOk result (self.new ≡ move_name self.old from to (map.get self.old.names from)) }
+    {
+        let Some(num) = self.names.get(from) else {
+            return Ok(());
+        };
+        let num = *num;
+        self.names.remove(from);
+        self.names.insert(to, num)
+    }
+
+    fn add_pipe(&mut self, num: Num) -> Result<(), NoMemory>
+        ensures { OnOk result (self.new ≡ with_pipe self.old num empty_pipe) }
+    {
+        let held = Chunk::new(self.alloc, &[])?;
+        self.pipes.insert(num, PipeBody { held, shut: false })
     }
 
     /// Puts into the world what a record tells of, of its covered bytes from this one on.

@@ -27,7 +27,7 @@ returns-clause-verdict c text whole =
     let shown = shown_by p.entries p.tail c.args.lines text e.parts whole (all_plainly p.entries e.bare e.replied e.plain) e.tail in
     let says = subst (λ (tail : _). IfOk c.check_entries.result (IsVerdictIn s p.entries tail)) c.as_slice.ensures c.check_entries.ensures in
     IfOk-weaker c.check_entries.result (IsVerdictIn s p.entries p.tail) (IsVerdictOn s text)
-    (verdict_on s p.entries p.tail c.args.lines text e.parts whole shown) says
+    (verdict_on s p.entries p.tail c.args.lines text e.parts whole shown refl) says
 
 pub returns-clause-only : goal.returns-clause-only
 returns-clause-only c journal jobs words kept h are =

@@ -1,8 +1,8 @@
 use Rattle.std.proofs.Common.{rules, ◌≡◌, true, false, length, map, sym, ◌∙◌, ap}
 use Rattle.xc_shown.specs.Shown.{effects_shown, record_shown}
 use Rattle.xc_model.specs.Progress.{body_of}
-use Rattle.xc_model.specs.RecordCounts.{all_records, no_records}
-use Rattle.xc_judge.specs.Counts.{counts}
+use Rattle.xc_model.specs.Recorded.{all_records, no_records}
+use Rattle.xc_judge.specs.Counts.{RecordCount, count_of}
 use Rattle.xc_judge.specs.Traced.{AreTraced, report_shown, shown_ends}
 use Rattle.xc_judge.proofs.Reporting.{not_effects, not_kinds, not_reported, not_traced, not_traced_there, reported, traced_there}
 use Rattle.xc_judge.proofs.progress.Progress.report.Goals as goal
@@ -88,8 +88,9 @@ returns-then-not-is_report c =
     let ends = c.in_ok-records.ensures.ends ∙ ap shown_ends c.as_slice-kinds.ensures in
     let undos = c.in_ok-records.ensures.undos ∙ c.into_trail.ensures in
     let none : c.is_report.result ≡ false = search rules in
-    let count = c.records_of-counted.ensures ∙ (λ i. all_records no_records (c.as_slice-3.ensures i) (c.as_slice-4.ensures i)) in
-    not_reported a.rules.now a.self.now a.last.now e seen trail traced records undos ends (counts c.records_of-counted.result) c.again.result count
+    let count = ap (λ (n : RecordCount). n.now)
+    (c.records_of-counted.ensures ∙ (λ i. count_of (all_records no_records (c.as_slice-3.ensures i) (c.as_slice-4.ensures i)))) in
+    not_reported a.rules.now a.self.now a.last.now e seen trail traced records undos ends c.records_of-counted.result.count c.again.result count
     c.again.ensures (λ report. let found = c.is_report.ensures.1 report in cc (found, none))
 
 pub returns : goal.returns
@@ -110,7 +111,8 @@ returns c =
     let kinds : c.have_kinds.result ≡ true = search rules in
     let effects : c.have_effects.result ≡ true = search rules in
     let report : c.is_report.result ≡ true = search rules in
-    let count = c.records_of-counted.ensures ∙ (λ i. all_records no_records (c.as_slice-3.ensures i) (c.as_slice-4.ensures i)) in
-    reported a.rules.now a.self.now a.last.now e seen trail traced records undos ends (counts c.records_of-counted.result) c.again.result count
+    let count = ap (λ (n : RecordCount). n.now)
+    (c.records_of-counted.ensures ∙ (λ i. count_of (all_records no_records (c.as_slice-3.ensures i) (c.as_slice-4.ensures i)))) in
+    reported a.rules.now a.self.now a.last.now e seen trail traced records undos ends c.requires.replies c.records_of-counted.result.count c.again.result count
     c.again.ensures (ap (map record_shown) (sym c.as_slice.ensures) ∙ c.have_kinds.ensures.0 kinds ∙ c.as_slice-kinds.ensures)
     (ap effects_shown (sym c.as_slice-2.ensures) ∙ c.have_effects.ensures.0 effects ∙ c.as_slice-effects.ensures) (c.is_report.ensures.0 report)

@@ -6,8 +6,8 @@ use Rattle.xc_machine.proofs.body.Body.make_call.Goals as goal
 pub returns-clause-stands : goal.returns-clause-stands
 returns-clause-stands c = λ b stands.
     let asked : CallWithAnswer = record { call = c.args.call.now; answer = c.args.answer } in
-    let gave = c.in_ok-take_call.ensures in
+    let gave = c.in_ok-reply.ensures in
     let made = c.args.self.now in
-    c.mark.ensures.stands _
+    c.in_ok-mark.ensures.stands _
     (stands_more c.args.tx c.args.world.now c.take_call.new.world c.args.me.now c.take_call.new.me made (record made { replied = c.take_call.new.self }) b asked
-    (record { replies = gave.replies; late = gave.late; taken = gave.taken; held = gave.held }) refl gave.world gave.me stands)
+    (record { late = gave.late; held = gave.held }) refl gave.world gave.me stands)
