@@ -26,7 +26,7 @@ fn say_wordless<K: Sink>(sink: &mut K, error: io::Error) -> Status
 /// Runs the whole program, with the words of its command line if they could be had. What the run leaves
 /// is not freed: the system takes all memory back at once, right after.
 ///
-/// Only `main` has the leave to start threads and to wait, and hands it on as `rt`.
+/// Only `main` may start threads and wait; it hands that on as `rt`.
 pub fn run_program<R: AllocGlobal + Threads + Wait + Sync, S: Source, K: Sink, H: Host + Send>(
     rt: &R,
     words: io::Result<Vec<String>>,

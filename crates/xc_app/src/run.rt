@@ -79,8 +79,8 @@ pub fn xcalls_run<
 >(rt: &R, words: &[String], source: &mut S, sink: &mut K, host: H, pace: &P) -> Finish<H>
     // A status was meant, and it has its cause. What is due with it was written, and it is the run's
     // status; or the sink failed after a front of that. A run that is meant to be done has an entry
-    // for each transaction, which committed or aborted itself; so has one of which effects are left,
-    // where no job gave up.
+    // for each transaction, which committed or aborted itself; so does one that left effects,
+    // unless a job gave up.
     ensures answered { IsAnswered (choice_of (map string_bytes words.now)) usage_line H.model.takes_scripts (record {
       source = record { old = S.told source.old; new = S.told source.new };
       sink = record { old = K.told sink.old; new = K.told sink.new };

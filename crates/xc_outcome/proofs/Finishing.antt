@@ -13,6 +13,7 @@ use Rattle.xc_data.specs.declared.entry.JobLine.{JobLine}
 use Rattle.xc_edge.specs.View.{StreamView}
 use Rattle.xc_host.specs.Model.{HostModel}
 use Rattle.xc_model.specs.Ending.{IsTrueEnd, StopWhereFull, all_done, is_done}
+use Rattle.xc_model.specs.Handles.{AreCalled}
 use Rattle.xc_model.specs.Progress.{opening_progress}
 use Rattle.xc_model.specs.Serial.{IsSerial}
 use Rattle.xc_model.specs.Setting.{Setting, setting}
@@ -65,6 +66,7 @@ module _ {H : Type 0} (model : HostModel H) (rules : Rules) (host : H) (first la
           kept = left.kept;
           accounted = journal_accounts (setting end.opening.script rules model.tells) end.journal.items whole.journal;
           counted = subst (λ n. RisesBy (sum_by entry_faults end.journal.items) n (model.fault_count end.host)) faults left.counted;
+          called = subst (λ (o : Opening). AreCalled o.script end.journal.items (model.calls end.host)) (sym left.opening) left.called;
           plan = left.plan;
         },
       )

@@ -8,6 +8,7 @@ use Rattle.xc_edge.specs.View.{StreamView}
 use Rattle.xc_host.specs.Model.{HostModel, plan_of}
 use Rattle.xc_model.specs.Consistent.{AreLinesOf}
 use Rattle.xc_model.specs.Ending.{IsTrueEnd}
+use Rattle.xc_model.specs.Handles.{AreCalled}
 use Rattle.xc_model.specs.Opened.{IsOpening}
 use Rattle.xc_model.specs.Setting.{setting}
 use Rattle.xc_model.specs.declared.rules.Rules.{Rules}
@@ -62,6 +63,7 @@ module _ {H : Type 0} (model : HostModel H) where
     pub whole : IsTrueEnd (setting station.opening.script station.rules model.tells) end.journal.items (final_of model end)
     pub kept : AreKept end.kept
     pub counted : RisesBy (sum_by entry_faults end.journal.items) station.opening.faults (model.fault_count end.host)
+    pub called : AreCalled station.opening.script end.journal.items (model.calls end.host)
     pub plan : model.plan end.host ≡ plan_of end.opening.script.outline.prologue
 
 -- this was due with the status that was meant, and was written, or a front of it

@@ -16,6 +16,7 @@ use Rattle.xc_host.specs.Kept.{with_kept}
 use Rattle.xc_host.specs.Model.{HostModel, plan_of}
 use Rattle.xc_model.specs.Accounted.{AreAccounted}
 use Rattle.xc_model.specs.Ending.{Final, IsTrueEnd, StopWhereFull, wanted_memory}
+use Rattle.xc_model.specs.Handles.{AreCalled}
 use Rattle.xc_model.specs.Serial.{IsSerial}
 use Rattle.xc_model.specs.Setting.{setting}
 use Rattle.xc_model.specs.declared.rules.Rules.{Rules}
@@ -106,6 +107,8 @@ module _ {H : Type 0} (model : HostModel H) where
     pub accounted : AreAccounted (setting end.opening.script rules model.tells) end.journal.items
     -- the host's count rose by the recorded faults, and stayed where none is recorded
     pub counted : RisesBy (sum_by entry_faults end.journal.items) (model.fault_count host) (model.fault_count end.host)
+    -- since its opening the host was called by the entries, as often as they say, and by nothing else
+    pub called : AreCalled end.opening.script end.journal.items (model.calls end.host)
     -- the host was opened with the script's own fault lines and grain
     pub plan : model.plan end.host ≡ plan_of end.opening.script.outline.prologue
 

@@ -51,7 +51,7 @@ pub fn with_port(alloc: Global, words: io::Result<Vec<String>>) -> (io::Result<V
 /// Runs the whole program, with the words of its command line if they could be had. What the run leaves
 /// is not freed: the system takes all memory back at once, right after. Links are closed.
 ///
-/// Only `main` has the leave to wait and to start threads, and hands it on as `rt`.
+/// Only `main` may wait and start threads; it hands that on as `rt`.
 pub fn run_program<
     R: AllocGlobal + Threads + Wait + Sync,
     S: Source,
