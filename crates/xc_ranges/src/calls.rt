@@ -1,10 +1,27 @@
 ghost use Rattle.std.specs.List.{AllByRecursion};
-ghost use Rattle.xc_lines.specs.Ranges.{IsCallInRange, IsLateEndInRange, IsReplyInRange};
+ghost use Rattle.std.specs.Prelude.{◌<◌, ◌^◌};
+ghost use Rattle.xc_lines.specs.Ranges.{AreBytes, IsCallInRange, IsLateEndInRange, IsReplyInRange};
 
-use crate::parts::{bytes, half, ident, name, number, slot, wide};
+use crate::parts::{self, bytes, half, ident, number, wide};
 use xc_data::{Call, LateEnd, Reply};
 
-// A call is within its ranges.
+// A handle and a count are within their ranges.
+fn counted(h: u16, n: u64)
+    ensures { (h < 2 ^ 16) × (n < 2 ^ 64) }
+{
+    half(h);
+    wide(n);
+}
+
+// A handle and the bytes that are written through it are.
+fn written(h: u16, all: &[u8])
+    ensures { (h < 2 ^ 16) × AreBytes all.now }
+{
+    half(h);
+    bytes(all);
+}
+
+// A call is.
 fn call(call: &Call)
     ensures { IsCallInRange call.now }
 {
@@ -14,51 +31,35 @@ fn call(call: &Call)
             wide(*at);
             wide(*value);
         }
-        Call::XOpen { name: named } | Call::XCreate { name: named } => name(named),
+        Call::XOpen { name } | Call::XCreate { name } => parts::name(name),
         Call::XRead { h, n } | Call::XSeek { h, to: n } | Call::XReadPipe { h, n } => {
-            half(*h);
-            wide(*n);
+            counted(*h, *n);
         }
         Call::XLen { h } | Call::XClose { h } | Call::XRecvmsg { h } => half(*h),
-        Call::XWriteOvr { h, bytes: all } | Call::XWriteSeq { h, bytes: all } => {
-            half(*h);
-            bytes(all.as_slice());
+        Call::XWriteOvr { h, bytes } | Call::XWriteSeq { h, bytes } => {
+            written(*h, bytes.as_slice());
         }
         Call::XRename { from, to } => {
-            name(from);
-            name(to);
+            parts::name(from);
+            parts::name(to);
         }
-        Call::XPipe | Call::XPair => {}
-        Call::XUnlink {
-            name: named,
-            slot: place,
-        } => {
-            name(named);
-            slot(place);
+        Call::XUnlink { name, slot } => {
+            parts::name(name);
+            parts::slot(slot);
         }
-        Call::XSync { h, slot: place } | Call::XShutdown { h, slot: place } => {
+        Call::XSync { h, slot } | Call::XShutdown { h, slot } => {
             half(*h);
-            slot(place);
+            parts::slot(slot);
         }
-        Call::XWritePipe {
-            h,
-            bytes: all,
-            slot: place,
+        Call::XWritePipe { h, bytes, slot } | Call::XSendmsg { h, bytes, slot } => {
+            written(*h, bytes.as_slice());
+            parts::slot(slot);
         }
-        | Call::XSendmsg {
-            h,
-            bytes: all,
-            slot: place,
-        } => {
-            half(*h);
-            bytes(all.as_slice());
-            slot(place);
-        }
-        Call::XThreadCreate { body, slot: place } => {
+        Call::XThreadCreate { body, slot } => {
             ident(body.value());
-            slot(place);
+            parts::slot(slot);
         }
-        Call::Save | Call::Keep | Call::Back => {}
+        Call::XPipe | Call::XPair | Call::Save | Call::Keep | Call::Back => {}
     }
 }
 
