@@ -23,6 +23,7 @@ x_seek f 65536
 x_read f 2
 x_write_ovr f "EI"
 x_seek f 65537
+x_read f 2
 commit
 tx
 x_open b -> g

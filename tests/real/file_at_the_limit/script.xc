@@ -17,5 +17,10 @@ x_write_seq f "!"
 x_len f
 x_read f 4
 x_read g 4
+x_seek f 4294967290
+x_read f 5
+x_seek f 4294967295
+x_read f 1
+x_seek f 4294967296
 commit
 end
