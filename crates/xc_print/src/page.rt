@@ -30,7 +30,7 @@ impl Page {
         }
     }
 
-    /// An empty page with room for so many bytes, where there is memory for them all. It grows if they don't do.
+    /// An empty page with room for so many bytes, where there is memory for them all. It grows if that isn't enough.
     pub fn with_room(alloc: Global, room: usize) -> Page
         ensures { result ≡ [] }
     {

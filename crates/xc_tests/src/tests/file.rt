@@ -52,7 +52,7 @@ fn a_read_asks_for_the_rest(rt: HostRuntime) -> Result<(), Fail> {
     Ok(())
 }
 
-// An overwrite from the begin of the file on, and what it replies.
+// An overwrite from the start of the file on, and what it replies.
 fn overwrite(alloc: Global, host: &mut TestHost, bytes: &Chunk) -> Result<Reply, NoMemory> {
     let mut me = opened(7);
     let mut undo = Stack::new(alloc);
