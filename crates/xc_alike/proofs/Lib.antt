@@ -1,3 +1,4 @@
 pub mod CountedAlike
 pub mod LeadingAlike
 pub mod Standings
+pub mod Laws

@@ -2,4 +2,4 @@
 //! entry but its records depends on those. Laws, with no code.
 #![tactic(auto)]
 
-pub mod laws;
+pub mod law;

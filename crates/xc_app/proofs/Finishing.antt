@@ -7,8 +7,7 @@ use Rattle.std.proofs.lemmas.Bool.{and_parts}
 use Rattle.xc_data.specs.Step.{Step}
 use Rattle.xc_edge.specs.View.{StreamView}
 use Rattle.xc_host.specs.Model.{HostModel}
-use Rattle.xc_outcome.proofs.Finishing.{answered_by_run, full_as_said, is_run_of, is_serial_run}
-use Rattle.xc_outcome.proofs.Completeness.{said_plainly}
+use Rattle.xc_outcome.proofs.Laws.{answered_by_run, full_as_said, is_run_of, is_serial_run, said_plainly}
 use Rattle.xc_outcome.specs.declared.finish.Finish.{Finish}
 use Rattle.xc_outcome.specs.declared.finish.Status.{Status}
 use Rattle.xc_outcome.specs.declared.finish.Status.TheVariants as status

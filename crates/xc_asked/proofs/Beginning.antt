@@ -16,7 +16,7 @@ use Rattle.xc_script.specs.Blocks.{BlockWalk, IsInner, after_ask, all_replied, b
 use Rattle.xc_script.specs.Position.{Position, at_begin, job_of}
 use Rattle.xc_script.specs.Values.{Variables}
 use Rattle.xc_script.specs.Walks.{past_silent}
-use Rattle.xc_script.proofs.Opened.{begins_inner}
+use Rattle.xc_script.proofs.Laws.{begins_inner}
 use Rattle.xc_model.specs.Asked.{asked_after}
 use Rattle.xc_asked.specs.Walking.{walk_there}
 

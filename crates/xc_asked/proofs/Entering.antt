@@ -6,7 +6,7 @@ use Rattle.std.specs.declared.option.Option.TheVariants.{Some}
 use Rattle.xc_data.specs.declared.entry.Entry.{Entry}
 use Rattle.xc_data.specs.declared.entry.Outcome.{Outcome}
 use Rattle.xc_data.specs.declared.entry.Outcome.TheVariants.{Committed, Aborted}
-use Rattle.xc_data.proofs.Lists.{get_set_same}
+use Rattle.xc_data.proofs.Laws.{get_set_same}
 use Rattle.xc_text.specs.declared.script.Script.{Script}
 use Rattle.xc_script.specs.declared.ask.Ask.{Ask}
 use Rattle.xc_model.specs.Asked.{IsAskedBy, IsAskedEntry, ScriptJob, StartsJobs, after_jobs, jobs_behind, jobs_outcome, script_job_of}

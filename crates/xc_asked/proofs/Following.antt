@@ -11,7 +11,7 @@ use Rattle.xc_data.specs.declared.call.Reply.{Reply}
 use Rattle.xc_script.specs.declared.ask.Ask.TheVariants as ask
 use Rattle.xc_script.specs.Asking.{asks}
 use Rattle.xc_script.specs.Blocks.{BlockWalk, IsInner, all_replied, replied}
-use Rattle.xc_script.proofs.Opened.{all_inner}
+use Rattle.xc_script.proofs.Laws.{all_inner}
 use Rattle.xc_model.specs.Asked.{AsksEach}
 use Rattle.xc_asked.specs.Walking.{IsAskedAt}
 

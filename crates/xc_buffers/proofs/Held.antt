@@ -17,16 +17,15 @@ use Rattle.xc_data.specs.declared.object.Num.{Num}
 use Rattle.xc_data.specs.declared.object.Object.{Object}
 use Rattle.xc_data.specs.declared.object.Object.TheVariants as object
 use Rattle.xc_maps.specs.Keys.{num_cmp}
-use Rattle.xc_maps.proofs.Laws.{alike, tied}
-use Rattle.xc_maps.proofs.Maps.{num_total, num_exact}
+use Rattle.xc_maps.proofs.Laws.{alike, tied, num_total, num_exact}
 use Rattle.xc_world.specs.World.{World, Pipe, Pair, pipe_of, pair_of, with_pipe, with_pair, waiting, with_waiting, empty_pipe, empty_pair}
 use Rattle.xc_world.specs.Late.{with_put, shut_down, sent_to}
 use Rattle.xc_world.specs.Run.{given_back}
 use Rattle.xc_buffers.specs.declared.source.Source.TheVariants.{Pipe as OfPipe, Side as OfSide}
 use Rattle.xc_buffers.specs.Sources.{is_from}
 use Rattle.xc_buffers.specs.Items.{is_fit, is_of_pair, item_bytes, items_from, keeps_from, keeps_pair, kept_bytes, kept_messages}
-use Rattle.xc_buffers.specs.Worlds.{has_pipe, has_pair, with_front, with_held, without_pipe, without_pair}
-use Rattle.xc_buffers.proofs.Turns.{get-change, change-remove}
+use Rattle.xc_buffers.specs.Worlds.{has_pipe, has_pair, with_front, with_held}
+use Rattle.xc_buffers.proofs.Turns.{get-change}
 use Rattle.xc_buffers.proofs.Fronts.{Passes, given_passes, fronted, PipeAlike, turn_pipe, pipe_passes, turned, firsted, turn_pair, pair_passes, turned_apart}
 use Rattle.xc_buffers.proofs.Fronts.{same_side, fit_side, apart_sides}
 
@@ -346,16 +345,6 @@ pipe_put w items num pipe none =
     passes (Bytes other bytes) none = pipe_passes num (λ found. pipe) (Bytes other bytes) (λ e found. ap (λ front. with_front front pipe) (none e))
     passes (Message pair side bytes) none = pipe_passes num (λ found. pipe) (Message pair side bytes) tt
 
--- it goes
-pub pipe_gone : (w : World) (items : List KeptItem) (num : Num) → keeps_from (OfPipe num) items ≡ false
-    → given_back (without_pipe w num) items ≡ without_pipe (given_back w items) num
-pipe_gone w items num none =
-    given_passes (λ x. without_pipe x num) items (λ k d lt. passes _ (none_any (is_from (OfPipe num)) items none k d lt)) w
-  where
-    passes : (t : KeptItem) → is_from (OfPipe num) t ≡ false → Passes (λ x. without_pipe x num) t
-    passes (Bytes pipe bytes) apart x = ap (λ m. record x { pipes = m }) (change-remove x.pipes num pipe (fronted bytes) (other num pipe apart))
-    passes (Message pair side bytes) apart x = refl
-
 -- a pair of which nothing is kept becomes any other
 pub pair_put : (w : World) (items : List KeptItem) (num : Num) (pair : Pair) → keeps_pair num items ≡ false
     → given_back (with_pair w num pair) items ≡ with_pair (given_back w items) num pair
@@ -365,16 +354,6 @@ pair_put w items num pair none =
     passes : (t : KeptItem) → is_of_pair num t ≡ false → Passes (turn_pair num (λ found. pair)) t
     passes (Bytes pipe bytes) apart = pair_passes num (λ found. pair) (Bytes pipe bytes) tt
     passes (Message p side bytes) apart = pair_passes num (λ found. pair) (Message p side bytes) (λ e found. absurd (true_false (sym e ∙ apart)))
-
--- it goes
-pub pair_gone : (w : World) (items : List KeptItem) (num : Num) → keeps_pair num items ≡ false
-    → given_back (without_pair w num) items ≡ without_pair (given_back w items) num
-pair_gone w items num none =
-    given_passes (λ x. without_pair x num) items (λ k d lt. passes _ (none_any (is_of_pair num) items none k d lt)) w
-  where
-    passes : (t : KeptItem) → is_of_pair num t ≡ false → Passes (λ x. without_pair x num) t
-    passes (Bytes pipe bytes) apart x = refl
-    passes (Message pair side bytes) apart x = ap (λ m. record x { pairs = m }) (change-remove x.pairs num pair (firsted side bytes) (other num pair apart))
 
 -- a side of which nothing is kept has any other messages
 pub side_put : (w : World) (items : List KeptItem) (num : Num) (side : ℕ) (messages : List (List ℕ)) → All (λ t. is_fit t ≡ true) items → side < 2

@@ -7,3 +7,4 @@ pub mod Held
 pub mod Puts
 pub mod Gathered
 pub mod Takes
+pub mod Laws

@@ -8,8 +8,7 @@ use Rattle.std.proofs.lemmas.Cmp.{on_total, then_total, tied_itself, upto}
 use Rattle.std.proofs.lemmas.Map.Lookups.{CmpEqualImpliesEq, exact_unsigned, exact_pairs}
 use Rattle.xc_data.specs.declared.object.Num.{Num}
 use Rattle.xc_maps.specs.Keys.{num_cmp}
-use Rattle.xc_maps.proofs.Laws.{alike, tied}
-use Rattle.xc_maps.proofs.Maps.{num_total, num_exact}
+use Rattle.xc_maps.proofs.Laws.{alike, tied, num_total, num_exact}
 use Rattle.xc_buffers.specs.declared.source.Source.{Source}
 use Rattle.xc_buffers.specs.declared.source.Source.TheVariants.{Pipe, Side}
 use Rattle.xc_buffers.specs.Sources.{source_cmp, is_before}

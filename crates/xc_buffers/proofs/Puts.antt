@@ -9,8 +9,7 @@ use Rattle.std.proofs.lemmas.List.{drop_at, reverse-append, set_split, set-get_o
 use Rattle.xc_data.specs.declared.entry.KeptItem.{KeptItem}
 use Rattle.xc_data.specs.declared.entry.KeptItem.TheVariants.{Bytes, Message}
 use Rattle.xc_data.specs.declared.object.Num.{Num}
-use Rattle.xc_maps.proofs.Laws.{get-insert_same, insert-insert_same, insert-get_same}
-use Rattle.xc_maps.proofs.Maps.{num_total, num_exact}
+use Rattle.xc_maps.proofs.Laws.{get-insert_same, insert-insert_same, insert-get_same, num_total, num_exact}
 use Rattle.xc_world.specs.World.{World, Pipe, Pair, pipe_of, pair_of, with_pipe, with_pair, waiting, with_waiting, empty_pipe, empty_pair}
 use Rattle.xc_world.specs.Run.{gives, given_back}
 use Rattle.xc_buffers.specs.declared.source.Source.TheVariants.{Pipe as OfPipe}

@@ -4,8 +4,7 @@ use Rattle.std.specs.Ordering.{eq_by_cmp}
 use Rattle.std.specs.FinMap.{FinMap, get, insert, remove, get-insert, get-remove, same_map}
 use Rattle.xc_data.specs.declared.object.Num.{Num}
 use Rattle.xc_maps.specs.Keys.{num_cmp}
-use Rattle.xc_maps.proofs.Laws.{alike, tied, get-insert_same, get-insert_other, get-remove_other, insert-insert_same, insert-insert_other}
-use Rattle.xc_maps.proofs.Maps.{num_total, num_exact}
+use Rattle.xc_maps.proofs.Laws.{alike, tied, get-insert_same, get-insert_other, get-remove_other, insert-insert_same, insert-insert_other, num_total, num_exact}
 
 module _ {X : Type 0} where
   -- the value of a number becomes another, by what was there

@@ -3,7 +3,7 @@
 #![tactic(auto)]
 
 mod kept;
-pub mod laws;
+pub mod law;
 mod rows;
 mod source;
 mod taken;

@@ -9,7 +9,7 @@ use Rattle.xc_model.specs.Machine.{machine_parts}
 use Rattle.xc_model.specs.Progress.{Progress, after_entry, opening_progress, progress_of}
 use Rattle.xc_model.specs.Stories.{entry_begin}
 use Rattle.xc_text.specs.declared.script.Script.{Script}
-use Rattle.xc_turns.proofs.Halves.{course_in, course_more, course_opened, jobs_in, jobs_more, jobs_opened}
+use Rattle.xc_turns.proofs.Laws.{course_in, course_more, course_opened, jobs_in, jobs_more, jobs_opened}
 use Rattle.xc_check.specs.Fronts.{course_behind, parts_of, script_behind}
 
 -- ---- from any state on

@@ -10,7 +10,7 @@ use Rattle.xc_model.specs.Course.{Standing}
 use Rattle.xc_model.specs.Progress.{Following}
 use Rattle.xc_shown.specs.Shown.{lines_of_shown, shown_lines}
 use Rattle.xc_shown.specs.declared.shown.Shown.{Shown}
-use Rattle.xc_turns.proofs.Halves.{standing_in}
+use Rattle.xc_turns.proofs.Laws.{standing_in}
 use Rattle.xc_check.proofs.Stepping.{get_behind, get_front}
 
 -- a value is known by its option

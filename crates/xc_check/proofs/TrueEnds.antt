@@ -9,10 +9,10 @@ use Rattle.xc_data.specs.declared.call.Reply.{Reply}
 use Rattle.xc_data.specs.declared.entry.Entry.{Entry}
 use Rattle.xc_data.specs.declared.entry.JobLine.{JobLine}
 use Rattle.xc_data.specs.declared.entry.KeptItem.{KeptItem}
-use Rattle.xc_alike.proofs.CountedAlike.{totals_alike}
+use Rattle.xc_alike.proofs.Laws.{totals_alike}
 use Rattle.xc_grounds.specs.Groundless.{IsFirstGroundless}
 use Rattle.xc_grounds.specs.Numbered.{AreNumbered, entry_begins}
-use Rattle.xc_grounds.proofs.Counted.{are_numbered}
+use Rattle.xc_grounds.proofs.Laws.{are_numbered}
 use Rattle.xc_judge.specs.Judged.{telling as telling_rules}
 use Rattle.xc_judge.specs.Stepped.{MeetsSo}
 use Rattle.xc_judge.specs.declared.reason.Reason.{Reason}
@@ -35,7 +35,7 @@ use Rattle.xc_shown.specs.Shown.{IsReplied, shown_of, tail_lines}
 use Rattle.xc_shown.specs.declared.shown.Shown.{Shown}
 use Rattle.xc_tail.specs.Tails.{IsTail, Led}
 use Rattle.xc_text.specs.declared.script.Script.{Script}
-use Rattle.xc_turns.proofs.Halves.{script_job_in, standing_in}
+use Rattle.xc_turns.proofs.Laws.{script_job_in, standing_in}
 use Rattle.xc_check.specs.Fronts.{begins_shown, course_behind, last_behind, led_by, parts_of, script_behind}
 use Rattle.xc_check.specs.Refusals.{IsFalseGround, IsFalseIn, IsFalseTail, IsRefusedAt, MeetsBehind, MeetsSoBehind}
 use Rattle.xc_check.specs.TrueTexts.{IsTrueAsPrinted}

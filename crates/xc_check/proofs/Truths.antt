@@ -3,9 +3,9 @@ use Rattle.std.proofs.Common.{◌≡◌, ◌∙◌, ℕ, true, false, List, [], 
 use Rattle.std.specs.List.{fold}
 use Rattle.std.proofs.lemmas.List.{length-map}
 use Rattle.xc_data.specs.declared.entry.Entry.{Entry}
-use Rattle.xc_alike.proofs.LeadingAlike.{course_alike, jobs_alike, part_alike}
+use Rattle.xc_alike.proofs.Laws.{course_alike, jobs_alike, part_alike}
 use Rattle.xc_grounds.specs.Numbered.{AreNumbered, entry_begins}
-use Rattle.xc_grounds.proofs.Counted.{are_counted}
+use Rattle.xc_grounds.proofs.Laws.{are_counted}
 use Rattle.xc_model.specs.Asked.{ScriptJob, after_jobs, last_asked, lasts_from, lasts_of, script_job_of}
 use Rattle.xc_model.specs.Course.{Course, after_course}
 use Rattle.xc_model.specs.Machine.{machine_part, machine_parts}
@@ -14,10 +14,10 @@ use Rattle.xc_model.specs.Setting.{Setting}
 use Rattle.xc_sheet.specs.Ends.{lines_of_entries}
 use Rattle.xc_sheet.specs.Places.{lines_text}
 use Rattle.xc_sheet.specs.declared.lines.Line.{Line}
-use Rattle.xc_sheet.proofs.EndTexts.{text_is}
+use Rattle.xc_sheet.proofs.Laws.{text_is}
 use Rattle.xc_shown.specs.Shown.{shown_lines, shown_of}
 use Rattle.xc_shown.specs.declared.shown.Shown.{Shown}
-use Rattle.xc_shown.proofs.Parting.{entries_show}
+use Rattle.xc_shown.proofs.Laws.{entries_show}
 use Rattle.xc_text.specs.declared.script.Script.{Script}
 use Rattle.xc_check.specs.TrueTexts.{IsTrueText}
 use Rattle.xc_check.specs.Verdicts.{IsTrueIn}

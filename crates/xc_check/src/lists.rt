@@ -5,7 +5,7 @@ ghost use Rattle.xc_check.specs.Refusals.{AreFirstLines};
 ghost use Rattle.xc_model.specs.Progress.{Following};
 ghost use Rattle.xc_shown.specs.Shown.{shown_lines};
 ghost use Rattle.xc_tail.specs.Tails.{IsToldOf};
-ghost use Rattle.xc_turns.proofs.Halves.{script_job_in, standing_in};
+ghost use Rattle.xc_turns.proofs.Laws.{script_job_in, standing_in};
 
 use crate::judging::Judging;
 use std::alloc::Global;

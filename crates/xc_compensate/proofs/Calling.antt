@@ -11,7 +11,7 @@ use Rattle.xc_host.specs.Contents.{Contents}
 use Rattle.xc_host.specs.Model.{HostModel, IsUsed, Answers}
 use Rattle.xc_host.specs.Uses.{Uses, BacksFor, MovesBy, PartsOf, back_kind, restored}
 use Rattle.xc_host.specs.declared.errors.Fault.{Fault}
-use Rattle.xc_host.proofs.Called.{used_again, moves_more, moves_none}
+use Rattle.xc_host.proofs.Laws.{used_again, moves_more, moves_none}
 use Rattle.xc_compensate.specs.Records.{is_overwrite}
 use Rattle.xc_compensate.specs.Restoring.{IsStep}
 use Rattle.xc_compensate.specs.declared.undoing.Progress.{Progress}

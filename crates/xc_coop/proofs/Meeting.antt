@@ -1,7 +1,7 @@
 -- A pass that was parted, and one that was met.
 use Rattle.std.proofs.Common.{◌≡◌, ◌⊎◌, List, ap, subst, sym}
 use Rattle.xc_data.specs.declared.entry.Entry.{Entry}
-use Rattle.xc_poll.proofs.Gathers.{longer_begins}
+use Rattle.xc_poll.proofs.Laws.{longer_begins}
 use Rattle.xc_turnstile.specs.declared.view.View.{View}
 use Rattle.xc_turnstile.specs.Views.{BeginsWith, both, kept_half}
 

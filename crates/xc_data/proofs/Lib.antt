@@ -1,3 +1,4 @@
 mod Forever
 pub mod Lists
 pub mod Objects
+pub mod Laws

@@ -18,8 +18,7 @@ use Rattle.xc_data.specs.declared.object.Num.{Num}
 use Rattle.xc_data.specs.declared.object.Object.{Object}
 use Rattle.xc_data.specs.declared.object.Object.TheVariants as object
 use Rattle.xc_data.specs.declared.script.Kind.{Kind}
-use Rattle.xc_maps.proofs.Laws.{insert-get_same}
-use Rattle.xc_maps.proofs.Maps.{num_total, num_exact}
+use Rattle.xc_maps.proofs.Laws.{insert-get_same, num_total, num_exact}
 use Rattle.xc_world.specs.World.{World, Pipe, pipe_of, with_pipe, empty_pipe}
 use Rattle.xc_world.specs.Fits.{late_fits, late_answer_of, late_may_stop}
 use Rattle.xc_world.specs.Late.{Ended, late, ends, stopped, unlinked, room, with_put, pipe_written, shut_down}
@@ -32,8 +31,7 @@ use Rattle.xc_host.specs.Pipes.{has_pipe, pipe_in, put_front}
 use Rattle.xc_host.specs.Uses.{Uses}
 use Rattle.xc_buffers.specs.Items.{kept_bytes}
 use Rattle.xc_buffers.specs.Worlds.{with_front}
-use Rattle.xc_buffers.proofs.Fronts.{Passes, given_passes}
-use Rattle.xc_buffers.proofs.Held.{held_alone, put_stays, shut_stays, pipe_front}
+use Rattle.xc_buffers.proofs.Laws.{Passes, given_passes, held_alone, put_stays, shut_stays, pipe_front}
 use Rattle.xc_deferred.specs.Does.{EndsAsPlain}
 use Rattle.xc_deferred.specs.Ended.{EndsAt}
 use Rattle.xc_deferred.specs.Puts.{Writes}

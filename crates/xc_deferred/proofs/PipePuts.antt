@@ -8,18 +8,15 @@ use Rattle.xc_data.specs.declared.call.LateEnd.{LateEnd}
 use Rattle.xc_data.specs.declared.call.LateEnd.TheVariants as end
 use Rattle.xc_data.specs.declared.object.Num.{Num}
 use Rattle.xc_data.specs.declared.script.Kind.TheVariants.{PipeState, Put}
-use Rattle.xc_maps.proofs.Laws.{get-insert_same}
-use Rattle.xc_maps.proofs.Maps.{num_total, num_exact}
+use Rattle.xc_maps.proofs.Laws.{get-insert_same, num_total, num_exact}
 use Rattle.xc_world.specs.World.{Pipe, empty_pipe}
 use Rattle.xc_host.specs.Contents.{Contents}
 use Rattle.xc_host.specs.Model.{HostModel, IsUsed}
 use Rattle.xc_host.specs.Pipes.{has_pipe, pipe_in, put_into, put_front}
 use Rattle.xc_host.specs.Uses.{Uses, PutsFor, LatesFor}
-use Rattle.xc_host.proofs.Called.{used_then}
-use Rattle.xc_host.proofs.PipeSteps.{front_put}
+use Rattle.xc_host.proofs.Laws.{used_then, front_put, keeps_front}
 use Rattle.xc_data.specs.Step.{Step}
 use Rattle.xc_host.specs.Kept.{KeepsData}
-use Rattle.xc_host.proofs.DataKept.{keeps_front}
 use Rattle.xc_deferred.specs.Puts.{PutsOnly, Writes}
 
 -- a put after a front that was put makes a longer front

@@ -20,9 +20,9 @@ use Rattle.xc_host.specs.Pairs.{pair_in, sent_from, side_state}
 use Rattle.xc_host.specs.Uses.{Uses, SendsFor, LatesFor}
 use Rattle.xc_host.specs.declared.errors.HostErr.{HostErr}
 use Rattle.xc_host.specs.declared.pipes.HostState.{HostState}
-use Rattle.xc_host.proofs.Called.{used_then}
+use Rattle.xc_host.proofs.Laws.{used_then}
 use Rattle.xc_buffers.specs.Items.{is_fit, kept_messages}
-use Rattle.xc_buffers.proofs.Held.{pair_mark, sent_stays, side_front}
+use Rattle.xc_buffers.proofs.Laws.{pair_mark, sent_stays, side_front}
 use Rattle.xc_deferred.specs.Does.{EndsAsPlain}
 use Rattle.xc_deferred.proofs.Lifted.{if_false, if_true, uses_fronted, world_with}
 

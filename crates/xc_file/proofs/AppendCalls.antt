@@ -26,11 +26,11 @@ use Rattle.xc_host.specs.Contents.{Contents, file_in, with_contents}
 use Rattle.xc_host.specs.Model.{HostModel}
 use Rattle.xc_compensate.specs.Records.{Records}
 use Rattle.xc_file.specs.Appending.{Appends, StopsShort, tail}
-use Rattle.xc_file.specs.Calls.{CallState, CallView, ActsAsPlain, AreRecorded, DidPart, IsFileCall}
-use Rattle.xc_file.specs.Passing.{Passes}
+use Rattle.xc_calls.specs.Calls.{CallState, CallView, ActsAsPlain, AreRecorded, DidPart, IsHostCall}
+use Rattle.xc_calls.specs.Passing.{Passes}
 use Rattle.xc_file.specs.declared.checks.OpenFile.{OpenFile}
 use Rattle.xc_file.specs.Writing.{moved_on}
-use Rattle.xc_file.proofs.FileCalls.{call_view_at, Grows, replied_call, some_refusal}
+use Rattle.xc_calls.proofs.Laws.{call_view_at, Grows, replied_call, some_refusal}
 
 -- the state after an append of n of the bytes, at the file's end
 abbrev behind : Private → OpenFile → List ℕ → ℕ → Private
@@ -85,7 +85,7 @@ pub append_call : {H : Type 0} (model : HostModel H) (h : ℕ) (bytes : List ℕ
     → Passes model (XWriteSeq h bytes) (record { old = old; new = new }) result → IfOk result (Grows model (XWriteSeq h bytes) old new)
     → OnErr result (StopsShort model num bytes (record { host = old.host; undo = old.undo }) (record { host = new.host; undo = new.undo }))
     → OnErr result (0 < length bytes)
-    → IsFileCall model (XWriteSeq h bytes) old new result
+    → IsHostCall model (XWriteSeq h bytes) old new result
 append_call model h bytes num at old new (Ok r) free few there none passes grows stops some =
     replied_call model (XWriteSeq h bytes) old new r free passes grows
 append_call model h bytes num at old new (Err e) free few there none passes grows stops some =

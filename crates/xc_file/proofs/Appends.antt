@@ -6,8 +6,7 @@ use Rattle.std.proofs.Math.Seq.{take-add}
 use Rattle.std.specs.FinMap as map
 use Rattle.std.specs.Prelude.{unwrap_or, is_some}
 use Rattle.xc_data.specs.declared.object.Num.{Num}
-use Rattle.xc_maps.proofs.Maps.{num_total, num_exact}
-use Rattle.xc_maps.proofs.Laws.{get-insert_same, insert-insert_same}
+use Rattle.xc_maps.proofs.Laws.{get-insert_same, insert-insert_same, num_total, num_exact}
 use Rattle.xc_host.specs.Contents.{Contents, file_in, has_file, appended, appended_front}
 
 file_in-appended : (c : Contents) (file : Num) (xs : List ℕ) → file_in (appended c file xs) file ≡ file_in c file ++ xs

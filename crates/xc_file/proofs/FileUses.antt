@@ -12,9 +12,9 @@ use Rattle.xc_host.specs.Model.{HostModel, IsUsed}
 use Rattle.xc_host.specs.Uses.{Uses, MayMove, MovesBy, CallsFor, StopsFor, OverwritesFor, AppendsFor, overwrites}
 use Rattle.xc_host.specs.declared.errors.HostErr.{HostErr}
 use Rattle.xc_host.specs.declared.errors.HostErr.TheVariants as host_err
-use Rattle.xc_host.proofs.Called.{used_then, moves_none}
+use Rattle.xc_host.proofs.Laws.{used_then, moves_none}
 use Rattle.xc_file.specs.Appending.{AppendsUntil}
-use Rattle.xc_file.specs.Calls.{PassedBy}
+use Rattle.xc_calls.specs.Calls.{PassedBy}
 use Rattle.xc_file.specs.Naming.{CreatesOnce, RenamesOnce}
 use Rattle.xc_file.specs.Reading.{ReadsBy}
 use Rattle.xc_file.specs.Writing.{LooksFor, LooksThere}

@@ -1,9 +1,9 @@
 -- Calls on names, as the plain machine does them.
-use Rattle.std.proofs.Common.{◌≡◌, ℕ, ◌<◌, arith, ◌||◌, Bool, true, false, Option, Some, None, Ok, Err}
+use Rattle.std.proofs.Common.{◌≡◌, ℕ, ◌<◌, arith, true, false, Option, Some, None, Ok, Err}
 use Rattle.std.proofs.Common.{List, refl, ap, sym, ◌∙◌, subst, if◌then◌else◌}
 use Rattle.std.proofs.Math.Bool.{or-false}
 use Rattle.std.proofs.lemmas.Bool.{lt-leb}
-use Rattle.std.specs.Prelude.{Result, IfOk, is_some, is_none, not, ◌&&◌}
+use Rattle.std.specs.Prelude.{Result, IfOk, is_some, not, ◌&&◌}
 use Rattle.std.specs.FinMap as map
 use Rattle.xc_data.specs.declared.object.Num.{Num}
 use Rattle.xc_data.specs.declared.memory.NoMemory.{NoMemory}
@@ -21,8 +21,8 @@ use Rattle.xc_world.specs.Act.Names.{created, renamed, next_num}
 use Rattle.xc_world.specs.Checks.{has_made_all}
 use Rattle.xc_host.specs.Contents.{Contents, with_contents, renamed_file}
 use Rattle.xc_world.specs.After.{bytes_in}
-use Rattle.xc_file.specs.Calls.{ActsAsPlain, IsMePassed}
-use Rattle.xc_file.proofs.FileCalls.{call_view_at}
+use Rattle.xc_calls.specs.Calls.{ActsAsPlain, IsMePassed}
+use Rattle.xc_calls.proofs.Laws.{call_view_at, much, much_none}
 use Rattle.xc_file.specs.Naming.{Renames, Creates, IsMadeAt, with_made}
 
 -- ---- a rename
@@ -75,14 +75,6 @@ pub rename_me : (number : ℕ) (me : Private) (from to : List ℕ) (r : Reply) �
 rename_me number me from to r none = record { places = refl; made = refl; stored = omega (arith, none) }
 
 -- ---- a create
--- the checks of a create, by whether all is made and by the lowest vacant handle
-abbrev pub much : Bool → Option ℕ → Bool
-much all vacant = all || is_none vacant
-
--- neither is so
-pub much_none : (all : Bool) (vacant : Option ℕ) (h : ℕ) → all ≡ false → vacant ≡ Some h → much all vacant ≡ false
-much_none all vacant h few there = ap (λ o. all || is_none o) there ∙ or-false all ∙ few
-
 -- a create that the checks let pass
 passes : (w : World) (me : Private) (number : ℕ) (name : List ℕ) (answer : Answer) → much (has_made_all me) (lowest_vacant me.places) ≡ false
     → act w me number (XCreate name) answer ≡ counted (XCreate name) (done w me number (XCreate name) answer)

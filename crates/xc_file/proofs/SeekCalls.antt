@@ -18,9 +18,9 @@ use Rattle.xc_world.specs.After.{at_position, with_at}
 use Rattle.xc_world.specs.Checks.{is_file}
 use Rattle.xc_host.specs.Contents.{with_contents}
 use Rattle.xc_host.specs.Model.{HostModel}
-use Rattle.xc_host.proofs.Called.{unused}
-use Rattle.xc_file.specs.Calls.{CallState, IsFileCall}
-use Rattle.xc_file.proofs.FileCalls.{none_grow, replied_call}
+use Rattle.xc_host.proofs.Laws.{unused}
+use Rattle.xc_calls.specs.Calls.{CallState, IsHostCall}
+use Rattle.xc_calls.proofs.Laws.{none_grow, replied_call}
 use Rattle.xc_file.proofs.Refusals.{by_kind}
 
 -- the plain machine's seek to a position, by what stands at the handle
@@ -43,7 +43,7 @@ acts_near w me tx h to num at there near =
 
 -- a seek that goes too far for its host; of one that tells that is past 65536
 pub far_seek : {H : Type 0} (model : HostModel H) (s : CallState H) (h to : ℕ) (num : Num) (at : ℕ) → place_of s.me.places h ≡ File num at
-    → (IsTrue model.tells → 65536 < to) → IsFileCall model (XSeek h to) s s (Ok TooBig)
+    → (IsTrue model.tells → 65536 < to) → IsHostCall model (XSeek h to) s s (Ok TooBig)
 far_seek model s h to num at there far =
     replied_call model (XSeek h to) s s TooBig (ap (λ p. by_kind (is_file p)) there)
     (record {
@@ -62,7 +62,7 @@ far_seek model s h to num at there far =
 -- a seek that its host lets go so far; one that tells does to 65536
 pub near_seek : {H : Type 0} (model : HostModel H) (s : CallState H) (next : Private) (h to : ℕ) (num : Num) (at : ℕ)
     → place_of s.me.places h ≡ File num at → next ≡ with_place s.me h (File num to) → (IsTrue model.tells → to ≤ 65536)
-    → IsFileCall model (XSeek h to) s (record s { me = next }) (Ok Done)
+    → IsHostCall model (XSeek h to) s (record s { me = next }) (Ok Done)
 near_seek {H = H} model s next h to num at there is near =
     let new : CallState H = record s { me = next } in
     replied_call model (XSeek h to) s new Done (ap (λ p. by_kind (is_file p)) there)

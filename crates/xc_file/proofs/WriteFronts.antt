@@ -3,7 +3,7 @@ use Rattle.std.proofs.Common.{◌≡◌, ℕ, ◌+◌, ◌-◌, ◌≤◌, ◌<�
 use Rattle.std.proofs.lemmas.List.{take_rest}
 use Rattle.xc_data.specs.declared.object.Num.{Num}
 use Rattle.xc_host.specs.Contents.{Contents, file_in, has_file, wrote, wrote_front}
-use Rattle.xc_host.proofs.Writes.{front_grows, keeps_length}
+use Rattle.xc_host.proofs.Laws.{front_grows, keeps_length}
 
 -- a write after a front that was written makes a longer front
 pub write_more : (was c next : Contents) (file : Num) (at done more : ℕ) (bytes : List ℕ) → done + more ≤ length bytes → 0 < more

@@ -1,8 +1,6 @@
-pub mod Calls
 pub mod Reading
 pub mod Writing
 pub mod Passing
 pub mod Naming
 pub mod Appending
 pub mod Checks
-pub mod Deferred

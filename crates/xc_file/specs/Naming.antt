@@ -23,8 +23,8 @@ use Rattle.xc_host.specs.Contents.{Contents, created, renamed}
 use Rattle.xc_host.specs.Model.{HostModel}
 use Rattle.xc_host.specs.Uses.{CreatesFor, RenamesFor}
 use Rattle.xc_compensate.specs.Records.{AtHost}
-use Rattle.xc_file.specs.Calls.{CallState, IsPassedReply, replies_fault}
-use Rattle.xc_file.specs.Passing.{IsAsBefore, at_host}
+use Rattle.xc_calls.specs.Calls.{CallState, IsPassedReply, replies_fault}
+use Rattle.xc_calls.specs.Passing.{IsAsBefore, at_host}
 
 -- a name has a file
 abbrev pub IsNamed : Contents → List ℕ → Type 0

@@ -11,10 +11,11 @@ ghost use Rattle.xc_host.specs.Contents.{file_in};
 ghost use Rattle.xc_host.specs.Model.{IsUsed};
 ghost use Rattle.xc_host.specs.Uses.{Uses};
 ghost use Rattle.xc_file.specs.Appending.{Appends, HasRoom, IsAppended, tail};
-ghost use Rattle.xc_file.specs.Calls.{IsFileCall, IsOpenIn, IsPassedReply, PassedBy, replies_fault};
+ghost use Rattle.xc_calls.specs.Calls.{IsHostCall, IsPassedReply, PassedBy, replies_fault};
 ghost use Rattle.xc_world.specs.After.{IsAppendedAt, bytes_in};
-ghost use Rattle.xc_file.specs.Checks.{IsOpenAt};
-ghost use Rattle.xc_file.specs.Passing.{IsThere, LeavesAppend, Looks, Passes};
+ghost use Rattle.xc_file.specs.Checks.{IsOpenAt, IsOpenIn};
+ghost use Rattle.xc_file.specs.Passing.{IsThere, LeavesAppend, Looks};
+ghost use Rattle.xc_calls.specs.Passing.{Passes};
 ghost use Rattle.xc_file.specs.Writing.{moved_on};
 
 use crate::checks::{OpenFile, open_file};
@@ -212,7 +213,7 @@ pub fn x_write_seq<H: Host>(
     requires stored { me.old.stored ≤ 16384 }
     requires open { IsTrue H.model.tells → IsOpenIn (H.model.contents host.old) (place_of me.old.places h) }
     requires none { undo.old.ended ≡ [] }
-    ensures call { (number : ℕ) → IsFileCall H.model (XWriteSeq h bytes.now)
+    ensures call { (number : ℕ) → IsHostCall H.model (XWriteSeq h bytes.now)
         (record { host = host.old; number = number; me = me.old; undo = undo.old })
         (record { host = host.new; number = number; me = me.new; undo = undo.new }) result }
     ensures stored { me.new.stored ≤ 16384 }

@@ -3,7 +3,8 @@ ghost use Rattle.xc_data.specs.Calls.{is_late};
 ghost use Rattle.xc_world.specs.Act.Names.{next_num};
 ghost use Rattle.xc_data.specs.declared.call.Call.TheVariants.{XCreate};
 ghost use Rattle.xc_host.specs.Uses.{Uses};
-ghost use Rattle.xc_file.specs.Calls.{IsFileCall, IsNewIn, PassedBy};
+ghost use Rattle.xc_calls.specs.Calls.{IsHostCall, PassedBy};
+ghost use Rattle.xc_file.specs.Checks.{IsNewIn};
 ghost use Rattle.xc_file.specs.Naming.{CreatesOnce, IsAbsent, IsCreate, with_made};
 
 use xc_compensate::Stack;
@@ -110,7 +111,7 @@ pub fn x_create<H: Host>(
 ) -> Result<Reply, NoMemory>
     requires new { IsTrue H.model.tells → IsNewIn (H.model.contents host.old) me.old tx }
     requires none { undo.old.ended ≡ [] }
-    ensures call { IsFileCall H.model (XCreate name.now)
+    ensures call { IsHostCall H.model (XCreate name.now)
         (record { host = host.old; number = tx; me = me.old; undo = undo.old })
         (record { host = host.new; number = tx; me = me.new; undo = undo.new }) result }
     ensures stored { me.new.stored ≡ me.old.stored }

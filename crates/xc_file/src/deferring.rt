@@ -1,7 +1,7 @@
 ghost use Rattle.std.specs.Prelude.{◌≡◌, ℕ, List, Option, IfOk, OnErr};
 ghost use Rattle.xc_data.specs.declared.call.Call.TheVariants.{XUnlink, XSync};
 ghost use Rattle.xc_data.specs.declared.private.Private.{Private as PlainPrivate};
-ghost use Rattle.xc_file.specs.Deferred.{IsDeferred};
+ghost use Rattle.xc_calls.specs.Deferred.{IsDeferred};
 
 use crate::checks::file_at;
 use xc_data::{LateCall, NoMemory, Private, Reply, SharedName};

@@ -3,9 +3,10 @@ ghost use Rattle.xc_data.specs.Calls.{is_late};
 ghost use Rattle.xc_data.specs.Private.{place_of};
 ghost use Rattle.xc_data.specs.declared.call.Call.TheVariants.{XSeek, XLen, XClose};
 ghost use Rattle.xc_compensate.specs.Records.{Records};
-ghost use Rattle.xc_file.specs.Calls.{IsFileCall, IsOpenIn, StepsAlone};
-ghost use Rattle.xc_file.specs.Passing.{IsThere, Passes};
-ghost use Rattle.xc_file.specs.Checks.{IsOpenAt};
+ghost use Rattle.xc_calls.specs.Calls.{IsHostCall, StepsAlone};
+ghost use Rattle.xc_file.specs.Passing.{IsThere};
+ghost use Rattle.xc_calls.specs.Passing.{Passes};
+ghost use Rattle.xc_file.specs.Checks.{IsOpenAt, IsOpenIn};
 
 use crate::checks::{OpenFile, file_at};
 use xc_data::{Place, Private, Reply};
@@ -14,7 +15,7 @@ use xc_host::Host;
 /// Sets the position of an open file, also past the file's end. Past the host's `most_file_bytes` it is `TooBig`, and the position
 /// stays. The host counts no call.
 pub fn x_seek<H: Host>(host: &H, me: &mut Private, h: u16, to: u64) -> Reply
-    ensures call { (number : ℕ) (undo : Records) → IsFileCall H.model (XSeek h to)
+    ensures call { (number : ℕ) (undo : Records) → IsHostCall H.model (XSeek h to)
         (record { host = host.now; number = number; me = me.old; undo = undo })
         (record { host = host.now; number = number; me = me.new; undo = undo }) (Ok result) }
     ensures same { (me.new.stored ≡ me.old.stored) × (me.new.made ≡ me.old.made) }
@@ -64,7 +65,7 @@ fn len_of<H: Host>(host: &mut H, me: &Private, file: OpenFile) -> Reply
 /// Tells an open file's length. It takes no memory.
 pub fn x_len<H: Host>(host: &mut H, me: &Private, h: u16) -> Reply
     requires open { IsTrue H.model.tells → IsOpenIn (H.model.contents host.old) (place_of me.now.places h) }
-    ensures call { (number : ℕ) (undo : Records) → IsFileCall H.model (XLen h)
+    ensures call { (number : ℕ) (undo : Records) → IsHostCall H.model (XLen h)
         (record { host = host.old; number = number; me = me.now; undo = undo })
         (record { host = host.new; number = number; me = me.now; undo = undo }) (Ok result) }
     ensures contents { IsTrue H.model.tells → H.model.contents host.new ≡ H.model.contents host.old }

@@ -3,8 +3,8 @@ ghost use Rattle.xc_data.specs.Calls.{is_late};
 ghost use Rattle.xc_data.specs.Private.{lowest_vacant};
 ghost use Rattle.xc_data.specs.declared.call.Call.TheVariants.{XOpen};
 ghost use Rattle.xc_compensate.specs.Records.{Records};
-ghost use Rattle.xc_file.specs.Calls.{IsFileCall};
-ghost use Rattle.xc_file.specs.Passing.{Passes};
+ghost use Rattle.xc_calls.specs.Calls.{IsHostCall};
+ghost use Rattle.xc_calls.specs.Passing.{Passes};
 
 use xc_data::{Name, NoMemory, Place, Private, Reply};
 use xc_host::{Host, HostErr};
@@ -33,7 +33,7 @@ fn open_at<H: Host>(host: &mut H, me: &mut Private, name: &Name, h: u16) -> Resu
 
 /// Opens a name's file at its begin.
 pub fn x_open<H: Host>(host: &mut H, me: &mut Private, name: &Name) -> Result<Reply, NoMemory>
-    ensures call { (number : ℕ) (undo : Records) → IsFileCall H.model (XOpen name.now)
+    ensures call { (number : ℕ) (undo : Records) → IsHostCall H.model (XOpen name.now)
         (record { host = host.old; number = number; me = me.old; undo = undo })
         (record { host = host.new; number = number; me = me.new; undo = undo }) result }
     ensures contents { IsTrue H.model.tells → H.model.contents host.new ≡ H.model.contents host.old }

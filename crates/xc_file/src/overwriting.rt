@@ -12,9 +12,10 @@ ghost use Rattle.xc_world.specs.Trail.{done_of};
 ghost use Rattle.xc_host.specs.Cause.{is_fault};
 ghost use Rattle.xc_host.specs.Contents.{file_in, wrote_front};
 ghost use Rattle.xc_host.specs.Uses.{Uses, MovesBy};
-ghost use Rattle.xc_file.specs.Calls.{IsFileCall, IsOpenIn, IsPassedReply, PassedBy, replies_fault};
-ghost use Rattle.xc_file.specs.Checks.{IsOpenAt};
-ghost use Rattle.xc_file.specs.Passing.{IsThere, LeavesOverwrite, Looks, Passes};
+ghost use Rattle.xc_calls.specs.Calls.{IsHostCall, IsPassedReply, PassedBy, replies_fault};
+ghost use Rattle.xc_file.specs.Checks.{IsOpenAt, IsOpenIn};
+ghost use Rattle.xc_file.specs.Passing.{IsThere, LeavesOverwrite, Looks};
+ghost use Rattle.xc_calls.specs.Passing.{Passes};
 ghost use Rattle.xc_file.specs.Writing.{IsInside, LooksFor, Overwrote};
 
 use crate::checks::{OpenFile, open_file};
@@ -204,7 +205,7 @@ pub fn x_write_ovr<H: Host>(
     requires stored { me.old.stored ≤ 16384 }
     requires open { IsTrue H.model.tells → IsOpenIn (H.model.contents host.old) (place_of me.old.places h) }
     requires none { undo.old.ended ≡ [] }
-    ensures call { (number : ℕ) → IsFileCall H.model (XWriteOvr h bytes.now)
+    ensures call { (number : ℕ) → IsHostCall H.model (XWriteOvr h bytes.now)
         (record { host = host.old; number = number; me = me.old; undo = undo.old })
         (record { host = host.new; number = number; me = me.new; undo = undo.new }) result }
     ensures stored { me.new.stored ≤ 16384 }

@@ -10,9 +10,10 @@ ghost use Rattle.xc_host.specs.Contents.{file_in};
 ghost use Rattle.xc_host.specs.Model.{IsUsed};
 ghost use Rattle.xc_host.specs.Uses.{Uses, MovesBy};
 ghost use Rattle.xc_compensate.specs.Records.{Records};
-ghost use Rattle.xc_file.specs.Calls.{IsFileCall, IsOpenIn, replies_fault};
-ghost use Rattle.xc_file.specs.Checks.{IsOpenAt};
-ghost use Rattle.xc_file.specs.Passing.{IsThere, Looks, Passes};
+ghost use Rattle.xc_calls.specs.Calls.{IsHostCall, replies_fault};
+ghost use Rattle.xc_file.specs.Checks.{IsOpenAt, IsOpenIn};
+ghost use Rattle.xc_file.specs.Passing.{IsThere, Looks};
+ghost use Rattle.xc_calls.specs.Passing.{Passes};
 ghost use Rattle.xc_file.specs.Reading.{AppendsFront, ReadsBy};
 
 use crate::checks::{OpenFile, open_file};
@@ -137,7 +138,7 @@ pub fn x_read<H: Host>(
 ) -> Result<Reply, NoMemory>
     requires stored { me.old.stored ≤ 16384 }
     requires open { IsTrue H.model.tells → IsOpenIn (H.model.contents host.old) (place_of me.old.places h) }
-    ensures call { (number : ℕ) (undo : Records) → IsFileCall H.model (XRead h n)
+    ensures call { (number : ℕ) (undo : Records) → IsHostCall H.model (XRead h n)
         (record { host = host.old; number = number; me = me.old; undo = undo })
         (record { host = host.new; number = number; me = me.new; undo = undo }) result }
     ensures contents { IsTrue H.model.tells → H.model.contents host.new ≡ H.model.contents host.old }

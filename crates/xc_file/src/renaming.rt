@@ -3,7 +3,7 @@ ghost use Rattle.xc_data.specs.Calls.{is_late};
 ghost use Rattle.xc_data.specs.declared.call.Call.TheVariants.{XRename};
 ghost use Rattle.xc_data.specs.declared.private.Private.{Private};
 ghost use Rattle.xc_host.specs.Uses.{Uses};
-ghost use Rattle.xc_file.specs.Calls.{IsFileCall, PassedBy};
+ghost use Rattle.xc_calls.specs.Calls.{IsHostCall, PassedBy};
 ghost use Rattle.xc_file.specs.Naming.{IsAbsent, IsNamed, IsRename, RenamesOnce};
 
 use xc_compensate::Stack;
@@ -74,7 +74,7 @@ pub fn x_rename<H: Host>(
     to: &SharedName,
 ) -> Result<Reply, NoMemory>
     requires none { undo.old.ended ≡ [] }
-    ensures call { (number : ℕ) (me : Private) → IsFileCall H.model (XRename from.now to.now)
+    ensures call { (number : ℕ) (me : Private) → IsHostCall H.model (XRename from.now to.now)
         (record { host = host.old; number = number; me = me; undo = undo.old })
         (record { host = host.new; number = number; me = me; undo = undo.new }) result }
     ensures now { IfOk result (λ reply. is_late reply ≡ false) }

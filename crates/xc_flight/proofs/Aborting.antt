@@ -14,9 +14,7 @@ use Rattle.xc_world.specs.World.{World, beginning}
 use Rattle.xc_world.specs.Run.{BodyResult}
 use Rattle.xc_world.specs.Ends.{Ending, IsLegalEnd, blocker, remains, with_remains}
 use Rattle.xc_world.specs.Effects.{AreMadeIn, SparesNew, undone_to, whole}
-use Rattle.xc_world.proofs.EffectsTrail.{body-made}
-use Rattle.xc_world.proofs.EffectsUndone.{record-undone}
-use Rattle.xc_world.proofs.EffectsRemains.{remains-fit, remains-sound}
+use Rattle.xc_world.proofs.Laws.{body-made, record-undone, remains-fit, remains-sound}
 use Rattle.xc_flight.specs.Active.{Tx, Undoing}
 use Rattle.xc_flight.specs.Flight.{asked, effects}
 use Rattle.xc_flight.specs.State.{FlightState, active_at, IsActive, InFlight, AreSound, IsSoundFor, IsIdleSound, Flies, turned, entered}

@@ -21,12 +21,7 @@ use Rattle.xc_world.specs.Sound.{IsSound}
 use Rattle.xc_world.specs.Laws.{AgreeAt}
 use Rattle.xc_world.specs.Own.{IsNumbered, AgreeOn, KeepsBut}
 use Rattle.xc_world.specs.Inner.{IsBlock}
-use Rattle.xc_world.proofs.Objects.{agree_back, agree_on}
-use Rattle.xc_world.proofs.Records.{remains_keep}
-use Rattle.xc_world.proofs.EffectsParts.{remains-words}
-use Rattle.xc_world.proofs.GivenBack.{given_alike, given_away, given_words, given_blocks}
-use Rattle.xc_world.proofs.Joined.{body_last}
-use Rattle.xc_world.proofs.BlocksTaken.{open_block}
+use Rattle.xc_world.proofs.Laws.{agree_back, agree_on, remains_keep, remains-words, given_alike, given_away, given_words, given_blocks, body_last, open_block}
 use Rattle.xc_flight.specs.Active.{Tx, Saved, Phase, Running, Undoing, Own, Covers}
 use Rattle.xc_flight.specs.Flight.{stood, noted, ran, asked, effects, left, returned, is_source, IsCopy, IsSaved, IsSourced, IsPhase, Inside, Flight}
 use Rattle.xc_flight.specs.State.{FlightState, IsActive, InFlight, turned}

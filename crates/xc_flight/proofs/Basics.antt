@@ -11,8 +11,8 @@ use Rattle.xc_data.specs.declared.object.Object.TheVariants as object
 use Rattle.xc_data.specs.declared.claim.Claim.{Claim}
 use Rattle.xc_data.specs.Claims.{is_object, exclusive, objects, owned}
 use Rattle.xc_world.specs.Own.{IsNumbered, Sees, Owns}
-use Rattle.xc_world.proofs.Objects.{found, decide}
-use Rattle.xc_data.proofs.Objects.{same_object}
+use Rattle.xc_world.proofs.Laws.{found, decide}
+use Rattle.xc_data.proofs.Laws.{same_object}
 use Rattle.xc_flight.specs.Active.{Tx, Has, Own, Covers}
 
 -- ---- decisions

@@ -8,7 +8,7 @@ use Rattle.xc_data.specs.declared.call.Reply.{Reply}
 use Rattle.xc_world.specs.Act.{act}
 use Rattle.xc_world.specs.Fits.{fits, answer_of}
 use Rattle.xc_world.specs.Run.{BlockState, step, block_step, runs_on, fits_on, asked_of}
-use Rattle.xc_world.proofs.Blocks.{marked_replies}
+use Rattle.xc_world.proofs.Laws.{marked_replies}
 
 -- two tests that hold
 pub both_true : (a b : Bool) → a ≡ true → b ≡ true → (a && b) ≡ true

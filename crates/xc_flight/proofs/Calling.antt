@@ -20,11 +20,8 @@ use Rattle.xc_world.specs.Ends.{Ending}
 use Rattle.xc_world.specs.Modes.{claims_of}
 use Rattle.xc_world.specs.Laws.{AgreeAt}
 use Rattle.xc_world.specs.Own.{Owns, AgreeOn, KeepsBut}
-use Rattle.xc_world.proofs.Objects.{agree_back, agree_on}
-use Rattle.xc_world.proofs.Calls.{keeps_itself, fits_alike}
-use Rattle.xc_world.proofs.Bodies.{Alike, Within, step_alike, call_agreed, keeps_more, objects_append, owned_append}
-use Rattle.xc_world.proofs.Joined.{body_last}
-use Rattle.xc_world.proofs.Blocks.{marked_now}
+use Rattle.xc_world.proofs.Laws.{agree_back, agree_on, keeps_itself, fits_alike, Alike, Within, step_alike, call_agreed, keeps_more, objects_append}
+use Rattle.xc_world.proofs.Laws.{owned_append, body_last, marked_now}
 use Rattle.xc_data.specs.declared.call.Call.{Call}
 use Rattle.xc_data.specs.declared.call.Call.TheVariants as call
 use Rattle.xc_data.specs.declared.private.Private.{Private}

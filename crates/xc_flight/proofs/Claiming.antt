@@ -16,11 +16,8 @@ use Rattle.xc_data.specs.declared.claim.Mode.TheVariants.{Shared, Exclusive}
 use Rattle.xc_data.specs.Claims.{is_object, is_exclusive, exclusive, compatible, objects, owned, holding, holding_one, held_of}
 use Rattle.xc_world.specs.Laws.{AgreeAt}
 use Rattle.xc_world.specs.Own.{IsNumbered, AgreeOn}
-use Rattle.xc_world.proofs.Objects.{found, agree_on}
-use Rattle.xc_data.proofs.Objects.{same_object}
-use Rattle.xc_world.proofs.Calls.{keeps_itself}
-use Rattle.xc_world.proofs.Bodies.{objects_append, owned_append}
-use Rattle.xc_world.proofs.Holding.{has, held_seen, held_owned}
+use Rattle.xc_world.proofs.Laws.{found, agree_on, keeps_itself, objects_append, owned_append, has, held_seen, held_owned}
+use Rattle.xc_data.proofs.Laws.{same_object}
 use Rattle.xc_world.specs.Run.{BodyResult}
 use Rattle.xc_world.specs.World.{World}
 use Rattle.xc_flight.specs.Active.{Tx, Running, Has, Own, Covers, HoldTheSame, IsBelow, Saved}

@@ -14,10 +14,7 @@ use Rattle.xc_world.specs.Fits.{late_fits, late_answer_of}
 use Rattle.xc_world.specs.Run.{BodyResult, runs_on, lates, lates_fit, late_asked_of}
 use Rattle.xc_world.specs.Laws.{AgreeAt, EndsAlike, late_objects}
 use Rattle.xc_world.specs.Own.{AgreeOn, LooksWithin}
-use Rattle.xc_world.proofs.Objects.{agree_back}
-use Rattle.xc_world.proofs.LocalLate.{late_alike}
-use Rattle.xc_world.proofs.Calls.{agreed, still_agree, keeps_itself}
-use Rattle.xc_world.proofs.Runs.{late_keeps, late_fits_alike}
+use Rattle.xc_world.proofs.Laws.{agree_back, late_alike, agreed, still_agree, keeps_itself, late_keeps, late_fits_alike}
 use Rattle.xc_flight.specs.Active.{Tx, Running, Committing, Has, Own}
 use Rattle.xc_flight.specs.Flight.{noted, ran, late_done, left, returned, IsCommitting, IsPhase, Inside, stood, IsSourced}
 use Rattle.xc_flight.specs.State.{FlightState, IsActive, InFlight, turned, entered}

@@ -24,18 +24,13 @@ use Rattle.xc_world.specs.Laws.{AgreeAt, late_objects}
 use Rattle.xc_world.specs.Sound.{IsFree}
 use Rattle.xc_data.specs.Claims.{objects}
 use Rattle.xc_world.specs.Own.{Sees, Owns, AgreeOn, KeepsBut, LooksWithin, SpeaksOfOwn, late_changes}
-use Rattle.xc_world.proofs.Objects.{agree_back, agree_on, words_same}
-use Rattle.xc_world.proofs.LocalParts.{agree_itself}
-use Rattle.xc_world.proofs.Bodies.{Alike, StateAlike, SavedAlike, CopiesAlike, opens_alike, runs_alike, runs_fit_alike, runs_touched, runs_owned, keeps_more}
-use Rattle.xc_world.proofs.Bodies.{keeps_on, body_keeps}
-use Rattle.xc_world.proofs.Records.{IsOf, remains_agree, remains_keep}
-use Rattle.xc_world.proofs.Runs.{Within, EndAlike, lates_alike, lates_keep}
-use Rattle.xc_world.proofs.Trails.{body_speaks}
+use Rattle.xc_world.proofs.Laws.{agree_back, agree_on, words_same, agree_itself, Alike, StateAlike, SavedAlike, CopiesAlike, opens_alike, runs_alike}
+use Rattle.xc_world.proofs.Laws.{runs_fit_alike, runs_touched, runs_owned, keeps_more, keeps_on, body_keeps, IsOf, remains_agree, remains_keep, LateWithin}
+use Rattle.xc_world.proofs.Laws.{EndAlike, lates_alike, lates_keep, body_speaks, given_alike}
 use Rattle.xc_flight.specs.Active.{Tx, Saved, Phase, Running, Committing, Undoing, Has, Own, Covers, num}
 use Rattle.xc_flight.specs.Flight.{stood, noted, ran, asked, late_done, effects, left, returned, IsPhase, IsCopy, IsSaved, Source, IsSourced, Inside, Flight}
 use Rattle.xc_flight.proofs.Basics.{has_decide, owns_has, sees_has, owns_own}
 use Rattle.xc_flight.proofs.Worlds.{words_agree, overlaid_other, overlaid_alike}
-use Rattle.xc_world.proofs.GivenBack.{given_alike}
 
 -- ---- what a body left, by what its transaction has and owns
 pub ran_whole : (w : World) (t : Tx) → body w t.began t.number (asked t) ≡ ran w t
@@ -117,7 +112,7 @@ answered P (c ∷ calls) (e ∷ ends) all =
     All-cons (λ (x : LateCall × LateAnswer). P x.0) (c, late_answer_of e) (late_asked_of calls ends) (All-head P c calls all)
     (answered P calls ends (All-tail P c calls all))
 
-done_within : (w : World) (t : Tx) → Covers t.held (ran w t).touched → All (Within (Has t) (Own t)) (late_done w t)
+done_within : (w : World) (t : Tx) → Covers t.held (ran w t).touched → All (LateWithin (Has t) (Own t)) (late_done w t)
 done_within w t covers =
     answered (LooksWithin (Has t) (Own t)) (take (length t.late_ends) (ran w t).late) t.late_ends
     (All-take (LooksWithin (Has t) (Own t)) (length t.late_ends) (ran w t).late (late_within w t covers))

@@ -17,12 +17,8 @@ use Rattle.xc_world.specs.Run.{BodyResult, step, opens, body, body_fits, lates, 
 use Rattle.xc_world.specs.Sound.{IsFit, IsSound, IsReady, is_there, names_there}
 use Rattle.xc_world.specs.Laws.{AgreeAt, late_objects}
 use Rattle.xc_world.specs.Own.{LooksWithin}
-use Rattle.xc_world.proofs.Calls.{agreed}
-use Rattle.xc_world.proofs.Sound.{act_sound}
-use Rattle.xc_world.proofs.SoundLate.{late_fit, late_sound}
-use Rattle.xc_world.proofs.SoundReady.{act_keeps_ready, act_leaves_ready, late_keeps_ready}
-use Rattle.xc_world.proofs.EffectsBody.{back_sound, body-sound, body-others_sound}
-use Rattle.xc_world.proofs.Blocks.{Fits, fit_all, runs_keep}
+use Rattle.xc_world.proofs.Laws.{agreed, act_sound, late_fit, late_sound, act_keeps_ready, act_leaves_ready, late_keeps_ready, back_sound, body-sound}
+use Rattle.xc_world.proofs.Laws.{body-others_sound, Fits, fit_all, runs_keep}
 use Rattle.xc_flight.specs.Active.{Tx, Committing, Has, Own}
 use Rattle.xc_flight.specs.Flight.{asked, ran, late_done, done_late, left, Inside}
 use Rattle.xc_flight.specs.State.{FlightState, IsActive, InFlight}

@@ -15,3 +15,4 @@ pub mod Sounding
 pub mod Together
 pub mod Examples
 pub mod Aborting
+pub mod Laws

@@ -6,7 +6,7 @@ use native.Mathlib.Decide.{ℕ_discrete}
 use Rattle.xc_data.specs.declared.object.Object.{Object}
 use Rattle.xc_data.specs.declared.object.Object.TheVariants as object
 use Rattle.xc_world.specs.Laws.{AgreeAt}
-use Rattle.xc_world.proofs.Objects.{agree_back, agree_on, worlds_same}
+use Rattle.xc_world.proofs.Laws.{agree_back, agree_on, worlds_same}
 use Rattle.xc_flight.specs.Active.{Tx, Has, Own, IsBelow}
 use Rattle.xc_flight.specs.Flight.{Flight}
 use Rattle.xc_flight.specs.State.{FlightState, active_at, IsActive, HasSome, OwnSome, HasAt, OwnAt, InFlight, Move}

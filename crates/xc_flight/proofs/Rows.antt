@@ -11,9 +11,7 @@ use Rattle.xc_world.specs.World.{World}
 use Rattle.xc_world.specs.Sound.{IsFree}
 use Rattle.xc_world.specs.Laws.{AgreeAt}
 use Rattle.xc_world.specs.Own.{IsNumbered, Sees, Owns, KeepsBut, AgreeOn}
-use Rattle.xc_world.proofs.LocalParts.{agree_itself}
-use Rattle.xc_world.proofs.Calls.{keeps_itself}
-use Rattle.xc_world.proofs.Bodies.{keeps_more}
+use Rattle.xc_world.proofs.Laws.{agree_itself, keeps_itself, keeps_more}
 use Rattle.xc_flight.specs.Active.{Tx, Has, Own, num, IsBelow}
 use Rattle.xc_flight.specs.Flight.{Inside, Flight}
 use Rattle.xc_flight.specs.State.{FlightState, active_at, IsActive, HasSome, OwnSome, HasAt, OwnAt, InFlight, turned, entered}

@@ -24,7 +24,7 @@ use Rattle.xc_world.specs.Run.{BodyResult, body, body_fits, run, asked_of}
 use Rattle.xc_world.specs.Sound.{IsSound, IsKnown, IsFree, is_there}
 use Rattle.xc_world.specs.Laws.{AgreeAt}
 use Rattle.xc_world.specs.Own.{AgreeOn, IsNumbered}
-use Rattle.xc_world.proofs.EffectsBody.{body-sound, body-others_sound}
+use Rattle.xc_world.proofs.Laws.{body-sound, body-others_sound}
 use Rattle.xc_flight.specs.Active.{Tx, Running, Committing, Has, num, IsBelow}
 use Rattle.xc_flight.specs.Flight.{noted, ran, asked, left, IsCommitting, IsPhase, Inside}
 use Rattle.xc_flight.specs.State.{FlightState, IsActive, InFlight, AreSound, IsIdleSound, entered}

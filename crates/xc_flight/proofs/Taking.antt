@@ -5,8 +5,7 @@ use Rattle.std.specs.Prelude.{All, unwrap_or, if◌then◌else◌}
 use Rattle.std.specs.FinMap as finite
 use Rattle.std.proofs.lemmas.List.{length-append}
 use Rattle.std.proofs.lemmas.List.Elements.{All-nil, All-cons, All-head, All-tail, All-weaker, All-append}
-use Rattle.xc_maps.proofs.Maps.{num_total, num_exact}
-use Rattle.xc_maps.proofs.Laws.{get-insert_same, get-insert_cases}
+use Rattle.xc_maps.proofs.Laws.{get-insert_same, get-insert_cases, num_total, num_exact}
 use Rattle.xc_data.specs.declared.object.Num.{Num}
 use Rattle.xc_data.specs.declared.call.Call.{Call}
 use Rattle.xc_data.specs.declared.call.Call.TheVariants as call
@@ -30,10 +29,7 @@ use Rattle.xc_world.specs.Effects.{whole}
 use Rattle.xc_world.specs.Sound.{IsSound, IsFree}
 use Rattle.xc_world.specs.Laws.{AgreeAt}
 use Rattle.xc_world.specs.Own.{IsNumbered}
-use Rattle.xc_world.proofs.Records.{remains_keep}
-use Rattle.xc_world.proofs.Taken.{body_returns}
-use Rattle.xc_world.proofs.Blocks.{Any, State, any_all, runs_keep}
-use Rattle.xc_world.proofs.EffectsParts.{remains-words}
+use Rattle.xc_world.proofs.Laws.{remains_keep, body_returns, Any, State, any_all, runs_keep, remains-words}
 use Rattle.xc_flight.specs.Active.{Tx, Own, num}
 use Rattle.xc_flight.specs.Flight.{ran, asked, Inside}
 use Rattle.xc_flight.proofs.Basics.{own_decide}

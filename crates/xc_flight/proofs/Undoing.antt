@@ -20,18 +20,14 @@ use Rattle.xc_world.specs.Effects.{whole, undone_to}
 use Rattle.xc_world.specs.Sound.{IsSound}
 use Rattle.xc_world.specs.Laws.{AgreeAt, GoAlike}
 use Rattle.xc_world.specs.Own.{IsNumbered, AgreeOn}
-use Rattle.xc_world.proofs.Objects.{agree_back, agree_on, decide}
-use Rattle.xc_world.proofs.Calls.{keeps_itself}
-use Rattle.xc_world.proofs.Records.{undone_to_alike}
+use Rattle.xc_world.proofs.Laws.{agree_back, agree_on, decide, keeps_itself, undone_to_alike, marked_now, given_alike, given_away, given_words, given_blocks}
 use Rattle.xc_data.specs.Claims.{is_object}
-use Rattle.xc_data.proofs.Objects.{same_object, itself}
-use Rattle.xc_world.proofs.Blocks.{marked_now}
+use Rattle.xc_data.proofs.Laws.{same_object, itself}
 use Rattle.xc_flight.specs.Active.{Tx, Running, Undoing, Own, Has, Covers}
 use Rattle.xc_flight.specs.Flight.{ran, effects, left, returned, IsPhase, Inside, stood, noted, is_source, IsSourced}
 use Rattle.xc_flight.specs.State.{FlightState, IsActive, InFlight, turned, entered}
 use Rattle.xc_flight.specs.Turns.{in_phase, MayDo, wanting, after_call, with_undone}
 use Rattle.xc_flight.proofs.Basics.{owns_has}
-use Rattle.xc_world.proofs.GivenBack.{given_alike, given_away, given_words, given_blocks}
 use Rattle.xc_flight.proofs.Frames.{trail_own, left_keeps, all_front}
 use Rattle.xc_flight.proofs.Rows.{goes_on, ends}
 use Rattle.xc_flight.proofs.Calling.{is_running, running_left, after_keeps, fits_then, step_trail, step_taken, step_covers, step_stands}

@@ -12,7 +12,7 @@ use Rattle.std.proofs.lemmas.Map.Keys.{IsDistinct-IsPermutation, IsDistinct-from
 use Rattle.std.proofs.lemmas.Option.{get_or_from_slice_get, slice_get-get_or, slice_get_within}
 use Rattle.std.proofs.Math.ListN.{length-map}
 use Rattle.xc_data.specs.declared.entry.Entry.{Entry}
-use Rattle.xc_data.proofs.Lists.{found_at, get_map}
+use Rattle.xc_data.proofs.Laws.{found_at, get_map}
 use Rattle.xc_model.specs.Machine.{BeginInOrder, counting, numbers_of}
 use Rattle.xc_model.specs.Stories.{entry_begin}
 use Rattle.xc_grounds.specs.Numbered.{AreNumbered, entry_begins}

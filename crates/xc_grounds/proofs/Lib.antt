@@ -5,3 +5,4 @@ mod Naming
 mod Numbering
 mod Clashing
 pub mod Counted
+pub mod Laws

@@ -5,7 +5,7 @@ use Rattle.std.specs.Bool.{Decides}
 use Rattle.std.specs.declared.option.Option.TheVariants.{None, Some}
 use Rattle.std.proofs.lemmas.Option.{slice_get_read, slice_get_within}
 use Rattle.xc_data.specs.declared.object.Object.{Object}
-use Rattle.xc_data.proofs.Lists.{get_map}
+use Rattle.xc_data.proofs.Laws.{get_map}
 use Rattle.xc_model.specs.Grounds.{Ground, Other, Part, Revocation}
 use Rattle.xc_grounds.specs.Groundless.{AreTwo, IsNamed, ClashesOver, blame, mention, scene}
 use Rattle.xc_grounds.specs.Numbered.{part_begin, part_begins}

@@ -6,7 +6,7 @@ use Rattle.std.specs.declared.option.Option.TheVariants.{None, Some}
 use Rattle.std.proofs.lemmas.List.{take_all, take-take, length-take-le}
 use Rattle.std.proofs.lemmas.Option.{get_or_from_slice_get, slice_get-get_or, slice_get_within}
 use Rattle.std.proofs.lemmas.List.Elements.{All-take}
-use Rattle.xc_data.proofs.Lists.{get_map}
+use Rattle.xc_data.proofs.Laws.{get_map}
 use Rattle.xc_model.specs.Grounds.{Part}
 use Rattle.xc_grounds.specs.Numbered.{AreInOrder, AreNumbered, IsFirstMisnumbered, part_begin, part_begins}
 use Rattle.xc_grounds.specs.Places.{AreEntered, HasPlaces, IsFirstDisordered, IsFree}

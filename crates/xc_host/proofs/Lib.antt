@@ -3,3 +3,4 @@ pub mod Writes
 pub mod Called
 pub mod PipeSteps
 pub mod DataKept
+pub mod Laws

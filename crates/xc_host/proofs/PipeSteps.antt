@@ -1,16 +1,15 @@
 -- Calls on pipes that follow each other.
-use Rattle.std.proofs.Common.{◌≡◌, ℕ, zero, suc, ◌+◌, ◌≤◌, ◌<◌, true, is_some, List, [], ◌∷◌, ◌++◌, length, take, drop}
-use Rattle.std.proofs.Common.{refl, ap, sym, ◌∙◌, arith, append_assoc, append-nil, length-take, length-drop}
+use Rattle.std.proofs.Common.{◌≡◌, ℕ, ◌+◌, ◌≤◌, ◌<◌, List, [], ◌∷◌, ◌++◌, length, take, drop}
+use Rattle.std.proofs.Common.{refl, ap, sym, ◌∙◌, arith, append_assoc, length-take, length-drop}
 use Rattle.std.proofs.lemmas.List.{drop-drop}
 use Rattle.std.proofs.Math.Seq.{take-add}
 use Rattle.std.specs.FinMap as map
 use Rattle.std.specs.Prelude.{unwrap_or}
 use Rattle.xc_data.specs.declared.object.Num.{Num}
-use Rattle.xc_maps.proofs.Maps.{num_total, num_exact}
-use Rattle.xc_maps.proofs.Laws.{get-insert_same, insert-insert_same}
+use Rattle.xc_maps.proofs.Laws.{get-insert_same, insert-insert_same, num_total, num_exact}
 use Rattle.xc_world.specs.World.{Pipe, empty_pipe}
 use Rattle.xc_host.specs.Contents.{Contents}
-use Rattle.xc_host.specs.Pipes.{pipe_in, has_pipe, taken_from, taken_front, put_into, put_front}
+use Rattle.xc_host.specs.Pipes.{pipe_in, taken_from, put_into, put_front}
 
 -- the contents with this pipe
 abbrev with_it : Contents → Num → Pipe → Contents
@@ -18,9 +17,6 @@ with_it c num pipe = record c { pipes = map.insert c.pipes num pipe }
 
 it_is : (c : Contents) (num : Num) (pipe : Pipe) → pipe_in (with_it c num pipe) num ≡ pipe
 it_is c num pipe = ap (λ o. unwrap_or o empty_pipe) (get-insert_same num_total num_exact c.pipes num pipe)
-
-it_is_there : (c : Contents) (num : Num) (pipe : Pipe) → has_pipe (with_it c num pipe) num ≡ true
-it_is_there c num pipe = ap is_some (get-insert_same num_total num_exact c.pipes num pipe)
 
 -- a change after a change of one pipe
 twice : (c : Contents) (num : Num) (one : Pipe) (f : Pipe → Pipe)
@@ -50,13 +46,6 @@ front_put c num done more bytes some le =
     let count : length (take more (drop done bytes)) ≡ more = length-take more (drop done bytes) ∙ omega (arith, length-drop done bytes) in
     put_front-put c num (take done bytes) (take more (drop done bytes)) (omega (arith, count)) ∙ ap (put_front c num) (sym (take-add done more bytes))
 
--- a put leaves the pipe there, with the bytes after its own
-pub put_leaves : (c : Contents) (num : Num) (bytes : List ℕ) → has_pipe c num ≡ true
-    → (has_pipe (put_front c num bytes) num ≡ true)
-    × (pipe_in (put_front c num bytes) num ≡ record (pipe_in c num) { held = (pipe_in c num).held ++ bytes })
-put_leaves c num [] there = (there, ap (λ held. record (pipe_in c num) { held = held }) (sym (append-nil (pipe_in c num).held)))
-put_leaves c num (b ∷ bs) there = (it_is_there c num (with_behind (pipe_in c num) (b ∷ bs)), it_is c num (with_behind (pipe_in c num) (b ∷ bs)))
-
 -- ---- bytes that are taken
 abbrev without_front : Pipe → ℕ → Pipe
 without_front pipe n = record pipe { held = drop n pipe.held }
@@ -65,20 +54,3 @@ take-take : (c : Contents) (num : Num) (m n : ℕ) → taken_from (taken_from c 
 take-take c num m n =
     twice c num (without_front (pipe_in c num) m) (λ p. without_front p n)
     ∙ ap (λ held. with_it c num (record (pipe_in c num) { held = held })) (drop-drop n m (pipe_in c num).held)
-
-some_front : (c : Contents) (num : Num) (n : ℕ) → 0 < n → taken_from c num n ≡ taken_front c num n
-some_front c num zero some = absurd (omega (arith, some))
-some_front c num (suc n) some = refl
-
--- a take after a front that was taken takes a longer front
-pub front_taken : (c : Contents) (num : Num) (done more : ℕ) → 0 < more
-    → taken_from (taken_front c num done) num more ≡ taken_front c num (done + more)
-front_taken c num zero more some = some_front c num more some ∙ ap (taken_front c num) (let e : more ≡ 0 + more = omega arith in e)
-front_taken c num (suc m) more some = take-take c num (suc m) more ∙ some_front c num (suc m + more) (omega (arith, some))
-
--- a take leaves the pipe there, without the bytes
-pub take_leaves : (c : Contents) (num : Num) (n : ℕ) → has_pipe c num ≡ true
-    → (has_pipe (taken_front c num n) num ≡ true)
-    × (pipe_in (taken_front c num n) num ≡ record (pipe_in c num) { held = drop n (pipe_in c num).held })
-take_leaves c num zero there = (there, refl)
-take_leaves c num (suc n) there = (it_is_there c num (without_front (pipe_in c num) (suc n)), it_is c num (without_front (pipe_in c num) (suc n)))

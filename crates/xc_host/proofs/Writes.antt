@@ -6,11 +6,10 @@ use Rattle.std.proofs.Math.Seq.{take-add}
 use Rattle.std.specs.FinMap as map
 use Rattle.std.specs.Prelude.{unwrap_or}
 use Rattle.xc_data.specs.declared.object.Num.{Num}
-use Rattle.xc_maps.proofs.Maps.{num_total, num_exact}
-use Rattle.xc_maps.proofs.Laws.{get-insert_same, insert-insert_same}
+use Rattle.xc_maps.proofs.Laws.{get-insert_same, insert-insert_same, num_total, num_exact}
 use Rattle.xc_host.specs.Contents.{Contents, file_in, has_file, wrote, wrote_front}
 use Rattle.xc_world.specs.Act.Files.{overwritten}
-use Rattle.xc_world.proofs.SoundFiles.{length-overwritten}
+use Rattle.xc_world.proofs.Laws.{length-overwritten}
 
 -- one overwrite after another
 overwritten-more : (at : ℕ) (xs ys f : List ℕ) → at + (length xs + length ys) ≤ length f

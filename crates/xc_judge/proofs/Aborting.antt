@@ -24,15 +24,12 @@ use Rattle.xc_world.specs.Run.{BodyResult, BlockState, body, body_fits, opens, s
 use Rattle.xc_world.specs.Sound.{IsSound}
 use Rattle.xc_world.specs.Trail.{recorded}
 use Rattle.xc_world.specs.World.{World, beginning, no_handles}
-use Rattle.xc_world.proofs.Blocks.{Fits, fit_all, runs_keep}
-use Rattle.xc_world.proofs.EffectsRemains.{remains-sound}
-use Rattle.xc_world.proofs.EffectsTrail.{body-made}
-use Rattle.xc_world.proofs.Joined.{body_last, body_fits_last}
+use Rattle.xc_world.proofs.Laws.{Fits, fit_all, runs_keep, remains-sound, body-made, body_last, body_fits_last}
 use Rattle.xc_data.specs.declared.entry.Entry.{Entry}
 use Rattle.xc_data.specs.declared.entry.Outcome.{Outcome}
 use Rattle.xc_data.specs.declared.entry.Outcome.TheVariants.{Aborted}
 use Rattle.xc_data.specs.declared.entry.Report.{Report}
-use Rattle.xc_machine.proofs.MachineRemain.{remains_words}
+use Rattle.xc_machine.proofs.Laws.{remains_words}
 use Rattle.xc_model.specs.Course.{Course, Standing, after_course, course_abort, course_outcome, course_standing, standing_abort, standing_of}
 use Rattle.xc_model.specs.EntryEnds.{AreLeft, AreLeftBy, AreRecords}
 use Rattle.xc_model.specs.Progress.{words_left}

@@ -16,10 +16,9 @@ use Rattle.xc_world.specs.Run.{asked_of, body, late_asked_of}
 use Rattle.xc_world.specs.Opening.{bare, opening, opening_handles}
 use Rattle.xc_world.specs.Sound.{IsSound}
 use Rattle.xc_world.specs.World.{State, World}
-use Rattle.xc_world.proofs.EffectsBody.{body-sound, body-others_sound}
-use Rattle.xc_world.proofs.SoundOpening.{opening_words}
+use Rattle.xc_world.proofs.Laws.{body-sound, body-others_sound, opening_words}
 use Rattle.xc_machine.specs.Replay.{AreReplayed, AreEnded, led_by}
-use Rattle.xc_machine.proofs.MachineReplay.{from_body, to_body, from_lates, led_to, to_lates}
+use Rattle.xc_machine.proofs.Laws.{from_body, to_body, from_lates, led_to, to_lates}
 use Rattle.xc_model.specs.Course.{Course, Standing, after_course, course_commit, course_outcome, course_standing, opening_course, standing_anew, standing_of}
 use Rattle.xc_model.specs.EntryEnds.{IsCommit}
 use Rattle.xc_model.specs.Machine.{IsPlayedBody}

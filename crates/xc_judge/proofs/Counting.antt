@@ -16,7 +16,7 @@ use Rattle.xc_script.specs.declared.ask.Ask.{Ask}
 use Rattle.xc_world.specs.Ends.{Ending}
 use Rattle.xc_world.specs.RecordOf.{AreRecordsOf, leaves_record}
 use Rattle.xc_world.specs.Run.{BodyResult}
-use Rattle.xc_world.proofs.RecordsLeft.{as_many}
+use Rattle.xc_world.proofs.Laws.{as_many}
 use Rattle.xc_model.specs.EntryEnds.{AreRecords, IsReport}
 use Rattle.xc_model.specs.Recorded.{AreFewFaults, HasRecords, IsFewFaults, Recorded, all_records, block_records, records_with}
 use Rattle.xc_judge.specs.Counts.{IsCount, IsCountedReport, RecordCount, block_count, count_of, count_with}

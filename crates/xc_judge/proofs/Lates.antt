@@ -12,7 +12,7 @@ use Rattle.xc_data.specs.declared.call.LateCall.TheVariants.{Sync, WritePipe, Sh
 use Rattle.xc_world.specs.Late.{Ended, unlinked, shut_down, late_fine, stopped, late, room, is_block}
 use Rattle.xc_world.specs.Run.{lates}
 use Rattle.xc_world.specs.World.{World, pipe_of, pair_of, waiting, other_side}
-use Rattle.xc_world.proofs.SoundParts.{chosen_so}
+use Rattle.xc_world.proofs.Laws.{chosen_so}
 
 -- the words stay
 abbrev KeepsWords : World → Ended → Type 0

@@ -26,9 +26,7 @@ use Rattle.xc_world.specs.Fits.{asks_host, is_done, is_write, may_stop}
 use Rattle.xc_world.specs.Run.{begins}
 use Rattle.xc_world.specs.Trail.{append_record, done_of, overwrite_record, recorded}
 use Rattle.xc_world.specs.World.{World, file_of}
-use Rattle.xc_world.proofs.Calls.{act_cases}
-use Rattle.xc_world.proofs.SoundParts.{chosen_so}
-use Rattle.xc_world.proofs.UndoingBody.{refusal-none}
+use Rattle.xc_world.proofs.Laws.{act_cases, chosen_so, refusal-none}
 use Rattle.xc_judge.specs.Left.{IsFront, whole_records}
 use Rattle.xc_judge.proofs.Recording.{each_recorded}
 use Rattle.xc_judge.proofs.Stopped.{append_fault, overwrite_fault, undone_leaves_none}

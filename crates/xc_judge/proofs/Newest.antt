@@ -10,7 +10,7 @@ use Rattle.xc_data.specs.declared.entry.Cause.TheVariants as cause
 use Rattle.xc_data.specs.declared.undo.Undo.{Undo}
 use Rattle.xc_data.specs.declared.undo.UndoEnd.TheVariants.{Undone, Failed, Blocked}
 use Rattle.xc_world.specs.Ends.{Ending, is_undone}
-use Rattle.xc_machine.proofs.MachineRun.{left-cons}
+use Rattle.xc_machine.proofs.Laws.{left-cons}
 use Rattle.xc_model.specs.Recorded.{IsNewestFailed, IsStuckIn}
 use Rattle.xc_judge.specs.Ran.{has_failed}
 use Rattle.xc_judge.specs.Traced.{ends_of}

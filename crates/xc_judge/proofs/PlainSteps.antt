@@ -23,8 +23,7 @@ use Rattle.xc_world.specs.Act.Pipes.{new_pipe, read_pipe_at, pair_made, new_pair
 use Rattle.xc_world.specs.Checks.{is_bad_handle, is_too_big, is_too_much, is_refused}
 use Rattle.xc_world.specs.Fits.{asks_host, is_write, is_back, is_done, may_stop, fits}
 use Rattle.xc_world.specs.World.{World, file_of, pipe_of, pair_of, waiting}
-use Rattle.xc_world.proofs.SoundParts.{chosen_so}
-use Rattle.xc_world.proofs.UndoingBody.{act-cases}
+use Rattle.xc_world.proofs.Laws.{chosen_so, act-cases}
 use Rattle.xc_model.specs.WordCalls.{is_word_call, word_reply, words_after}
 
 -- ---- calls that reply at once, and are not on words

@@ -12,7 +12,7 @@ use Rattle.xc_world.specs.RecordOf.{AreRecordsOf, left_by}
 use Rattle.xc_world.specs.Run.{BlockState, BodyResult, asked_of, back_from, block_step, body, marked, opens, runs_on, step}
 use Rattle.xc_world.specs.Trail.{recorded}
 use Rattle.xc_world.specs.World.{World}
-use Rattle.xc_world.proofs.RecordsLeft.{acted_of, more_records}
+use Rattle.xc_world.proofs.Laws.{acted_of, more_records}
 use Rattle.xc_machine.specs.Replay.{AreReplayed, AreReplayedOn, IsReplayed, told}
 use Rattle.xc_model.specs.Recorded.{Recorded, all_records, no_records, records_with}
 

@@ -19,8 +19,7 @@ use Rattle.xc_world.specs.Act.Step.{Stepped}
 use Rattle.xc_world.specs.Run.{BodyResult, begins}
 use Rattle.xc_world.specs.Trail.{recorded}
 use Rattle.xc_world.specs.World.{World}
-use Rattle.xc_world.proofs.SoundParts.{chosen_so}
-use Rattle.xc_world.proofs.UndoingBody.{act-cases, refusal-none, undone-none}
+use Rattle.xc_world.proofs.Laws.{chosen_so, act-cases, refusal-none, undone-none}
 use Rattle.xc_model.specs.EntryEnds.{AreLeft, AreLeftBy}
 use Rattle.xc_judge.specs.Ran.{is_starved}
 use Rattle.xc_judge.proofs.Recording.{each_recorded}

@@ -7,8 +7,8 @@ ghost use Rattle.xc_shown.specs.Shown.{effects_shown, record_shown};
 
 use crate::same::{same_bytes, same_name, same_num};
 use xc_data::{Chunk, Name, Num, Undo, UndoEnd};
-use xc_failure::remaining_from;
 use xc_lines::{Standing, UndoKind};
+use xc_world::remaining_from;
 
 // ---- their kinds
 

@@ -1,2 +1,3 @@
 pub mod BitRuns
 pub mod Lanes
+pub mod Laws

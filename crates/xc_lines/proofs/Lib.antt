@@ -7,3 +7,4 @@ pub mod QuotedLaws
 pub mod ReplyLaws
 pub mod Spelled
 pub mod TailLaws
+pub mod Laws

@@ -9,7 +9,7 @@ mod calls;
 mod cursor;
 mod heads;
 mod held;
-pub mod laws;
+pub mod law;
 mod numbers;
 mod objects;
 mod quoted;

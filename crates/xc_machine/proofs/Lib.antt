@@ -6,3 +6,4 @@ pub mod MachineBlocks
 pub mod MachineRemain
 mod MachineTraces
 pub mod MachineTaking
+pub mod Laws

@@ -18,12 +18,8 @@ use Rattle.xc_world.specs.Fits.{fits}
 use Rattle.xc_world.specs.Late.{kept_call}
 use Rattle.xc_world.specs.Run.{BodyResult, BlockState, step, block_step, opens, body, body_state, body_fits}
 use Rattle.xc_world.specs.Sound.{IsReady, IsSound}
-use Rattle.xc_world.proofs.Blocks.{Fits, fit_all, runs_keep}
-use Rattle.xc_world.proofs.Bodies.{body_keeps}
-use Rattle.xc_world.proofs.EffectsBody.{back_sound, body-sound}
-use Rattle.xc_world.proofs.Joined.{body_last, body_fits_last}
-use Rattle.xc_world.proofs.Sound.{act_sound}
-use Rattle.xc_world.proofs.SoundReady.{act_keeps_ready, act_leaves_ready}
+use Rattle.xc_world.proofs.Laws.{Fits, fit_all, runs_keep, body_keeps, back_sound, body-sound, body_last, body_fits_last, act_sound, act_keeps_ready}
+use Rattle.xc_world.proofs.Laws.{act_leaves_ready}
 use Rattle.xc_machine.specs.declared.body.Body.{Body}
 use Rattle.xc_machine.specs.declared.body.Saved.{Saved}
 use Rattle.xc_machine.specs.declared.run.Replied.{Replied}

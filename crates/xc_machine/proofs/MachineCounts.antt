@@ -12,8 +12,7 @@ use Rattle.xc_world.specs.Checks.{is_too_big, is_too_much}
 use Rattle.xc_world.specs.Fits.{fits}
 use Rattle.xc_world.specs.Act.{done}
 use Rattle.xc_world.specs.Act.Step.{step_to, IsShortReply}
-use Rattle.xc_world.proofs.Sound.{read_size, done_well}
-use Rattle.xc_world.proofs.SoundSteps.{StepsWell, got_length}
+use Rattle.xc_world.proofs.Laws.{read_size, done_well, StepsWell, got_length}
 
 read_size-short : (c : Call) → is_too_big c ≡ false → read_size c ≤ 1024
 read_size-short (call.XRead h n) e = grind (arith, e)

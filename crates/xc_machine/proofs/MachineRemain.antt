@@ -5,7 +5,7 @@ use Rattle.xc_data.specs.declared.undo.UndoEnd.{UndoEnd}
 use Rattle.xc_data.specs.declared.undo.UndoEnd.TheVariants.{Undone, Failed, Blocked}
 use Rattle.xc_world.specs.World.{World}
 use Rattle.xc_world.specs.Ends.{remains, with_remains}
-use Rattle.xc_world.proofs.EffectsParts.{remains-words}
+use Rattle.xc_world.proofs.Laws.{remains-words}
 
 -- what remains of the first record, and then of the others
 pub remains_first : (w : World) (u : Undo) (end : UndoEnd) (rest : List (Undo × UndoEnd))

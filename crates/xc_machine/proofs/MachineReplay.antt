@@ -18,10 +18,7 @@ use Rattle.xc_world.specs.Fits.{fits, late_fits, answer_of, late_answer_of}
 use Rattle.xc_world.specs.Late.{late}
 use Rattle.xc_world.specs.Run.{BlockState, step, block_step, runs_on, fits_on, opens, asked_of, body, body_fits, lates, lates_fit, late_asked_of}
 use Rattle.xc_world.specs.Sound.{IsFit, IsReady, IsShortCall, IsSound}
-use Rattle.xc_world.proofs.Blocks.{marked_replies}
-use Rattle.xc_world.proofs.Runs.{late_keeps_others}
-use Rattle.xc_world.proofs.SoundReady.{late_keeps_ready}
-use Rattle.xc_world.proofs.SoundLate.{late_fit, late_sound}
+use Rattle.xc_world.proofs.Laws.{marked_replies, late_keeps_others, late_keeps_ready, late_fit, late_sound}
 use Rattle.xc_machine.specs.Replay.{IsReplayed, AreReplayed, AreReplayedOn, told, IsEnded, AreEnded, led_by}
 
 -- a fact of what is there, of what it is

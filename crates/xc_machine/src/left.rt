@@ -3,7 +3,7 @@ ghost use Rattle.xc_world.specs.Ends.{remains, with_remains};
 
 use crate::World;
 use xc_data::{NoMemory, Undo, UndoEnd};
-use xc_failure::remaining_from;
+use xc_world::remaining_from;
 
 // What remains of a record.
 fn put_one(world: &mut World, undo: &Undo, end: &UndoEnd) -> Result<(), NoMemory>

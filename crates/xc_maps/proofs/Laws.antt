@@ -1,4 +1,17 @@
 -- Laws of maps by number, for the crates above.
+-- ---- Maps: What `BTreeMap`s say of finite maps.
+-- numbers that compare as equal are the same
+pub use Rattle.xc_maps.proofs.Maps.{num_exact}
+-- the order of numbers is total
+pub use Rattle.xc_maps.proofs.Maps.{num_total}
+-- what the map of some entries has at a key
+pub use Rattle.xc_maps.proofs.Maps.{get-lookup}
+-- entries that differ at one key make maps that differ there
+pub use Rattle.xc_maps.proofs.Maps.{inserted}
+-- entries of which one lacks a key make maps that differ there
+pub use Rattle.xc_maps.proofs.Maps.{removed}
+-- a new key that is inserted and then removed leaves the map as it was
+pub use Rattle.xc_maps.proofs.Maps.{undone}
 use Rattle.std.proofs.Common.{◌≡◌, ◌≢◌, ◌⊎◌, inl, inr, Bool, true, false, cond, Option, Some, None, refl, ap, sym, ◌∙◌}
 use Rattle.std.specs.declared.cmp.Ordering.{Ordering}
 use Rattle.std.specs.declared.cmp.Ordering.TheVariants.{Less, Equal, Greater}

@@ -20,7 +20,7 @@ use Rattle.xc_serve.specs.Sessions.{IsSession}
 use Rattle.xc_turnstile.specs.declared.view.View.{View}
 use Rattle.xc_turnstile.specs.Known.{Known}
 use Rattle.xc_turnstile.specs.Views.{BeginsWith, HasPlace, both, longer}
-use Rattle.xc_turnstile.proofs.Fronts.{starts_self, starts_trans}
+use Rattle.xc_turnstile.proofs.Laws.{starts_self, starts_trans}
 
 module _ (a b : List Entry) where
   -- by which is the longer

@@ -6,8 +6,7 @@ use Rattle.xc_data.specs.declared.object.Num.{Num}
 use Rattle.xc_data.specs.declared.script.Opened.{Opened}
 use Rattle.xc_data.specs.declared.script.Opened.TheVariants as opened
 use Rattle.xc_maps.specs.Keys.{num_cmp}
-use Rattle.xc_maps.proofs.Maps.{num_total, num_exact}
-use Rattle.xc_maps.proofs.Laws.{insert-insert_same, insert-get_same}
+use Rattle.xc_maps.proofs.Laws.{insert-insert_same, insert-get_same, num_total, num_exact}
 use Rattle.xc_world.specs.Opening.{with_opened}
 use Rattle.xc_world.specs.World.{Pipe, Pair, empty_pipe, empty_pair, pair_of, waiting}
 use Rattle.xc_host.specs.Contents.{Contents, file_in, world_of, contents_of}

@@ -9,7 +9,7 @@ use Rattle.std.proofs.lemmas.List.Sorted.{IsNonDecreasingBy-from_all_adjacent}
 use Rattle.xc_data.specs.declared.script.FaultLine.{FaultLine}
 use Rattle.xc_data.specs.declared.script.Kind.{Kind}
 use Rattle.xc_data.specs.Kinds.{place_of}
-use Rattle.xc_host.proofs.Places.{same_place}
+use Rattle.xc_host.proofs.Laws.{same_place}
 use Rattle.xc_memhost.specs.Faults.{is_within, any_within, is_line_of}
 use Rattle.xc_memhost.specs.Spans.{is_at_place, IsRising, EndsBefore, AreApart}
 

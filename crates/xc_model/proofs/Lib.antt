@@ -1,2 +1,3 @@
 pub mod RecordsPlayed
 pub mod StartedCalls
+pub mod Laws

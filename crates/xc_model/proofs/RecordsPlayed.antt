@@ -17,7 +17,7 @@ use Rattle.xc_world.specs.RecordOf.{AreRecordsOf, left_by}
 use Rattle.xc_world.specs.Run.{BlockState, BodyResult, back_from, block_step, marked, opens, step}
 use Rattle.xc_world.specs.Trail.{recorded}
 use Rattle.xc_world.specs.World.{World}
-use Rattle.xc_world.proofs.RecordsLeft.{acted_of, as_many, more_records, one_left}
+use Rattle.xc_world.proofs.Laws.{acted_of, as_many, more_records, one_left}
 use Rattle.xc_model.specs.EntryEnds.{AreLeft, AreLeftBy, AreRecords}
 use Rattle.xc_model.specs.Recorded.{HasRecords, Recorded, no_records, records_with}
 

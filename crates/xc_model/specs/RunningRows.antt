@@ -20,7 +20,7 @@ use Rattle.xc_data.specs.Step.{Step}
 use Rattle.xc_data.specs.declared.entry.KeptItem.{KeptItem}
 use Rattle.xc_data.specs.declared.undo.Undo.{Undo}
 use Rattle.xc_host.specs.Uses.{CallsOf}
-use Rattle.xc_pipe.specs.Taking.{HasTaken}
+use Rattle.xc_calls.specs.Taking.{HasTaken}
 use Rattle.xc_script.specs.declared.ask.Ask.{Ask}
 use Rattle.xc_script.specs.declared.ask.Ask.TheVariants as ask
 use Rattle.xc_script.specs.Answers.{answered}

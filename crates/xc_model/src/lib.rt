@@ -7,8 +7,10 @@
 //! 4. Each row keeps what is true between two turns, and where no job goes on the journal is true.
 #![tactic(auto)]
 
+mod origin;
 mod phase;
 mod rules;
 
+pub use origin::Origin;
 pub use phase::{Attempts, Phase};
 pub use rules::Rules;

@@ -18,14 +18,11 @@ use Rattle.xc_model.specs.Progress.{opening_progress}
 use Rattle.xc_model.specs.Serial.{IsSerial}
 use Rattle.xc_model.specs.Setting.{Setting, setting}
 use Rattle.xc_model.specs.declared.rules.Rules.{Rules}
-use Rattle.xc_serial.proofs.Finals.{all_are_done, plain_end}
-use Rattle.xc_serial.proofs.Remains.{nothing_remains}
+use Rattle.xc_serial.proofs.Laws.{all_are_done, plain_end, nothing_remains}
 use Rattle.xc_station.specs.declared.start.End.{End}
 use Rattle.xc_station.specs.declared.start.Opening.{Opening}
 use Rattle.xc_station.specs.Stations.{StationView, KeepsOrigin, RanAlone}
-use Rattle.xc_turns.proofs.Accounts.{journal_accounts}
-use Rattle.xc_turns.proofs.Orders.{alone_stops}
-use Rattle.xc_turns.proofs.Ways.{joint_of_parts}
+use Rattle.xc_turns.proofs.Laws.{journal_accounts, alone_stops, joint_of_parts}
 use Rattle.xc_outcome.specs.declared.choice.Choice.{Choice}
 use Rattle.xc_outcome.specs.declared.finish.Status.{Status}
 use Rattle.xc_outcome.specs.declared.finish.Status.TheVariants as status

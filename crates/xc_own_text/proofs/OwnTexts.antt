@@ -9,7 +9,7 @@ use Rattle.xc_model.specs.Setting.{setting}
 use Rattle.xc_model.specs.declared.rules.Rules.{Rules}
 use Rattle.xc_outcome.specs.Runs.{IsEndOver, end_text}
 use Rattle.xc_station.specs.declared.start.End.{End}
-use Rattle.xc_text.proofs.Keeping.{in_limits, parsed}
+use Rattle.xc_text.proofs.Laws.{in_limits, parsed}
 use Rattle.xc_text.specs.Scripts.{parse_of}
 use Rattle.xc_own_text.proofs.Counts.{all_answered, as_many_words}
 use Rattle.xc_text.specs.declared.script.Script.{Script}

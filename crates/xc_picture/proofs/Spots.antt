@@ -7,8 +7,7 @@ use Rattle.std.specs.Ordering.{eq_by_cmp}
 use Rattle.std.proofs.lemmas.Bool.{true≢false}
 use Rattle.xc_data.specs.declared.object.Num.{Num}
 use Rattle.xc_maps.specs.Keys.{num_cmp}
-use Rattle.xc_maps.proofs.Laws.{alike, tied}
-use Rattle.xc_maps.proofs.Maps.{num_total, num_exact}
+use Rattle.xc_maps.proofs.Laws.{alike, tied, num_total, num_exact}
 use Rattle.xc_picture.specs.Arrows.{Spots, key_of, spot_of, spots_with, rival_spot, IsSpotAmong}
 use Rattle.xc_picture.specs.declared.scene.Bar.{Bar}
 use Rattle.xc_picture.specs.declared.scene.Spot.{Spot}

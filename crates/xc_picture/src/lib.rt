@@ -8,7 +8,7 @@ mod drawing;
 mod elements;
 mod escapes;
 mod labels;
-pub mod laws;
+pub mod law;
 mod naming;
 mod reading;
 mod scene;

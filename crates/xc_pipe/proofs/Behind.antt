@@ -14,13 +14,14 @@ use Rattle.xc_world.specs.Run.{given_back, gives}
 use Rattle.xc_buffers.specs.Items.{kept_bytes}
 use Rattle.xc_buffers.specs.Views.{KeptView}
 use Rattle.xc_buffers.specs.Worlds.{with_front}
-use Rattle.xc_buffers.proofs.Held.{pipe_front, pipe_put}
+use Rattle.xc_buffers.proofs.Laws.{pipe_front, pipe_put}
 use Rattle.xc_host.specs.Pipes.{IsSomeOf}
 use Rattle.xc_host.specs.declared.errors.HostErr.{HostErr}
 use Rattle.xc_host.specs.declared.pipes.Took.{Took}
 use Rattle.xc_host.specs.declared.pipes.Took.TheVariants as took
-use Rattle.xc_pipe.specs.Reading.{back, found_of}
-use Rattle.xc_pipe.specs.Taking.{HoldsMore, KeepsBefore, KeepsNone, TakesAfter, TakesFront, TakesKept}
+use Rattle.xc_calls.specs.Taking.{back, HoldsMore, KeepsBefore, KeepsNone, TakesFront}
+use Rattle.xc_pipe.specs.Reading.{found_of}
+use Rattle.xc_pipe.specs.Taking.{TakesAfter, TakesKept}
 use Rattle.xc_pipe.proofs.Takings.{back_some, joined_back}
 
 -- bytes in front of a pipe of which nothing is kept stand behind what is kept

@@ -11,11 +11,8 @@ use Rattle.xc_host.specs.Pipes.{after_take, with_new_pipe}
 use Rattle.xc_host.specs.declared.errors.HostErr.{HostErr}
 use Rattle.xc_host.specs.declared.pipes.Took.{Took}
 use Rattle.xc_host.specs.declared.pipes.Took.TheVariants as took
-use Rattle.xc_host.proofs.DataKept.{keeps_itself, keeps_new, keeps_taken}
-
--- where nothing is changed
-pub keeps_same : (c d : Contents) → d ≡ c → KeepsData c d
-keeps_same c d same = subst (KeepsData c) (sym same) (keeps_itself c)
+use Rattle.xc_host.proofs.Laws.{keeps_new, keeps_taken}
+use Rattle.xc_calls.proofs.Laws.{keeps_same}
 
 -- after a take
 pub keeps_take : (pipe : Num) (found : Took) (c d : Contents) → d ≡ after_take pipe found c → KeepsData c d

@@ -5,3 +5,4 @@ pub mod ReadCalls
 pub mod TakeRuns
 pub mod KeptData
 pub mod Behind
+pub mod Laws

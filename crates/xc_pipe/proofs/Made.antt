@@ -3,7 +3,7 @@ use Rattle.std.proofs.Common.{◌≡◌, ℕ, ◌<◌, arith, true, false, Some,
 use Rattle.std.proofs.Common.{subst, if◌then◌else◌}
 use Rattle.std.proofs.Math.Bool.{or-false}
 use Rattle.std.proofs.lemmas.Bool.{eq-eqb, lt-leb}
-use Rattle.std.specs.Prelude.{Result, IfOk, OnErr, not, ◌&&◌}
+use Rattle.std.specs.Prelude.{Result, IfOk, not, ◌&&◌}
 use Rattle.xc_data.specs.declared.object.Num.{Num}
 use Rattle.xc_data.specs.declared.memory.NoMemory.{NoMemory}
 use Rattle.xc_data.specs.declared.call.Call.TheVariants.{XPipe}
@@ -24,18 +24,13 @@ use Rattle.xc_world.specs.Replies.{may_reply}
 use Rattle.xc_world.specs.RecordOf.{AreRecordsOf, left_by}
 use Rattle.xc_world.specs.Trail.{pipe_record}
 use Rattle.xc_buffers.specs.Items.{kept_bytes}
-use Rattle.xc_buffers.proofs.Held.{pipe_put}
-use Rattle.xc_deferred.proofs.Lifted.{world_with}
+use Rattle.xc_buffers.proofs.Laws.{pipe_put}
+use Rattle.xc_deferred.proofs.Laws.{world_with}
 use Rattle.xc_host.specs.Contents.{Contents, with_contents}
-use Rattle.xc_compensate.specs.Records.{Records}
-use Rattle.xc_host.specs.Fronted.{before, fronted}
 use Rattle.xc_host.specs.Kept.{with_kept}
-use Rattle.xc_host.specs.Model.{HostModel}
 use Rattle.xc_host.specs.Pipes.{with_new_pipe}
-use Rattle.xc_file.specs.Calls.{ActsAsPlain, IsMePassed}
-use Rattle.xc_file.specs.Passing.{IsAsBefore}
-use Rattle.xc_file.proofs.FileCalls.{call_view_at}
-use Rattle.xc_file.proofs.NameCalls.{much, much_none}
+use Rattle.xc_calls.specs.Calls.{ActsAsPlain, IsMePassed}
+use Rattle.xc_calls.proofs.Laws.{call_view_at, much, much_none}
 use Rattle.xc_pipe.specs.Making.{IsMadeAt, Makes, with_made, made_record}
 
 -- a call that the checks let pass
@@ -122,11 +117,3 @@ made_kind me number _ = refl
 pub made_recorded : (me : Private) (number : ℕ) (r : Reply) → made_record (next_num me number) r ≡ pipe_record me number r
 made_recorded me number (reply.Made h) = refl
 made_recorded me number _ = refl
-
--- all is as before with kept items in front where it is without
-pub before_fronted : {H : Type 0} (model : HostModel H) (items : List KeptItem) (a b : H) (u v : Records) (result : Result Reply NoMemory)
-    → OnErr result (IsAsBefore model (record { old = record { host = a; undo = u }; new = record { host = b; undo = v } }))
-    → OnErr result (IsAsBefore (fronted model) (record { old = record { host = before a items; undo = u }; new = record { host = before b items; undo = v } }))
-before_fronted model items a b u v (Ok r) is = tt
-before_fronted model items a b u v (Err e) is =
-    record { undo = is.undo; contents = λ t. ap (λ c. with_kept c items) (is.contents t) }

@@ -1,5 +1,5 @@
 -- Calls that read a pipe, as their contract has them.
-use Rattle.std.proofs.Common.{◌≡◌, ℕ, ◌≤◌, ◌==◌, ◌&&◌, Bool, true, false, not, None, Ok, Err, IsTrue, List, [], length, refl, ap, sym, ◌∙◌, subst}
+use Rattle.std.proofs.Common.{◌≡◌, ℕ, ◌≤◌, ◌==◌, ◌&&◌, Bool, true, false, not, None, Ok, Err, IsTrue, length, refl, ap, sym, ◌∙◌, subst}
 use Rattle.std.proofs.Common.{arith, if◌then◌else◌}
 use Rattle.std.proofs.lemmas.Bool.{and_from, eq-eqb, le-leb}
 use Rattle.std.specs.Prelude.{IfOk, OnErr, Result, nat_le}
@@ -7,11 +7,9 @@ use Rattle.xc_data.specs.Counts.{CountsFault}
 use Rattle.xc_data.specs.Private.{place_of}
 use Rattle.xc_data.specs.declared.call.Answer.{Answer}
 use Rattle.xc_data.specs.declared.call.Answer.TheVariants as answer
-use Rattle.xc_data.specs.declared.script.Kind.{Kind}
 use Rattle.xc_data.specs.declared.call.Call.TheVariants.{XReadPipe}
 use Rattle.xc_data.specs.declared.call.Reply.{Reply}
 use Rattle.xc_data.specs.declared.call.Reply.TheVariants as reply
-use Rattle.xc_data.specs.declared.entry.KeptItem.{KeptItem}
 use Rattle.xc_data.specs.declared.memory.NoMemory.{NoMemory}
 use Rattle.xc_data.specs.declared.object.Num.{Num}
 use Rattle.xc_data.specs.declared.private.Place.TheVariants as place
@@ -21,28 +19,19 @@ use Rattle.xc_world.specs.Act.Step.{counted, step_to, storing, storing_reply}
 use Rattle.xc_world.specs.Checks.{refusal_of}
 use Rattle.xc_world.specs.Replies.{may_reply}
 use Rattle.xc_world.specs.World.{World}
-use Rattle.xc_world.proofs.Replies.{brings_some, not_zero}
+use Rattle.xc_world.proofs.Laws.{brings_some, not_zero}
 use Rattle.xc_compensate.specs.Records.{Records}
-use Rattle.xc_deferred.proofs.Lifted.{world_with}
-use Rattle.xc_host.specs.Contents.{Contents, contents_of, with_contents, world_of}
+use Rattle.xc_deferred.proofs.Laws.{world_with}
+use Rattle.xc_host.specs.Contents.{with_contents}
 use Rattle.xc_host.specs.Fronted.{before, fronted}
-use Rattle.xc_host.specs.Kept.{with_kept}
 use Rattle.xc_host.specs.Model.{HostModel}
 use Rattle.xc_host.specs.Uses.{Uses}
-use Rattle.xc_file.specs.Calls.{ActsAsPlain, IsMePassed, replies_fault}
-use Rattle.xc_file.specs.Passing.{IsAsBefore, Passes}
-use Rattle.xc_file.proofs.FileCalls.{call_view_at}
-use Rattle.xc_file.proofs.Refusals.{passed_checks}
-use Rattle.xc_pipe.specs.Reading.{IsReadReply, Leads, Reads, ReadsBy, Sides, world_at}
+use Rattle.xc_calls.specs.Calls.{ActsAsPlain, IsMePassed, replies_fault}
+use Rattle.xc_calls.specs.Passing.{Passes}
+use Rattle.xc_calls.proofs.Laws.{call_view_at, passed_checks, ReadState, logical, sides, uses_both}
+use Rattle.xc_pipe.specs.Reading.{IsReadReply, Reads, ReadsBy}
+use Rattle.xc_calls.specs.Sides.{Sides, world_at}
 use Rattle.xc_pipe.proofs.ReadSteps.{fault_step, got_step, none_step}
-
--- what a host holds with what is kept
-abbrev pub logical : Sides → Contents
-logical s = with_kept s.contents s.items
-
--- sides that lead to the same worlds hold the same
-pub same_logical : (pipe : Num) (old new : Sides) → Leads pipe [] [] (record { old = old; new = new }) → logical old ≡ logical new
-same_logical pipe old new leads = ap contents_of (leads (world_of old.contents))
 
 module _ (h n : ℕ) (pipe : Num) (me : Private) (number : ℕ) (at : place_of me.places h ≡ place.Pipe pipe) (free : refusal_of (XReadPipe h n) me ≡ None)
     (some : 1 ≤ n) (old new : Sides) where
@@ -96,22 +85,7 @@ me_passed h n number me reply.End is = record { places = refl; made = refl; stor
 me_passed h n number me (reply.Fault k) is = record { places = refl; made = refl; stored = omega arith }
 me_passed h n number me _ never = absurd never
 
--- what a read leaves: the host, what is kept in front of it, and the private state
-pub record ReadState (H : Type 0) : Type 0 where
-  pub host : H
-  pub items : List KeptItem
-  pub me : Private
-
--- what it holds with what is kept
-abbrev pub sides : {H : Type 0} → HostModel H → ReadState H → Sides
-sides model s = record { contents = model.contents s.host; items = s.items }
-
 module _ {H : Type 0} (model : HostModel H) (old new : ReadState H) where
-  -- a host that was used is so with items in front, whatever becomes of these
-  pub uses_both : {IsMade : List Kind → Type 0} → Uses model (record { old = old.host; new = new.host }) IsMade
-      → Uses (fronted model) (record { old = before old.host old.items; new = before new.host new.items }) IsMade
-  uses_both u = record { made = u.made; named = u.named; used = record { called = u.used.called; plan = u.used.plan } }
-
   -- a read of some bytes that the checks let pass
   pub read_passed : (h n : ℕ) (pipe : Num) (number : ℕ) (undo : Records) (result : Result Reply NoMemory) → place_of old.me.places h ≡ place.Pipe pipe
       → refusal_of (XReadPipe h n) old.me ≡ None → 1 ≤ n → IfOk result (IsReadReply n) → IfOk result (λ r. new.me ≡ storing_reply r old.me)
@@ -141,21 +115,3 @@ module _ {H : Type 0} (model : HostModel H) (old new : ReadState H) where
     err = err;
     cause = cause;
   }
-
--- where memory ran out what is there is as before
-pub err_logical : {H : Type 0} (model : HostModel H) (old new : ReadState H) (pipe : Num) (result : Result Reply NoMemory)
-    → OnErr result (Leads pipe [] [] (record { old = sides model old; new = sides model new }))
-    → OnErr result (with_kept (model.contents new.host) new.items ≡ with_kept (model.contents old.host) old.items)
-err_logical model old new pipe (Ok r) leads = tt
-err_logical model old new pipe (Err e) leads = sym (same_logical pipe (sides model old) (sides model new) leads)
-
--- where memory ran out all is as before
-pub err_before : {H : Type 0} (model : HostModel H) (old new : ReadState H) (pipe : Num) (undo : Records) (result : Result Reply NoMemory)
-    → (IsTrue model.tells → OnErr result (Leads pipe [] [] (record { old = sides model old; new = sides model new })))
-    → OnErr result (IsAsBefore (fronted model) (record {
-      old = record { host = before old.host old.items; undo = undo };
-      new = record { host = before new.host new.items; undo = undo };
-    }))
-err_before model old new pipe undo (Ok r) leads = tt
-err_before model old new pipe undo (Err e) leads =
-    record { undo = refl; contents = λ t. sym (same_logical pipe (sides model old) (sides model new) (leads t)) }

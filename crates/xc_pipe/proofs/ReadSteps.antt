@@ -1,5 +1,5 @@
 -- A read of a pipe, as the plain machine does it over what a host holds and what is kept in front.
-use Rattle.std.proofs.Common.{◌≡◌, ℕ, zero, suc, ◌<◌, ◌≤◌, ◌==◌, ◌⊎◌, inl, inr, Bool, true, false, None, Some, List, [], ◌++◌}
+use Rattle.std.proofs.Common.{◌≡◌, ℕ, zero, suc, ◌<◌, ◌≤◌, ◌==◌, ◌⊎◌, inl, inr, Bool, true, false, None, List, [], ◌++◌}
 use Rattle.std.proofs.Common.{length, take, drop, refl, ap, sym, ◌∙◌, arith, append-nil, length-append, unwrap_or, if◌then◌else◌}
 use Rattle.std.proofs.Math.Dec.{eqb-suc-zero}
 use Rattle.std.proofs.lemmas.Bool.{cases_lt}
@@ -16,32 +16,23 @@ use Rattle.xc_data.specs.declared.private.Place.TheVariants as place
 use Rattle.xc_data.specs.declared.private.Private.{Private}
 use Rattle.xc_world.specs.Act.{act, done}
 use Rattle.xc_world.specs.Act.Pipes.{nothing, read_pipe_at, took}
-use Rattle.xc_world.specs.Act.Step.{Stepped, step_to, storing, counted}
+use Rattle.xc_world.specs.Act.Step.{step_to, storing, counted}
 use Rattle.xc_world.specs.Checks.{is_bad_handle, is_too_big, is_too_much, refusal_of}
 use Rattle.xc_world.specs.Run.{gives, given_back}
-use Rattle.xc_maps.proofs.Laws.{get-insert_same}
-use Rattle.xc_maps.proofs.Maps.{num_total, num_exact}
+use Rattle.xc_maps.proofs.Laws.{get-insert_same, num_total, num_exact}
 use Rattle.xc_world.specs.World.{World, Pipe, empty_pipe, pipe_of, with_pipe}
 use Rattle.xc_buffers.specs.Items.{kept_bytes}
 use Rattle.xc_buffers.specs.Worlds.{with_front, without_front}
-use Rattle.xc_buffers.proofs.Held.{pipe_front}
-use Rattle.xc_buffers.proofs.Puts.{front_left, has_front}
+use Rattle.xc_buffers.proofs.Laws.{pipe_front, front_left, has_front}
 use Rattle.xc_host.specs.Contents.{with_contents}
 use Rattle.xc_host.specs.Pipes.{pipe_in}
 use Rattle.xc_host.specs.declared.pipes.Took.TheVariants as taken
-use Rattle.xc_pipe.specs.Reading.{Finds, IsDrained, Leads, Sides, world_at}
+use Rattle.xc_pipe.specs.Reading.{Finds, IsDrained, Leads}
+use Rattle.xc_calls.specs.Sides.{Sides, world_at}
 use Rattle.xc_pipe.proofs.Takings.{back_some}
+use Rattle.xc_calls.proofs.Laws.{first_none}
 
 -- ---- the checks
--- where none of the first three refuses, a step is the one after them
-pub first_none : (bad big much : Bool) (w : World) (me : Private) (other : Stepped)
-    → (if bad then Some reply.BadHandle else if big then Some reply.TooBig else if much then Some reply.TooMuch else None) ≡ None
-    → (if bad then step_to w me reply.BadHandle else if big then step_to w me reply.TooBig else if much then step_to w me reply.TooMuch else other) ≡ other
-first_none true big much w me other e = cc
-first_none false true much w me other e = cc
-first_none false false true w me other e = cc
-first_none false false false w me other e = refl
-
 -- a read that the checks let pass
 read_passes : (w : World) (me : Private) (number h n : ℕ) (a : Answer) → refusal_of (XReadPipe h n) me ≡ None
     → act w me number (XReadPipe h n) a ≡ counted (XReadPipe h n) (done w me number (XReadPipe h n) a)

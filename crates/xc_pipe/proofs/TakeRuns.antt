@@ -10,7 +10,7 @@ use Rattle.xc_host.specs.declared.errors.HostErr.{HostErr}
 use Rattle.xc_host.specs.declared.errors.HostErr.TheVariants as host_err
 use Rattle.xc_host.specs.declared.pipes.Took.{Took}
 use Rattle.xc_host.specs.declared.pipes.Took.TheVariants as took
-use Rattle.xc_host.proofs.Called.{used_again}
+use Rattle.xc_host.proofs.Laws.{used_again}
 use Rattle.xc_pipe.specs.Reading.{TakenBy, TakesUntil, found_of}
 
 -- takes that each took some, after a front of this length

@@ -9,20 +9,20 @@ use Rattle.xc_data.specs.Step.{Step}
 use Rattle.xc_data.specs.declared.entry.KeptItem.{KeptItem}
 use Rattle.xc_data.specs.declared.entry.KeptItem.TheVariants.{Bytes}
 use Rattle.xc_data.specs.declared.object.Num.{Num}
-use Rattle.xc_maps.proofs.Laws.{get-insert_same, insert-insert_same, insert-get_same}
-use Rattle.xc_maps.proofs.Maps.{num_total, num_exact}
+use Rattle.xc_maps.proofs.Laws.{get-insert_same, insert-insert_same, insert-get_same, num_total, num_exact}
 use Rattle.xc_world.specs.World.{World, Pipe, pipe_of, with_pipe, empty_pipe}
 use Rattle.xc_world.specs.Run.{gives, given_back}
 use Rattle.xc_buffers.specs.Items.{kept_bytes}
 use Rattle.xc_buffers.specs.Worlds.{with_front}
-use Rattle.xc_buffers.proofs.Held.{pipe_front, pipe_put}
-use Rattle.xc_buffers.proofs.Puts.{gives_joined}
+use Rattle.xc_buffers.proofs.Laws.{pipe_front, pipe_put, gives_joined}
 use Rattle.xc_host.specs.Contents.{Contents, with_contents}
 use Rattle.xc_host.specs.Pipes.{has_pipe, pipe_in, taken_from}
 use Rattle.xc_host.specs.declared.errors.HostErr.{HostErr}
 use Rattle.xc_host.specs.declared.pipes.Took.{Took}
 use Rattle.xc_host.specs.declared.pipes.Took.TheVariants as took
-use Rattle.xc_pipe.specs.Reading.{Finds, Leads, Sides, back}
+use Rattle.xc_pipe.specs.Reading.{Finds, Leads}
+use Rattle.xc_calls.specs.Sides.{Sides}
+use Rattle.xc_calls.specs.Taking.{back}
 
 -- some bytes are given back as one item
 back_cons : (pipe : Num) (b : ℕ) (bs : List ℕ) → back pipe (b ∷ bs) ≡ Bytes pipe (b ∷ bs) ∷ []

@@ -2,7 +2,6 @@
 use Rattle.std.specs.Prelude.{◌≡◌, ℕ, ◌+◌, ◌<◌, ◌≤◌, ◌++◌, true, false, List, [], ◌∷◌, length, replicate, Result, Ok, Err, ◌==◌}
 use Rattle.std.specs.Prelude.{if◌then◌else◌}
 use Rattle.xc_data.specs.Step.{Step}
-use Rattle.xc_data.specs.declared.call.Call.{Call}
 use Rattle.xc_data.specs.declared.call.Reply.{Reply}
 use Rattle.xc_data.specs.declared.call.Reply.TheVariants.{Got, Empty, End, Fault}
 use Rattle.xc_data.specs.declared.entry.KeptItem.{KeptItem}
@@ -10,32 +9,20 @@ use Rattle.xc_data.specs.declared.memory.NoMemory.{NoMemory}
 use Rattle.xc_data.specs.declared.object.Num.{Num}
 use Rattle.xc_data.specs.declared.private.Place.{Place}
 use Rattle.xc_data.specs.declared.private.Place.TheVariants.{Pipe}
-use Rattle.xc_data.specs.declared.private.Private.{Private}
 use Rattle.xc_data.specs.declared.script.Kind.{Kind}
 use Rattle.xc_data.specs.declared.script.Kind.TheVariants as kind
 use Rattle.xc_world.specs.World.{World}
-use Rattle.xc_world.specs.Run.{bytes_taken, given_back, taken_by}
+use Rattle.xc_world.specs.Run.{given_back}
 use Rattle.xc_buffers.specs.Items.{kept_bytes}
-use Rattle.xc_host.specs.Contents.{Contents, with_contents}
+use Rattle.xc_host.specs.Contents.{Contents}
 use Rattle.xc_host.specs.Pipes.{pipe_in, has_pipe}
 use Rattle.xc_host.specs.Uses.{MayMove, TakesFor}
 use Rattle.xc_host.specs.declared.errors.HostErr.{HostErr}
 use Rattle.xc_host.specs.declared.errors.HostErr.TheVariants as host_err
 use Rattle.xc_host.specs.declared.pipes.Took.{Took}
 use Rattle.xc_host.specs.declared.pipes.Took.TheVariants as took
-
--- what a host holds, and what is kept in front of it
-pub record Sides : Type 0 where
-  pub contents : Contents
-  pub items : List KeptItem
-
--- a world with both
-abbrev pub world_at : World → Sides → World
-world_at w s = given_back (with_contents w s.contents) s.items
-
--- bytes of a pipe that are given back
-abbrev pub back : Num → List ℕ → List KeptItem
-back pipe bytes = bytes_taken (Pipe pipe) bytes
+use Rattle.xc_calls.specs.Sides.{Sides, world_at}
+use Rattle.xc_calls.specs.Taking.{back}
 
 -- these bytes were taken from the front of a pipe before, and those are taken after: either given back, the world is the same
 abbrev pub Leads : Num → List ℕ → List ℕ → Step Sides → Type 0
@@ -109,11 +96,6 @@ taken_of pipe _ = []
 abbrev pub NotesOf : Num → List KeptItem → List KeptItem → Result Reply NoMemory → Type 0
 NotesOf pipe old new (Ok reply) = new ≡ old ++ taken_of pipe reply
 NotesOf pipe old new (Err e) = new ≡ old
-
--- a call notes what the plain machine's takes with its reply, and nothing where memory ran out
-abbrev pub Notes : Call → Private → Step (List KeptItem) → Result Reply NoMemory → Type 0
-Notes call me notes (Ok reply) = notes.new ≡ notes.old ++ taken_by call me reply
-Notes call me notes (Err e) = notes.new ≡ notes.old
 
 -- a pipe that is open at a place is there
 abbrev pub IsPipeIn : Contents → Place → Type 0

@@ -1,8 +1,8 @@
 ghost use Rattle.std.specs.Prelude.{◌≡◌, ◌≤◌, ◌+◌, List, ℕ, Option, IfOk, OnErr};
 ghost use Rattle.xc_data.specs.declared.call.Call.TheVariants.{XShutdown, XWritePipe};
 ghost use Rattle.xc_data.specs.Private.{place_of};
-ghost use Rattle.xc_file.specs.Deferred.{IsDeferred};
-ghost use Rattle.xc_pipe.specs.Deferring.{IsKeptWith, shuttable_at};
+ghost use Rattle.xc_calls.specs.Deferred.{IsDeferred, IsKeptWith};
+ghost use Rattle.xc_pipe.specs.Deferring.{shuttable_at};
 
 use crate::checks::open_pipe;
 use xc_data::{Chunk, LateCall, NoMemory, Object, Place, Private, Reply};

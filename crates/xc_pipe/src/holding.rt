@@ -2,7 +2,7 @@ ghost use Rattle.std.specs.Prelude.{◌≡◌, ◌≤◌, ◌<◌, ◌+◌, ◌+
 ghost use Rattle.xc_buffers.specs.Items.{AreKept, kept_bytes};
 ghost use Rattle.xc_world.specs.Run.{given_back};
 ghost use Rattle.xc_world.specs.World.{World};
-ghost use Rattle.xc_pipe.specs.Reading.{back};
+ghost use Rattle.xc_calls.specs.Taking.{back};
 
 use std::alloc::Global;
 use xc_buffers::Kept;

@@ -3,7 +3,7 @@ ghost use Rattle.xc_data.specs.Calls.{is_late};
 ghost use Rattle.xc_data.specs.declared.call.Call.TheVariants.{XPipe};
 ghost use Rattle.xc_data.specs.declared.entry.KeptItem.{KeptItem};
 ghost use Rattle.xc_buffers.specs.Items.{kept_bytes};
-ghost use Rattle.xc_file.specs.Calls.{IsFileCall, PassedBy};
+ghost use Rattle.xc_calls.specs.Calls.{IsHostCall, PassedBy};
 ghost use Rattle.xc_host.specs.Fronted.{before, fronted};
 ghost use Rattle.xc_host.specs.Kept.{KeepsData};
 ghost use Rattle.xc_host.specs.Pipes.{has_pipe};
@@ -84,7 +84,7 @@ pub fn x_pipe<H: Host>(
     requires new { IsTrue H.model.tells → has_pipe (H.model.contents host.old) (next_num me.old tx) ≡ false }
     requires none { undo.old.ended ≡ [] }
     ensures call { (items : List KeptItem) → (IsTrue H.model.tells → kept_bytes (next_num me.old tx) items ≡ [])
-        → IsFileCall (fronted H.model) XPipe
+        → IsHostCall (fronted H.model) XPipe
         (record { host = before host.old items; number = tx; me = me.old; undo = undo.old })
         (record { host = before host.new items; number = tx; me = me.new; undo = undo.new }) result }
     ensures stored { me.new.stored ≡ me.old.stored }

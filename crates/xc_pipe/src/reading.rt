@@ -6,8 +6,8 @@ ghost use Rattle.xc_data.specs.Private.{place_of};
 ghost use Rattle.xc_data.specs.declared.call.Call.TheVariants.{XReadPipe};
 ghost use Rattle.xc_data.specs.declared.private.Place.TheVariants.{Pipe};
 ghost use Rattle.xc_compensate.specs.Records.{Records};
-ghost use Rattle.xc_file.specs.Calls.{IsFileCall, replies_fault};
-ghost use Rattle.xc_file.specs.Passing.{Passes};
+ghost use Rattle.xc_calls.specs.Calls.{IsHostCall, replies_fault};
+ghost use Rattle.xc_calls.specs.Passing.{Passes};
 ghost use Rattle.xc_host.specs.Cause.{is_fault};
 ghost use Rattle.xc_host.specs.Fronted.{before, fronted};
 ghost use Rattle.xc_host.specs.Kept.{KeepsData, with_kept};
@@ -17,8 +17,9 @@ ghost use Rattle.xc_buffers.specs.Items.{AreKept, kept_bytes};
 ghost use Rattle.xc_world.specs.Act.Step.{storing_reply};
 ghost use Rattle.xc_world.specs.After.{bytes_in};
 ghost use Rattle.xc_pipe.specs.Checks.{refusal_at};
-ghost use Rattle.xc_pipe.specs.Reading.{Finds, IsPipeIn, IsReadReply, Leads, Notes, NotesOf, Reads, ReadsBy, TakenBy, TakesUntil, found_of};
-ghost use Rattle.xc_pipe.specs.Taking.{HasTaken, ReadsKeptOf, TakesAfter, TakesKept};
+ghost use Rattle.xc_pipe.specs.Reading.{Finds, IsPipeIn, IsReadReply, Leads, NotesOf, Reads, ReadsBy, TakenBy, TakesUntil, found_of};
+ghost use Rattle.xc_calls.specs.Taking.{Notes, HasTaken, ReadsKeptOf};
+ghost use Rattle.xc_pipe.specs.Taking.{TakesAfter, TakesKept};
 
 use crate::checks::open_pipe;
 use crate::holding::{join, take_kept};
@@ -241,7 +242,7 @@ pub fn x_read_pipe<H: Host>(
     requires stored { me.old.stored ≤ 16384 }
     requires room { 2 ≤ kept.old.spare }
     requires there { IsTrue H.model.tells → refusal_at me.old h n ≡ None → IsPipeIn (H.model.contents host.old) (place_of me.old.places h) }
-    ensures call { (number : ℕ) (undo : Records) → IsFileCall (fronted H.model) (XReadPipe h n)
+    ensures call { (number : ℕ) (undo : Records) → IsHostCall (fronted H.model) (XReadPipe h n)
         (record { host = before host.old kept.old.items; number = number; me = me.old; undo = undo })
         (record { host = before host.new kept.new.items; number = number; me = me.new; undo = undo }) result }
     ensures err { IsTrue H.model.tells → OnErr result

@@ -3,3 +3,4 @@ pub mod Gathers
 pub mod Parts
 pub mod Sound
 pub mod Moves
+pub mod Laws

@@ -12,10 +12,9 @@ use Rattle.xc_data.specs.declared.entry.JobEnd.{JobEnd}
 use Rattle.xc_data.specs.declared.entry.Turn.{Turn}
 use Rattle.xc_data.specs.declared.entry.Turn.TheVariants as turn
 use Rattle.xc_runner.specs.Tries.{IsHeldOff}
-use Rattle.xc_runner.proofs.Steps.{held_outside, outside_goes}
+use Rattle.xc_runner.proofs.Laws.{held_outside, outside_goes}
 use Rattle.xc_turnstile.specs.Insides.{PassGoesOn}
-use Rattle.xc_turnstile.proofs.Passes.{goes_further}
-use Rattle.xc_turnstile.proofs.Fronts.{starts_self}
+use Rattle.xc_turnstile.proofs.Laws.{goes_further, starts_self}
 use Rattle.xc_turnstile.specs.declared.view.View.{View}
 use Rattle.xc_turnstile.specs.Known.{Known}
 use Rattle.atomic_table.specs.Seated.{TableId}

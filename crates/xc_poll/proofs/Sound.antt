@@ -11,7 +11,7 @@ use Rattle.xc_data.specs.declared.entry.Event.TheVariants.{Picked}
 use Rattle.xc_turnstile.specs.Known.{Known}
 use Rattle.xc_turnstile.specs.Views.{BeginsWith}
 use Rattle.xc_turnstile.specs.declared.view.View.{View}
-use Rattle.xc_turnstile.proofs.Fronts.{starts_self, starts_trans}
+use Rattle.xc_turnstile.proofs.Laws.{starts_self, starts_trans}
 use Rattle.xc_poll.specs.Alls.{AllFront, ArePolled}
 use Rattle.xc_poll.specs.Askings.{AreAsked, EndsAsking, HandOut, HandsOut, HasAsked, PartsMost, TakesIn, TakesInOrLeaves, TellsAsked}
 use Rattle.xc_poll.specs.Askings.{asked_events, asked_lost, task_for}

@@ -5,7 +5,7 @@ use Rattle.xc_data.specs.Faults.{is_commit, entry_faults}
 use Rattle.xc_data.specs.declared.entry.Entry.{Entry}
 use Rattle.xc_data.specs.declared.entry.Outcome.{Outcome}
 use Rattle.xc_data.specs.declared.entry.Outcome.TheVariants.{Committed, Aborted}
-use Rattle.xc_failure.specs.Effects.{effect_remains}
+use Rattle.xc_world.specs.Remains.{effect_remains}
 use Rattle.xc_print.specs.declared.totals.Totals.{Totals}
 
 -- whether an entry is a commit

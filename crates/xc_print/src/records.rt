@@ -6,7 +6,7 @@ use crate::bytes::push_bytes;
 use crate::objects::push_labelled;
 use crate::page::Page;
 use xc_data::{Chunk, Name, NoMemory, Num, Undo, UndoEnd};
-use xc_failure::remaining_from;
+use xc_world::remaining_from;
 
 fn push_kind(out: &mut Page, undo: &Undo) -> Result<(), NoMemory>
     ensures { OnOk result (out.new ≡ out.old ++ kind_text undo.now) }

@@ -1,10 +1,10 @@
 ghost use Rattle.std.specs.Prelude.{◌≡◌, ◌≤◌, ◌^◌, length, count_by, sum_by};
 ghost use Rattle.xc_data.specs.Faults.{reply_faults, is_fault_end, end_faults, undo_faults, outcome_faults, entry_faults};
-ghost use Rattle.xc_failure.specs.Effects.{effect_remains};
+ghost use Rattle.xc_world.specs.Remains.{effect_remains};
 ghost use Rattle.xc_print.specs.Totals.{is_committed, is_aborted, entry_remains, totals_of};
 
 use xc_data::{Entry, LateEnd, Outcome, Reply, Undo, UndoEnd};
-use xc_failure::remaining_from;
+use xc_world::remaining_from;
 
 /// What the last line of a text counts.
 ///

@@ -17,7 +17,7 @@ use Rattle.xc_data.specs.declared.entry.Outcome.TheVariants.{Committed, Aborted}
 use Rattle.xc_data.specs.declared.undo.Undo.{Undo}
 use Rattle.xc_data.specs.declared.undo.UndoEnd.{UndoEnd}
 use Rattle.xc_data.specs.declared.undo.UndoEnd.TheVariants as undo_end
-use Rattle.xc_failure.specs.Effects.{effect_remains}
+use Rattle.xc_world.specs.Remains.{effect_remains}
 use Rattle.xc_lines.specs.Ranges.{IsReplyInRange}
 use Rattle.xc_print.specs.Entries.{attempt_text, call_line, call_lines, entry_text, head_line, journal_text}
 use Rattle.xc_print.specs.Entries.{late_line, late_lines, outcome_cause, outcome_lines, outcome_word}

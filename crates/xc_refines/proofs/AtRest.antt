@@ -9,7 +9,7 @@ use Rattle.xc_model.specs.Setting.{Setting}
 use Rattle.xc_model.specs.Ending.{IsFinalState}
 use Rattle.xc_model.specs.Moment.{JobView, Doing, Idle, Active, Starved, Ended, Moment}
 use Rattle.xc_model.specs.Consistent.{IsLineOf, AreLinesOf}
-use Rattle.xc_flight.proofs.Moving.{all_free}
+use Rattle.xc_flight.proofs.Laws.{all_free}
 use Rattle.xc_refines.specs.InFlight.{flown_in, flown_jobs, state_of, flight_state, world_now, AreInFlight}
 
 -- an ended job has no active transaction, and its line has its block

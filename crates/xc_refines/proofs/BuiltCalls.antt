@@ -12,7 +12,7 @@ use Rattle.xc_world.specs.Effects.{takes_data, whole}
 use Rattle.xc_world.specs.Ends.{with_remains}
 use Rattle.xc_world.specs.Run.{taken_by}
 use Rattle.xc_world.specs.Trail.{recorded}
-use Rattle.xc_world.proofs.EffectsCalls.{act-leads}
+use Rattle.xc_world.proofs.Laws.{act-leads}
 
 -- nothing is to be given back of them
 pub untaken : (c : Call) (me : Private) (r : Reply) → takes_data c ≡ false → taken_by c me r ≡ []

@@ -18,7 +18,7 @@ use Rattle.xc_world.specs.Laws.{AgreeAt}
 use Rattle.xc_world.specs.Run.{BodyResult, asked_of}
 use Rattle.xc_world.specs.Sound.{IsKnown}
 use Rattle.xc_world.specs.Touch.{object_at}
-use Rattle.xc_world.proofs.EffectsBody.{body-sound}
+use Rattle.xc_world.proofs.Laws.{body-sound}
 use Rattle.xc_model.specs.declared.phase.Phase.TheVariants.{Running}
 use Rattle.xc_model.specs.Setting.{Setting}
 use Rattle.xc_model.specs.Played.{HoldsFor}
@@ -32,12 +32,10 @@ use Rattle.xc_flight.specs.Active as flight
 use Rattle.xc_flight.specs.Flight.{noted, ran}
 use Rattle.xc_flight.specs.State.{FlightState, InFlight, IsActive, turned}
 use Rattle.xc_flight.specs.Turns.{claiming, seen}
-use Rattle.xc_flight.proofs.Calling.{all_noted, sees}
-use Rattle.xc_flight.proofs.Claiming.{back_held, claimed, covers_through, merged_held}
-use Rattle.xc_flight.proofs.Together.{call_granted}
+use Rattle.xc_flight.proofs.Laws.{all_noted, sees, back_held, claimed, covers_through, merged_held, call_granted}
 use Rattle.xc_refines.specs.InFlight.{flown, flown_phase, ran_at, flight_state, state_of, world_now, AreInFlight}
 use Rattle.xc_refines.proofs.FlownJobs.{flies_there, flight_there, sound_there, fits_there}
-use Rattle.xc_data.proofs.Lists.{put_at}
+use Rattle.xc_data.proofs.Laws.{put_at}
 use Rattle.xc_refines.proofs.TurnRivals.{no_rivals}
 
 -- what is known in one world is known in the host's contents of another that agrees with it there

@@ -4,12 +4,12 @@ use Rattle.std.specs.Prelude.{slice_get, IsTrue}
 use Rattle.std.proofs.lemmas.Bool.{and_parts}
 use Rattle.xc_world.specs.Run.{asked_of, body_state, opens, fits_on, body_fits}
 use Rattle.xc_world.specs.Effects.{AreMadeIn}
-use Rattle.xc_world.proofs.Joined.{fits_on_append}
+use Rattle.xc_world.proofs.Laws.{fits_on_append}
 use Rattle.xc_model.specs.Setting.{Setting}
 use Rattle.xc_model.specs.Moment.{TxView, JobView, Moment, active_of}
 use Rattle.xc_flight.specs.State.{IsActive, IsSoundFor}
 use Rattle.xc_flight.specs.Flight.{stood, Flight}
-use Rattle.xc_flight.proofs.Aborting.{records_made}
+use Rattle.xc_flight.proofs.Laws.{records_made}
 use Rattle.xc_refines.specs.InFlight.{flown, state_of, flight_state, AreInFlight}
 use Rattle.xc_refines.proofs.FlownLists.{flown_there, is_active}
 

@@ -11,7 +11,7 @@ use Rattle.xc_model.specs.Moment.{JobView, active_of, actives}
 use Rattle.xc_model.specs.Entering.{started_job}
 use Rattle.xc_flight.specs.Active.{Tx}
 use Rattle.xc_flight.specs.State.{FlightState, InFlight, AreSound}
-use Rattle.xc_flight.proofs.Rows.{one_job_more}
+use Rattle.xc_flight.proofs.Laws.{one_job_more}
 use Rattle.xc_refines.specs.InFlight.{flown_in, flown_jobs}
 use Rattle.xc_refines.proofs.FlownLists.{none_flown}
 

@@ -25,3 +25,4 @@ pub mod TurnStart
 pub mod TurnTable
 pub mod TurnWants
 pub mod TurnWayBack
+pub mod Laws

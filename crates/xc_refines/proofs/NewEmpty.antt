@@ -25,11 +25,9 @@ use Rattle.std.proofs.lemmas.List.Elements.{All-contains}
 use Rattle.xc_flight.specs.Active.{Tx, Own}
 use Rattle.xc_flight.specs.Flight.{effects}
 use Rattle.xc_flight.specs.State.{IsActive, active_at}
-use Rattle.xc_flight.proofs.Basics.{owns_has}
-use Rattle.xc_flight.proofs.Moving.{has_it, own_it}
+use Rattle.xc_flight.proofs.Laws.{owns_has, has_it, own_it, Coined, filled, filled_alike, new_empty, remains_empty, taken_own, trail_coined, not_taken}
+use Rattle.xc_flight.proofs.Laws.{of_record, record_own, there as record_there}
 use Rattle.xc_world.specs.Run.{item_object}
-use Rattle.xc_flight.proofs.Taking.{Coined, filled, filled_alike, new_empty, remains_empty, taken_own, trail_coined}
-use Rattle.xc_flight.proofs.Undoing.{not_taken, of_record, record_own, there as record_there}
 use Rattle.xc_refines.specs.InFlight.{IsEmptyNew, flown, flown_phase, flight_state, state_of, world_now, AreInFlight}
 use Rattle.xc_refines.proofs.FlownJobs.{flies_there, flight_there, sound_there}
 
@@ -107,6 +105,7 @@ module _ (s : Setting) (now : Moment) (all : AreInFlight s now) (at : ℕ) (job 
         (taken_own (state_of s now).world taker i (sound_there s now all j its_job other there_too active_too)))
         took
 
+    -- the newest record is not of what another took from
     pub not_taken_from : Contains (objects_of u) (item_object k) → ⊥
     not_taken_from among =
         let o = item_object k in

@@ -1,7 +1,7 @@
 -- Nothing at the host has a number that a running transaction has still to give.
 use Rattle.std.proofs.Common.{◌≡◌, ℕ, ◌≤◌, false, Some, ap, is_some}
 use Rattle.std.specs.Prelude.{slice_get}
-use Rattle.xc_flight.proofs.Sounding.{still_absent}
+use Rattle.xc_flight.proofs.Laws.{still_absent}
 use Rattle.xc_host.specs.Contents.{has_file, world_of}
 use Rattle.xc_world.specs.Sound.{IsFree}
 use Rattle.xc_model.specs.declared.phase.Phase.TheVariants.{Running}

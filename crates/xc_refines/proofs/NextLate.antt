@@ -10,7 +10,7 @@ use Rattle.xc_world.specs.Sound.{is_there, names_there}
 use Rattle.xc_model.specs.declared.phase.Phase.TheVariants.{Committing}
 use Rattle.xc_model.specs.Setting.{Setting}
 use Rattle.xc_model.specs.Moment.{TxView, JobView, Moment, active_of, late_left}
-use Rattle.xc_flight.proofs.LateReady.{next_ready}
+use Rattle.xc_flight.proofs.Laws.{next_ready}
 use Rattle.xc_refines.specs.InFlight.{flown, flown_phase, flight_state, world_now, AreInFlight}
 use Rattle.xc_deferred.specs.Does.{IsThereFor}
 use Rattle.xc_refines.proofs.FlownJobs.{flies_there, sound_there}

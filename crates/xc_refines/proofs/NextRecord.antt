@@ -17,11 +17,11 @@ use Rattle.xc_world.specs.World.{World, file_of}
 use Rattle.xc_world.specs.Ends.{Ending, remains, with_remains}
 use Rattle.xc_world.specs.Effects.{whole, AreMadeIn, IsCovered}
 use Rattle.xc_world.specs.Laws.{AgreeAt}
-use Rattle.xc_world.proofs.EffectsUndone.{record-covered}
+use Rattle.xc_world.proofs.Laws.{record-covered}
 use Rattle.xc_model.specs.declared.phase.Phase.TheVariants.{Undoing}
 use Rattle.xc_model.specs.Setting.{Setting}
 use Rattle.xc_model.specs.Moment.{TxView, JobView, Moment, active_of}
-use Rattle.xc_flight.proofs.Undoing.{there as record_there}
+use Rattle.xc_flight.proofs.Laws.{there as record_there}
 use Rattle.xc_refines.specs.InFlight.{flown, flown_phase, flight_state, state_of, world_now, AreInFlight}
 use Rattle.xc_refines.proofs.FlownJobs.{flies_there, made_there, sound_there}
 

@@ -16,9 +16,8 @@ use Rattle.xc_world.specs.Act.{act}
 use Rattle.xc_world.specs.Ends.{Ending}
 use Rattle.xc_world.specs.Fits.{fits}
 use Rattle.xc_world.specs.Run.{BodyResult, BlockState, step, runs_on, body_state, body, body_fits, asked_of, fits_on, lates, lates_fit, late_asked_of}
-use Rattle.xc_world.proofs.Blocks.{marked_now}
+use Rattle.xc_world.proofs.Laws.{marked_now, body_keeps}
 use Rattle.xc_world.specs.Trail.{recorded}
-use Rattle.xc_world.proofs.Bodies.{body_keeps}
 use Rattle.xc_model.specs.declared.phase.Phase.{Phase}
 use Rattle.xc_model.specs.declared.phase.Phase.TheVariants.{Running, Committing, Undoing, Backing}
 use Rattle.xc_model.specs.Setting.{Setting}

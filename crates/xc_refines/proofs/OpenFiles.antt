@@ -14,7 +14,7 @@ use Rattle.xc_data.specs.declared.private.Private.{Private}
 use Rattle.xc_data.specs.declared.undo.Undo.{Undo}
 use Rattle.xc_data.specs.declared.undo.UndoEnd.TheVariants.{Blocked}
 use Rattle.xc_data.specs.Private.{place_of}
-use Rattle.xc_file.specs.Calls.{IsOpenIn}
+use Rattle.xc_file.specs.Checks.{IsOpenIn}
 use Rattle.xc_host.specs.Contents.{Contents}
 use Rattle.xc_world.specs.World.{World}
 use Rattle.xc_world.specs.Sound.{IsFit, IsKnown, IsSound}
@@ -22,18 +22,14 @@ use Rattle.xc_world.specs.Run.{BodyResult, asked_of, given_back}
 use Rattle.xc_world.specs.Ends.{Ending, remains, with_remains}
 use Rattle.xc_world.specs.Effects.{whole, AreMadeIn}
 use Rattle.xc_world.specs.Laws.{AgreeAt}
-use Rattle.xc_world.proofs.EffectsBody.{body-sound, body-others_sound}
-use Rattle.xc_world.proofs.EffectsRemains.{StaysFit, remains-fit}
+use Rattle.xc_world.proofs.Laws.{body-sound, body-others_sound, StaysFit, remains-fit}
 use Rattle.xc_model.specs.declared.phase.Phase.TheVariants as turn
 use Rattle.xc_model.specs.Setting.{Setting}
 use Rattle.xc_model.specs.Moment.{TxView, JobView, Moment, active_of, begun_count}
 use Rattle.xc_flight.specs.Active.{Tx, Phase, Running, Committing, Undoing, Has, Own}
 use Rattle.xc_flight.specs.Flight.{asked, left, noted, returned, ran}
 use Rattle.xc_flight.specs.State.{active_at, OwnSome, OwnAt}
-use Rattle.xc_flight.proofs.Basics.{has_decide, owns_has}
-use Rattle.xc_flight.proofs.Frames.{ran_keeps, ran_whole}
-use Rattle.xc_flight.proofs.Calling.{all_noted, sees}
-use Rattle.xc_flight.proofs.LateReady.{done_sound}
+use Rattle.xc_flight.proofs.Laws.{has_decide, owns_has, ran_keeps, ran_whole, all_noted, sees, done_sound}
 use Rattle.xc_refines.specs.InFlight.{flown, flown_phase, state_of, flight_state, world_now, AreInFlight}
 use Rattle.xc_refines.proofs.FlownJobs.{flies_there, flight_there, sound_there, fits_there, made_there}
 use Rattle.xc_refines.proofs.FlownLists.{flown_back}

@@ -15,7 +15,7 @@ use Rattle.xc_model.specs.Movers.{IsActiveAt}
 use Rattle.xc_flight.specs.Active.{Tx, Phase, Running, Committing, Undoing}
 use Rattle.xc_flight.specs.Flight.{IsPhase, effects, left, ran, returned}
 use Rattle.xc_flight.specs.State.{OwnSome, active_at}
-use Rattle.xc_flight.proofs.Ending.{ran_late}
+use Rattle.xc_flight.proofs.Laws.{ran_late}
 use Rattle.xc_refines.specs.InFlight.{flown, flight_state, state_of, world_now, AreInFlight}
 use Rattle.xc_refines.proofs.FlownJobs.{flight_there, sound_there}
 use Rattle.xc_refines.proofs.FlownLists.{flown_back}

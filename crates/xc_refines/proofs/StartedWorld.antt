@@ -28,7 +28,7 @@ use Rattle.xc_model.specs.Starts.{IsStart, is_block_in}
 use Rattle.xc_world.specs.Effects.{whole}
 use Rattle.xc_flight.specs.Active.{Tx}
 use Rattle.xc_flight.specs.Flight.{Inside, ran}
-use Rattle.xc_flight.proofs.Taking.{returns_left}
+use Rattle.xc_flight.proofs.Laws.{returns_left}
 use Rattle.xc_world.specs.Ends.{with_remains}
 use Rattle.xc_world.specs.Trail.{move_name, with_effect}
 use Rattle.xc_data.specs.declared.undo.Undo.{Undo}

@@ -15,7 +15,7 @@ use Rattle.xc_world.specs.Ends.{Ending, remains, with_remains}
 use Rattle.xc_world.specs.Laws.{AgreeAt}
 use Rattle.xc_world.specs.Own.{KeepsBut}
 use Rattle.xc_world.specs.Run.{asked_of, gives, given_back}
-use Rattle.xc_world.proofs.Bodies.{body_alike_begun}
+use Rattle.xc_world.proofs.Laws.{body_alike_begun}
 use Rattle.xc_model.specs.declared.phase.Phase.TheVariants.{Undoing}
 use Rattle.xc_model.specs.Setting.{Setting}
 use Rattle.xc_model.specs.Progress.{Progress}
@@ -24,16 +24,13 @@ use Rattle.xc_flight.specs.Active.{Tx, Own}
 use Rattle.xc_flight.specs.Active as flight
 use Rattle.xc_flight.specs.State.{FlightState, Flies, InFlight, IsActive, AreSound, IsIdleSound, entered}
 use Rattle.xc_flight.specs.Turns.{after_abort}
-use Rattle.xc_flight.proofs.Aborting.{abort_idle, abort_sound, own_after_abort}
-use Rattle.xc_flight.proofs.Frames.{left_keeps}
-use Rattle.xc_flight.proofs.Moving.{get_set_other}
-use Rattle.xc_flight.proofs.Undoing.{aborted}
+use Rattle.xc_flight.proofs.Laws.{abort_idle, abort_sound, own_after_abort, left_keeps, get_set_other, aborted}
 use Rattle.xc_refines.specs.InFlight.{flown, flown_phase, ran_at}
 use Rattle.xc_refines.proofs.FlownLists.{flown_there, is_active}
 use Rattle.xc_refines.proofs.TurnBack.{records_so}
 use Rattle.xc_refines.proofs.TurnEnters.{Leads, GivesSame, apart_of, landing}
 use Rattle.std.proofs.Common.{append-nil}
-use Rattle.xc_data.proofs.Lists.{map_set_same}
+use Rattle.xc_data.proofs.Laws.{map_set_same}
 use Rattle.xc_refines.proofs.StartedWorld.{remains_base}
 use Rattle.xc_refines.proofs.TurnParts.{Flying, flight_in, world_in, airfield}
 

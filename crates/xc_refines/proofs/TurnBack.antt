@@ -34,10 +34,7 @@ use Rattle.xc_model.specs.Movers.{with_tx}
 use Rattle.xc_flight.specs.Active.{Tx}
 use Rattle.xc_flight.specs.Active as flight
 use Rattle.xc_flight.specs.State.{FlightState, InFlight, IsActive, turned}
-use Rattle.xc_flight.proofs.Calling.{is_running}
-use Rattle.xc_flight.proofs.Ending.{commits}
-use Rattle.xc_flight.proofs.Aborting.{newest_undone, records_made}
-use Rattle.xc_flight.proofs.Undoing.{turns_back}
+use Rattle.xc_flight.proofs.Laws.{is_running, commits, newest_undone, records_made, turns_back}
 use Rattle.xc_refines.specs.InFlight.{IsUnnoted, flown, flown_phase, ran_at}
 use Rattle.xc_refines.proofs.FlownLists.{flown_there, none_unnoted}
 use Rattle.xc_refines.proofs.TurnParts.{Flying, world_in, flight_in, asked_same, goes_on, airfield}

@@ -24,10 +24,8 @@ use Rattle.xc_world.specs.Fits.{is_back, answer_of}
 use Rattle.xc_world.specs.Late.{kept_call}
 use Rattle.xc_world.specs.Modes.{claims_of}
 use Rattle.xc_world.specs.Run.{BodyResult, BlockState, asked_of, body_state, step, taken_by}
-use Rattle.xc_world.proofs.Blocks.{marked_now}
+use Rattle.xc_world.proofs.Laws.{marked_now, body_keeps, body_last}
 use Rattle.xc_world.specs.Trail.{recorded}
-use Rattle.xc_world.proofs.Bodies.{body_keeps}
-use Rattle.xc_world.proofs.Joined.{body_last}
 use Rattle.xc_model.specs.Setting.{Setting}
 use Rattle.xc_model.specs.Progress.{Progress}
 use Rattle.xc_model.specs.Played.{HoldsFor}
@@ -44,8 +42,7 @@ use Rattle.xc_flight.specs.Flight.{IsRunning, IsPhase}
 use Rattle.xc_flight.specs.State.{FlightState, InFlight, IsActive, turned}
 use Rattle.xc_flight.specs.Turns.{claiming, IsNoted, noting as noting_in_flight, after_call, did}
 use Rattle.xc_flight.specs.Turns as turns
-use Rattle.xc_flight.proofs.Claiming.{merged_held}
-use Rattle.xc_flight.proofs.Together.{called_with_claims}
+use Rattle.xc_flight.proofs.Laws.{merged_held, called_with_claims}
 use Rattle.xc_refines.specs.InFlight.{flown, flown_saved, flown_phase, ran_at}
 use Rattle.xc_refines.proofs.FlownLists.{flown_there, none_unnoted}
 use Rattle.xc_refines.proofs.TurnParts.{Flying, world_in, flight_in, goes_on, airfield}

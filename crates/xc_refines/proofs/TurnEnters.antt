@@ -14,8 +14,7 @@ use Rattle.xc_world.specs.World.{World}
 use Rattle.xc_world.specs.Modes.{claims_of}
 use Rattle.xc_world.specs.Own.{Sees, Owns}
 use Rattle.xc_world.specs.Run.{BodyResult, asked_of, body_state, runs_on}
-use Rattle.xc_world.proofs.Bodies.{runs_touched}
-use Rattle.xc_world.proofs.Runs.{other_run_apart}
+use Rattle.xc_world.proofs.Laws.{runs_touched, other_run_apart}
 use Rattle.xc_model.specs.declared.phase.Phase.{Phase}
 use Rattle.xc_model.specs.declared.phase.Phase.TheVariants.{Running, Committing, Undoing, Backing}
 use Rattle.xc_model.specs.Setting.{Setting}
@@ -29,12 +28,10 @@ use Rattle.xc_flight.specs.Active as flight
 use Rattle.xc_flight.specs.Flight.{IsCommitting, IsPhase, ran, left}
 use Rattle.xc_flight.specs.State.{FlightState, InFlight, IsActive, AreSound, HasSome, OwnSome, IsIdleSound, entered}
 use Rattle.xc_flight.specs.Turns.{after_commit}
-use Rattle.xc_flight.proofs.Basics.{owns_own}
-use Rattle.xc_flight.proofs.Ending.{committed, left_run}
-use Rattle.xc_flight.proofs.Sounding.{sound_after, idle_after, own_after}
+use Rattle.xc_flight.proofs.Laws.{owns_own, committed, left_run, sound_after, idle_after, own_after}
 use Rattle.xc_refines.specs.InFlight.{IsUnnoted, flown, flown_jobs, flown_phase, ran_at}
 use Rattle.xc_refines.proofs.FlownLists.{flown-put, flown_there, is_active, none_flown, put_elsewhere, put_in}
-use Rattle.xc_data.proofs.Lists.{map_set_same}
+use Rattle.xc_data.proofs.Laws.{map_set_same}
 use Rattle.std.proofs.Common.{◌<◌, take}
 use Rattle.std.proofs.Math.Seq.{take-length}
 use Rattle.std.proofs.lemmas.List.{map-append}

@@ -22,7 +22,7 @@ use Rattle.xc_model.specs.Movers.{with_tx}
 use Rattle.xc_flight.specs.Active.{Tx}
 use Rattle.xc_flight.specs.State.{FlightState, InFlight, IsActive, turned}
 use Rattle.xc_flight.specs.Turns.{IsDoneLate, with_end}
-use Rattle.xc_flight.proofs.Ending.{does_late}
+use Rattle.xc_flight.proofs.Laws.{does_late}
 use Rattle.xc_refines.specs.InFlight.{IsUnnoted, flown, flown_phase, ran_at}
 use Rattle.xc_refines.proofs.FlownLists.{flown_there}
 use Rattle.xc_refines.proofs.NextLate.{late_split}

@@ -18,13 +18,13 @@ use Rattle.xc_model.specs.Moment.{TxView, JobView}
 use Rattle.xc_model.specs.LateCalls.{started_late}
 use Rattle.xc_data.specs.Calls.{thread_asked, thread_in}
 use Rattle.xc_model.specs.Entering.{entry_of, started_job as seen_started}
-use Rattle.xc_model.proofs.StartedCalls.{started_same}
+use Rattle.xc_model.proofs.Laws.{started_same}
 use Rattle.xc_script.specs.Blocks.{kept_calls}
 use Rattle.xc_refines.proofs.Grown.{started_handles}
 use Rattle.std.proofs.lemmas.List.{map-append}
 use Rattle.xc_flight.specs.Turns.{after_commit as world_after_commit, after_abort as world_after_abort}
 use Rattle.xc_refines.specs.InFlight.{flown, ran_at}
-use Rattle.xc_data.proofs.Lists.{get_set_other, get_map, map_set, map_set_same}
+use Rattle.xc_data.proofs.Laws.{get_set_other, get_map, map_set, map_set_same}
 
 get_in_front : {A : Type 0} (xs ys : List A) (j : ℕ) → j < length xs → slice_get (xs ++ ys) j ≡ slice_get xs j
 get_in_front [] ys j low = absurd (omega (arith, low))

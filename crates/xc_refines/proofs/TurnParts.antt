@@ -19,11 +19,10 @@ use Rattle.xc_model.specs.Movers.{with_tx}
 use Rattle.xc_flight.specs.Active.{Tx}
 use Rattle.xc_flight.specs.State.{FlightState, InFlight, AreSound, IsIdleSound, begun, turned}
 use Rattle.xc_flight.specs.Turns.{starting}
-use Rattle.xc_flight.proofs.Rows.{begins}
-use Rattle.xc_flight.proofs.Together.{begin_sound, step_sound}
+use Rattle.xc_flight.proofs.Laws.{begins, begin_sound, step_sound}
 use Rattle.xc_refines.specs.InFlight.{AreInFlight, IsUnnoted, flown, flown_in, flown_jobs, ran_at}
 use Rattle.xc_refines.proofs.FlownLists.{flown-at, flown-count, flown-put, flown-put_same, flown_there, none_flown, put_elsewhere, put_here, put_in}
-use Rattle.xc_data.proofs.Lists.{get_set_same, get_set_other, map_set_same, found_at}
+use Rattle.xc_data.proofs.Laws.{get_set_same, get_set_other, map_set_same, found_at}
 use Rattle.std.proofs.lemmas.Option.{slice_get_within}
 
 -- a world with these words and contents, and these started jobs

@@ -43,7 +43,7 @@ use Rattle.xc_refines.proofs.Grown.{idle_actives, started_new, started_their_blo
 use Rattle.xc_refines.proofs.StartedWorld.{starts_there}
 use Rattle.xc_refines.proofs.TurnLate.{host_late, late_keeps}
 use Rattle.xc_refines.proofs.TurnLed.{progress-more, commit_world, commit_handles, commit_followings, abort_world, abort_handles, abort_followings}
-use Rattle.xc_data.proofs.Lists.{picked_set, ones}
+use Rattle.xc_data.proofs.Laws.{picked_set, ones}
 use Rattle.std.proofs.Common.{append-nil}
 use Rattle.xc_data.specs.declared.call.LateCall.TheVariants.{Thread}
 use Rattle.xc_model.specs.LateCalls.{started_late}

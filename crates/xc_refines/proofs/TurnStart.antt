@@ -11,14 +11,14 @@ use Rattle.xc_host.specs.Contents.{Contents, contents_of, world_of, nothing, ope
 use Rattle.xc_text.specs.declared.script.Script.{Script}
 use Rattle.xc_world.specs.World.{World}
 use Rattle.xc_world.specs.Opening.{bare, opening, with_opened, with_all_opened, opening_handles, line_num}
-use Rattle.xc_world.proofs.SoundOpening.{opening_sound}
+use Rattle.xc_world.proofs.Laws.{opening_sound}
 use Rattle.xc_model.specs.Setting.{Setting}
 use Rattle.xc_model.specs.Progress.{opening_progress, progress_of}
 use Rattle.xc_model.specs.Consistent.{IsSet}
 use Rattle.xc_model.specs.Opened.{IsOpening, opened_job}
 use Rattle.xc_model.specs.Moment.{JobView, Moment, active_of, actives}
 use Rattle.xc_flight.specs.State.{IsIdleSound}
-use Rattle.xc_flight.proofs.Rows.{starts}
+use Rattle.xc_flight.proofs.Laws.{starts}
 use Rattle.xc_refines.specs.InFlight.{AreInFlight, flown_jobs}
 use Rattle.xc_refines.proofs.TurnParts.{Flying, flight_in, world_in, airfield}
 use Rattle.xc_refines.proofs.TurnRows.{flies_so}

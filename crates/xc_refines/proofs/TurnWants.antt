@@ -16,7 +16,7 @@ use Rattle.xc_script.specs.Position.{Position}
 use Rattle.xc_world.specs.World.{World}
 use Rattle.xc_world.specs.Modes.{claims_of}
 use Rattle.xc_world.specs.Run.{BodyResult, asked_of}
-use Rattle.xc_world.proofs.Bodies.{body_keeps}
+use Rattle.xc_world.proofs.Laws.{body_keeps}
 use Rattle.xc_model.specs.declared.phase.Phase.TheVariants.{Running, Undoing}
 use Rattle.xc_model.specs.Setting.{Setting}
 use Rattle.xc_model.specs.Progress.{Progress}
@@ -32,16 +32,13 @@ use Rattle.xc_flight.specs.Active.{Tx, HoldTheSame}
 use Rattle.xc_flight.specs.Active as flight
 use Rattle.xc_flight.specs.State.{FlightState, InFlight, IsActive, turned}
 use Rattle.xc_flight.specs.Turns.{MayDo, after_call, claiming, did, in_phase, wanting as wanting_in_flight}
-use Rattle.xc_flight.proofs.Calling.{is_running}
-use Rattle.xc_flight.proofs.Claiming.{back_held, claimed, covers_through, merged_held}
-use Rattle.xc_flight.proofs.Together.{call_granted, two_turns}
-use Rattle.xc_flight.proofs.Undoing.{turns_back, wants}
+use Rattle.xc_flight.proofs.Laws.{is_running, back_held, claimed, covers_through, merged_held, call_granted, two_turns, turns_back, wants}
 use Rattle.xc_refines.specs.InFlight.{IsUnnoted, flown, flown_phase, ran_at}
 use Rattle.xc_refines.proofs.BuiltCalls.{untaken, unrecorded}
 use Rattle.xc_refines.proofs.FlownLists.{flown_there, none_unnoted}
 use Rattle.xc_refines.proofs.TurnBack.{back_keeps}
 use Rattle.xc_refines.proofs.TurnCalls.{holding-more}
-use Rattle.xc_data.proofs.Lists.{put_at}
+use Rattle.xc_data.proofs.Laws.{put_at}
 use Rattle.xc_refines.proofs.TurnParts.{Flying, world_in, flight_in, asked_same, goes_on, airfield}
 use Rattle.xc_refines.proofs.TurnRivals.{no_rivals}
 

@@ -17,7 +17,7 @@ use Rattle.xc_script.specs.Position.{Position}
 use Rattle.xc_world.specs.Effects.{undone_to}
 use Rattle.xc_world.specs.Ends.{Ending, IsLegalEnd, is_undone, remains}
 use Rattle.xc_world.specs.Run.{BodyResult, given_back}
-use Rattle.xc_world.proofs.Calls.{keeps_itself}
+use Rattle.xc_world.proofs.Laws.{keeps_itself}
 use Rattle.xc_model.specs.declared.phase.Phase.{Phase}
 use Rattle.xc_model.specs.declared.phase.Phase.TheVariants.{Running, Backing}
 use Rattle.xc_model.specs.Setting.{Setting}
@@ -32,9 +32,7 @@ use Rattle.xc_flight.specs.Active as flight
 use Rattle.xc_flight.specs.Flight.{Flight}
 use Rattle.xc_flight.specs.State.{FlightState, InFlight, IsActive, turned}
 use Rattle.xc_flight.specs.Turns.{went_back}
-use Rattle.xc_flight.proofs.Aborting.{newest_undone}
-use Rattle.xc_flight.proofs.Backing.{way_back, backs, body_gone}
-use Rattle.xc_flight.proofs.Rows.{goes_on as flight_goes_on}
+use Rattle.xc_flight.proofs.Laws.{newest_undone, way_back, backs, body_gone, goes_on as flight_goes_on}
 use Rattle.xc_refines.specs.InFlight.{IsUnnoted, flown, flown_saved, flown_phase, ran_at}
 use Rattle.xc_refines.proofs.FlownLists.{flown_there, none_unnoted}
 use Rattle.xc_refines.proofs.TurnAborts.{given_in}

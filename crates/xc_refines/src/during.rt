@@ -13,7 +13,7 @@ ghost use Rattle.xc_data.specs.declared.undo.Undo.{Undo};
 ghost use Rattle.xc_world.specs.Run.{item_object};
 ghost use Rattle.xc_world.specs.Sound.{IsFree, IsKnown};
 ghost use Rattle.xc_world.specs.Touch.{object_at};
-ghost use Rattle.xc_file.specs.Calls.{IsOpenIn};
+ghost use Rattle.xc_file.specs.Checks.{IsOpenIn};
 ghost use Rattle.xc_model.specs.declared.phase.Phase.TheVariants.{Committing, Running, Undoing};
 ghost use Rattle.xc_model.specs.Setting.{Setting};
 ghost use Rattle.xc_model.specs.Progress.{progress_of};

@@ -1,3 +1,4 @@
 pub mod Events
 pub mod Stories
 pub mod Steps
+pub mod Laws

@@ -11,7 +11,7 @@ use Rattle.xc_turnstile.specs.Known.{Known}
 use Rattle.xc_turnstile.specs.Meanings.{Meaning}
 use Rattle.xc_turnstile.specs.Views.{left_view, numbered}
 use Rattle.xc_turnstile.specs.declared.view.View.{View}
-use Rattle.xc_turnstile.proofs.Passes.{gains, goes_further, outside_further}
+use Rattle.xc_turnstile.proofs.Laws.{gains, goes_further, outside_further}
 use Rattle.xc_runner.specs.Tries.{GainsOnce, IsHeldOff}
 
 -- ---- one event

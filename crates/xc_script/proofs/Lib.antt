@@ -5,3 +5,4 @@ pub mod Handles
 pub mod Settling
 pub mod Backs
 pub mod Opened
+pub mod Laws

@@ -4,7 +4,7 @@ use Rattle.std.specs.Prelude.{List, [], ◌∷◌, Option, length, unwrap_or, re
 use Rattle.std.specs.declared.option.Option.TheVariants.{None, Some}
 use Rattle.std.specs.Cmp.Lexicographic.{pointwise}
 use Rattle.xc_data.specs.declared.call.Reply.{Reply}
-use Rattle.xc_failure.specs.Slots.{unset}
+use Rattle.xc_script.specs.JobSlots.{unset}
 use Rattle.xc_text.specs.declared.script.Script.{Script}
 use Rattle.xc_text.specs.declared.script.Block.{Block}
 use Rattle.xc_text.specs.Stated.{Statement}

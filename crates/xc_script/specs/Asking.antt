@@ -4,7 +4,7 @@ use Rattle.std.specs.Prelude.{List, [], ◌∷◌, Option, length}
 use Rattle.std.specs.declared.option.Option.TheVariants.{None, Some}
 use Rattle.xc_data.specs.declared.call.Call.{Call}
 use Rattle.xc_data.specs.declared.call.Call.TheVariants as call
-use Rattle.xc_failure.specs.Slots.{slot_name}
+use Rattle.xc_script.specs.JobSlots.{slot_name}
 use Rattle.xc_data.specs.Calls.{bytes_of}
 use Rattle.xc_text.specs.declared.script.CallForm.TheVariants as form
 use Rattle.xc_text.specs.declared.script.Statement.TheVariants as statement

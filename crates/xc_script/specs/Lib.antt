@@ -7,3 +7,4 @@ pub mod Position
 pub mod Slots
 pub mod Values
 pub mod Walks
+pub mod JobSlots

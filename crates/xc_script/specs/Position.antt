@@ -4,7 +4,7 @@ use Rattle.std.specs.Prelude.{◌≡◌, ℕ, ◌⊎◌, IsTrue, Bool, true, fal
 use Rattle.std.specs.declared.option.Option.TheVariants.{None, Some}
 use Rattle.std.specs.Coded.{Coded, code_by, coded×, coded⊎, coded_ℕ, coded_bool, coded_list, coded_option}
 use Rattle.xc_maps.specs.Keys.{coded_name}
-use Rattle.xc_failure.specs.Slots.{Slots, coded_slots, no_slots}
+use Rattle.xc_script.specs.JobSlots.{Slots, coded_slots, no_slots}
 use Rattle.xc_text.specs.declared.script.Script.{Script}
 use Rattle.xc_text.specs.Stated.{Statement}
 use Rattle.xc_script.specs.declared.answer.Target.{Target}

@@ -5,7 +5,7 @@ use Rattle.xc_data.specs.declared.call.Call.{Call}
 use Rattle.xc_data.specs.declared.call.Call.TheVariants as call
 use Rattle.xc_data.specs.declared.call.Reply.{Reply}
 use Rattle.xc_data.specs.declared.call.LateEnd.{LateEnd}
-use Rattle.xc_failure.specs.Slots.{with_slot}
+use Rattle.xc_script.specs.JobSlots.{with_slot}
 use Rattle.xc_data.specs.Calls.{is_late, slot_of}
 use Rattle.xc_script.specs.Values.{Variables}
 

@@ -4,7 +4,7 @@ use Rattle.std.specs.Prelude.{List, [], Option, slice_get}
 use Rattle.std.specs.List.{flat_map}
 use Rattle.std.specs.Fmt.{decimal}
 use Rattle.std.specs.declared.option.Option.TheVariants.{None, Some}
-use Rattle.xc_failure.specs.Slots.{Slots, slot_number}
+use Rattle.xc_script.specs.JobSlots.{Slots, slot_number}
 use Rattle.xc_text.specs.declared.script.Item.TheVariants as item
 use Rattle.xc_text.specs.declared.script.Term.TheVariants as term
 use Rattle.xc_text.specs.declared.script.Expression.TheVariants as expression

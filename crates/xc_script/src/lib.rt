@@ -8,8 +8,9 @@ mod data;
 mod ends;
 mod inner;
 mod job;
-mod laws;
+mod law;
 mod silent;
+mod slots;
 mod terms;
 mod value;
 mod values;
@@ -17,7 +18,7 @@ mod values;
 pub use ask::Ask;
 pub use ends::goes_back;
 pub use job::JobState;
-pub use laws::{
+pub use law::{
     a_variable_holds_its_last_handle, each_handle_is_in_a_variable, other_variables_hold_nothing,
     what_is_asked_fits_its_block,
 };

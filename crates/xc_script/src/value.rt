@@ -1,6 +1,6 @@
 ghost use Rattle.std.specs.Prelude.{◌≡◌, ◌≤◌, ◌^◌, IfOk, OnOk, None, length, replicate};
 ghost use Rattle.std.specs.Option.{option_copied};
-ghost use Rattle.xc_failure.specs.Slots.{slot_number, unset};
+ghost use Rattle.xc_script.specs.JobSlots.{slot_number, unset};
 ghost use Rattle.xc_script.specs.Asking.{name_of_slot};
 ghost use Rattle.xc_script.specs.Walks.{set_to};
 ghost use Rattle.xc_script.specs.Values.{value_at};
@@ -8,12 +8,12 @@ ghost use Rattle.xc_script.specs.Ask.{with_handles};
 ghost use Rattle.xc_script.specs.Position.{nothing_kept};
 ghost use Rattle.xc_script.specs.Slots.{with_end};
 
+use crate::slots::Slots;
 use crate::values::Values;
 use std::alloc::Global;
 use std::marker::Model;
 use std::mem;
 use xc_data::{Chunk, Ident, LateEnd, NoMemory, SlotName, SlotNames};
-use xc_failure::Slots;
 use xc_text::Place;
 
 /// What a variable holds.

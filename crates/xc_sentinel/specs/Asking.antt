@@ -4,8 +4,8 @@ use Rattle.xc_data.specs.declared.claim.Claim.{Claim}
 use Rattle.xc_data.specs.declared.object.Object.{Object}
 use Rattle.xc_data.specs.Claims.{holding}
 use Rattle.xc_data.specs.Step.{Step}
-use Rattle.xc_wordlocks.specs.Table.{KeepsOthers, claimed, held_mode}
-use Rattle.xc_wordlocks.specs.Met.{IsFirstMet, IsNotMet}
+use Rattle.xc_locks.specs.Table.{KeepsOthers, claimed, held_mode}
+use Rattle.xc_locks.specs.Met.{IsFirstMet, IsNotMet}
 use Rattle.xc_data.specs.declared.entry.Mark.{Mark}
 use Rattle.xc_sentinel.specs.declared.seat.Seat.{Seat}
 use Rattle.xc_sentinel.specs.declared.seat.Verdict.{Verdict}

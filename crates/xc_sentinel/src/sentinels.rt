@@ -1,16 +1,16 @@
 ghost use Rattle.std.specs.Prelude.{◌≡◌, ◌≤◌, ◌+◌, ℕ, List, length, Some, None, OnOk, OnErr, is_some, option_copied, true};
 ghost use Rattle.xc_data.specs.declared.object.Object.{Object};
 ghost use Rattle.xc_data.specs.declared.claim.Claim.{Claim};
-ghost use Rattle.xc_wordlocks.specs.Held.{HasRoomFor};
-ghost use Rattle.xc_wordlocks.specs.Met.{IsFirstMet};
-ghost use Rattle.xc_wordlocks.specs.Table.{Holds, KeepsOthers, held_mode};
+ghost use Rattle.xc_locks.specs.Held.{HasRoomFor};
+ghost use Rattle.xc_locks.specs.Met.{IsFirstMet};
+ghost use Rattle.xc_locks.specs.Table.{Holds, KeepsOthers, held_mode};
 
 use crate::seat::{Seat, Verdict};
 use crate::seats::Seats;
 use std::alloc::Global;
 use std::sync::ledger::Ledger;
 use xc_data::{Claim, HeldList, Mark, NoMemory, Object};
-use xc_wordlocks::{ClaimErr, Claims, Holding, Steps};
+use xc_locks::{ClaimErr, Claims, Holding, Steps};
 
 /// Claims, and the active transactions that make them: who runs, and who was told by an older one to give way.
 ///

@@ -27,7 +27,7 @@ use Rattle.xc_data.specs.Calls.{bytes_of}
 use Rattle.xc_world.specs.Fits.{fits, is_back, answer_of}
 use Rattle.xc_world.specs.Run.{BlockState, step, stepped, marked, block_step, runs_on, fits_on, asked_of}
 use Rattle.xc_world.specs.World.{World}
-use Rattle.xc_world.proofs.Blocks.{marked_replies}
+use Rattle.xc_world.proofs.Laws.{marked_replies}
 use Rattle.xc_serial.specs.Plain.{Replied, without_fault, made, calls_from}
 
 -- ---- no faults

@@ -23,8 +23,7 @@ use Rattle.xc_model.specs.Setting.{Setting}
 use Rattle.xc_model.specs.Serial.{AreInOrder, IsSerial, all_final, is_alone, is_asked, is_final}
 use Rattle.xc_model.specs.EntryEnds.{is_tried_again}
 use Rattle.xc_text.specs.declared.script.Script.{Script}
-use Rattle.xc_turns.proofs.Completions.{GoesOn, all_go}
-use Rattle.xc_turns.proofs.Ways.{joint_of_parts}
+use Rattle.xc_turns.proofs.Laws.{GoesOn, all_go, joint_of_parts}
 use Rattle.xc_serial.specs.Plain.{plain_job_end, plain_journal, plain_lines, plain_text}
 use Rattle.xc_serial.specs.Undisturbed.{all_alone, is_full, is_full_end}
 use Rattle.xc_serial.proofs.Journals.{AreOver, AreOverBefore, AreUntried, are_next, rise, same_journal, untried_all}

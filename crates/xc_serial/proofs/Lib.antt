@@ -4,3 +4,4 @@ pub mod Examples
 pub mod Finals
 pub mod Journals
 pub mod Remains
+pub mod Laws

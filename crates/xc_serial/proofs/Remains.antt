@@ -8,7 +8,7 @@ use Rattle.xc_data.specs.declared.entry.Outcome.{Outcome}
 use Rattle.xc_data.specs.declared.entry.Outcome.TheVariants.{Committed, Aborted}
 use Rattle.xc_data.specs.declared.undo.Undo.{Undo}
 use Rattle.xc_data.specs.declared.undo.UndoEnd.TheVariants.{Undone}
-use Rattle.xc_failure.specs.Effects.{effect_remains}
+use Rattle.xc_world.specs.Remains.{effect_remains}
 use Rattle.xc_print.specs.Totals.{entry_remains, outcome_remains}
 use Rattle.xc_script.specs.declared.ask.Ask.{Ask}
 use Rattle.xc_model.specs.Progress.{Progress, after_entry}

@@ -8,7 +8,7 @@ use Rattle.std.proofs.lemmas.List.{append-nil, map-append}
 use Rattle.std.proofs.lemmas.List.Sums.{fold-append}
 use Rattle.std.proofs.lemmas.Bool.{eqb-false}
 use Rattle.std.proofs.lemmas.Option.{slice_get_within}
-use Rattle.xc_data.proofs.Lists.{map_set_same}
+use Rattle.xc_data.proofs.Laws.{map_set_same}
 use Rattle.xc_data.specs.Step.{Step}
 use Rattle.xc_data.specs.declared.entry.Cause.{Cause}
 use Rattle.xc_data.specs.declared.entry.Cause.TheVariants as cause
@@ -22,8 +22,8 @@ use Rattle.xc_model.specs.Progress.{Following, Progress, after_entry, after_foll
 use Rattle.xc_model.specs.Progress.{opening_progress, started_blocks, started_job, untried}
 use Rattle.xc_script.specs.Blocks.{kept_calls}
 use Rattle.xc_text.specs.declared.script.Script.{Script}
-use Rattle.xc_turns.proofs.Lists.{get_front}
-use Rattle.xc_turnstile.specs.declared.view.Origin.{Origin}
+use Rattle.xc_turns.proofs.Laws.{get_front}
+use Rattle.xc_model.specs.declared.origin.Origin.{Origin}
 use Rattle.xc_turnstile.specs.declared.view.View.{View}
 use Rattle.xc_turnstile.specs.Views.{BeginsWith}
 use Rattle.xc_station.specs.Events.{IsTried}

@@ -12,8 +12,7 @@ use Rattle.xc_turnstile.specs.Insides.{Gains, GainsEvent, IsInside, IsNext}
 use Rattle.xc_turnstile.specs.Known.{Known}
 use Rattle.xc_turnstile.specs.Meanings.{Meaning, boxed}
 use Rattle.xc_turnstile.specs.Views.{AreAtPlaces, added, entered_view, left_view, numbered}
-use Rattle.xc_turnstile.proofs.Passes.{gains_at, goes_further}
-use Rattle.xc_turnstile.proofs.Fronts.{numbered_stands, stands_append, stands_longer, starts_self}
+use Rattle.xc_turnstile.proofs.Laws.{gains_at, goes_further, numbered_stands, stands_append, stands_longer, starts_self}
 use Rattle.xc_print.specs.Entries.{journal_text}
 use Rattle.xc_serve.specs.Answers.{texts}
 

@@ -14,7 +14,7 @@ use Rattle.xc_print.specs.Text.{job_line}
 use Rattle.xc_runner.specs.Walks.{is_last}
 use Rattle.xc_station.specs.Names.{name_at, told_blocks}
 use Rattle.xc_text.specs.declared.script.Script.{Script}
-use Rattle.xc_turnstile.specs.declared.view.Origin.{Origin}
+use Rattle.xc_model.specs.declared.origin.Origin.{Origin}
 use Rattle.xc_turnstile.specs.declared.view.View.{View}
 use Rattle.xc_serve.specs.declared.answer.Answer.{Answer}
 use Rattle.xc_serve.specs.declared.answer.Answer.TheVariants as answer

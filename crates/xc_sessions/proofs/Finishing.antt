@@ -5,7 +5,7 @@ use Rattle.std.specs.Option.{option_map}
 use Rattle.xc_data.specs.Step.{Step}
 use Rattle.xc_edge.specs.View.{StreamView}
 use Rattle.xc_host.specs.Model.{HostModel}
-use Rattle.xc_outcome.proofs.Finishing.{answered_by_run, full_as_said, is_run, is_run_of}
+use Rattle.xc_outcome.proofs.Laws.{answered_by_run, full_as_said, is_run, is_run_of}
 use Rattle.xc_outcome.specs.declared.finish.Finish.{Finish}
 use Rattle.xc_outcome.specs.declared.finish.Status.{Status}
 use Rattle.xc_outcome.specs.Outcomes.{IsEndOf, IsWrittenAs}

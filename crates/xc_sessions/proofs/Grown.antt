@@ -6,7 +6,7 @@ use Rattle.xc_links.specs.Links.{LinksView}
 use Rattle.xc_links.specs.Wires.{Wire}
 use Rattle.xc_meet.specs.Members.{AreAll}
 use Rattle.xc_meet.specs.declared.session.Session.{Session}
-use Rattle.xc_meet.proofs.Others.{sittings_later}
+use Rattle.xc_meet.proofs.Laws.{sittings_later}
 use Rattle.xc_turnstile.specs.Views.{BeginsWith}
 
 -- all of them

@@ -5,3 +5,4 @@ pub mod EndWithin
 pub mod LineLaws
 pub mod PrintedLaws
 pub mod Readings
+pub mod Laws

@@ -26,12 +26,9 @@ use Rattle.xc_lines.specs.Parts.{mapped}
 use Rattle.xc_lines.specs.Ranges.{IsHeadInRange}
 use Rattle.xc_sheet.specs.Ranges.{IsLineInRange}
 use Rattle.xc_lines.specs.Tails.{kind_name, standing_text, job_end_name, kept_text}
-use Rattle.xc_lines.proofs.CallLaws.{call_again}
-use Rattle.xc_lines.proofs.HeadLaws.{head_again}
-use Rattle.xc_lines.proofs.HeldLaws.{claim_again, claims_again, further_end, further_other}
-use Rattle.xc_lines.proofs.ReplyLaws.{reply_again, late_end_again}
-use Rattle.xc_lines.proofs.Spelled.{number_again, ident_again}
-use Rattle.xc_lines.proofs.TailLaws.{three_parts, four_parts, five_parts, six_parts, kind_again, undo_end_again, standing_again, job_end_again, kept_again}
+use Rattle.xc_lines.proofs.Laws.{call_again, head_again, claim_again, claims_again, further_end, further_other, reply_again, late_end_again, number_again}
+use Rattle.xc_lines.proofs.Laws.{ident_again, three_parts, four_parts, five_parts, six_parts, kind_again, undo_end_again, standing_again, job_end_again}
+use Rattle.xc_lines.proofs.Laws.{kept_again}
 
 seven_parts : (a b c d e f g rest : List ℕ) → a ++ b ++ c ++ d ++ e ++ f ++ g ++ rest ≡ a ++ (b ++ (c ++ (d ++ (e ++ (f ++ (g ++ rest))))))
 seven_parts a b c d e f g rest = simp append_assoc

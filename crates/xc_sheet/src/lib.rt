@@ -6,7 +6,7 @@
 #![tactic(auto)]
 
 mod ending;
-pub mod laws;
+pub mod law;
 mod lines;
 mod places;
 mod printed;

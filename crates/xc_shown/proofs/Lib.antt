@@ -3,3 +3,4 @@ pub mod Gathering
 pub mod Grammar
 pub mod Parting
 pub mod Parts
+pub mod Laws

@@ -8,7 +8,7 @@ use Rattle.xc_data.specs.declared.private.Place.TheVariants.{Pair}
 use Rattle.xc_world.specs.Run.{given_back, gives}
 use Rattle.xc_world.specs.World.{World}
 use Rattle.xc_buffers.specs.Items.{is_fit}
-use Rattle.xc_pipe.specs.Taking.{HasNoneKept, HoldsMore, TakesFirst}
+use Rattle.xc_calls.specs.Taking.{HasNoneKept, HoldsMore, TakesFirst}
 use Rattle.xc_socket.proofs.Receipts.{gives_there}
 
 -- a message that was received is given back: it was kept before, or it was the host's and stands behind what is kept

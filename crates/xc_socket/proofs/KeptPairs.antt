@@ -3,7 +3,7 @@ use Rattle.std.proofs.Common.{◌≡◌, ℕ, Bool, true, false, cond, Some, IsT
 use Rattle.std.specs.Prelude.{Result, is_some, drop}
 use Rattle.std.specs.FinMap as map
 use Rattle.std.specs.Ordering.{eq_by_cmp}
-use Rattle.xc_maps.proofs.Maps.{num_total}
+use Rattle.xc_maps.proofs.Laws.{num_total}
 use Rattle.xc_maps.specs.Keys.{num_cmp}
 use Rattle.xc_data.specs.Step.{Step}
 use Rattle.xc_data.specs.declared.object.Num.{Num}
@@ -16,7 +16,7 @@ use Rattle.xc_host.specs.declared.errors.HostErr.{HostErr}
 use Rattle.xc_host.specs.declared.pipes.Took.{Took}
 use Rattle.xc_host.specs.declared.pipes.Took.TheVariants as took
 use Rattle.xc_world.specs.World.{Pair, empty_pair, waiting, with_waiting}
-use Rattle.xc_pipe.proofs.KeptData.{keeps_same}
+use Rattle.xc_calls.proofs.Laws.{keeps_same}
 
 -- what is there in a map is there where something is put into it
 still_there : {X : Type 0} (m : map.FinMap num_cmp X) (at num : Num) (x : X) → is_some (map.get m num) ≡ true → is_some (map.get (map.insert m at x) num) ≡ true

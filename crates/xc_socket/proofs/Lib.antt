@@ -5,3 +5,4 @@ pub mod Receipts
 pub mod ReceiptSteps
 pub mod ReceiptCalls
 pub mod Behind
+pub mod Laws

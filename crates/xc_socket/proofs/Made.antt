@@ -25,14 +25,13 @@ use Rattle.xc_world.specs.Replies.{may_reply}
 use Rattle.xc_world.specs.RecordOf.{AreRecordsOf, left_by}
 use Rattle.xc_world.specs.Trail.{pair_record}
 use Rattle.xc_buffers.specs.Items.{keeps_pair}
-use Rattle.xc_buffers.proofs.Held.{pair_put}
-use Rattle.xc_deferred.proofs.Lifted.{world_with}
+use Rattle.xc_buffers.proofs.Laws.{pair_put}
+use Rattle.xc_deferred.proofs.Laws.{world_with}
 use Rattle.xc_host.specs.Contents.{Contents, with_contents}
 use Rattle.xc_host.specs.Kept.{with_kept}
 use Rattle.xc_host.specs.Pairs.{with_new_pair}
-use Rattle.xc_file.specs.Calls.{ActsAsPlain, IsMePassed}
-use Rattle.xc_file.proofs.FileCalls.{call_view_at}
-use Rattle.xc_file.proofs.Refusals.{by_much}
+use Rattle.xc_calls.specs.Calls.{ActsAsPlain, IsMePassed}
+use Rattle.xc_calls.proofs.Laws.{call_view_at, by_much}
 use Rattle.xc_socket.specs.Making.{AreVacant, IsMadeAt, Makes, with_made, made_record}
 
 -- ---- the checks

@@ -17,17 +17,15 @@ use Rattle.xc_world.specs.Checks.{refusal_of}
 use Rattle.xc_world.specs.Replies.{may_reply}
 use Rattle.xc_world.specs.World.{World}
 use Rattle.xc_compensate.specs.Records.{Records}
-use Rattle.xc_deferred.proofs.Lifted.{world_with}
+use Rattle.xc_deferred.proofs.Laws.{world_with}
 use Rattle.xc_host.specs.Contents.{with_contents}
 use Rattle.xc_host.specs.Fronted.{before, fronted}
 use Rattle.xc_host.specs.Model.{HostModel}
 use Rattle.xc_host.specs.Uses.{Uses}
-use Rattle.xc_file.specs.Calls.{ActsAsPlain, IsMePassed, replies_fault}
-use Rattle.xc_file.specs.Passing.{Passes}
-use Rattle.xc_file.proofs.FileCalls.{call_view_at}
-use Rattle.xc_file.proofs.Refusals.{passed_checks}
-use Rattle.xc_pipe.specs.Reading.{Sides, world_at}
-use Rattle.xc_pipe.proofs.ReadCalls.{ReadState, logical, sides, uses_both}
+use Rattle.xc_calls.specs.Calls.{ActsAsPlain, IsMePassed, replies_fault}
+use Rattle.xc_calls.specs.Passing.{Passes}
+use Rattle.xc_calls.proofs.Laws.{call_view_at, passed_checks, ReadState, logical, sides, uses_both}
+use Rattle.xc_calls.specs.Sides.{Sides, world_at}
 use Rattle.xc_socket.specs.Receiving.{IsReceiptReply, Receives, ReceivesBy}
 use Rattle.xc_socket.proofs.ReceiptSteps.{fault_step, got_step, none_step}
 

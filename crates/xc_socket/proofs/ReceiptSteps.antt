@@ -10,19 +10,18 @@ use Rattle.xc_data.specs.declared.entry.KeptItem.TheVariants.{Message}
 use Rattle.xc_data.specs.declared.object.Num.{Num}
 use Rattle.xc_data.specs.declared.private.Place.TheVariants as place
 use Rattle.xc_data.specs.declared.private.Private.{Private}
-use Rattle.xc_maps.proofs.Laws.{get-insert_same}
-use Rattle.xc_maps.proofs.Maps.{num_total, num_exact}
+use Rattle.xc_maps.proofs.Laws.{get-insert_same, num_total, num_exact}
 use Rattle.xc_world.specs.Act.{act, done}
 use Rattle.xc_world.specs.Act.Pipes.{receive_at, received}
 use Rattle.xc_world.specs.Act.Step.{counted, step_to, storing}
 use Rattle.xc_world.specs.Checks.{is_bad_handle, is_too_big, is_too_much, refusal_of}
 use Rattle.xc_world.specs.Run.{gives}
 use Rattle.xc_world.specs.World.{World, Pair, empty_pair, pair_of, waiting, with_pair, with_waiting}
-use Rattle.xc_buffers.proofs.Puts.{first_left, has_first}
+use Rattle.xc_buffers.proofs.Laws.{first_left, has_first}
 use Rattle.xc_host.specs.Contents.{with_contents}
-use Rattle.xc_pipe.specs.Reading.{Sides, world_at}
-use Rattle.xc_pipe.proofs.ReadSteps.{first_none}
-use Rattle.xc_socket.specs.Receiving.{HasNone, IsSame, Leaves}
+use Rattle.xc_calls.specs.Sides.{Sides, world_at, IsSame}
+use Rattle.xc_calls.proofs.Laws.{first_none}
+use Rattle.xc_socket.specs.Receiving.{HasNone, Leaves}
 
 -- a receipt that the checks let pass
 receive_passes : (w : World) (me : Private) (number h : ℕ) (a : Answer) → refusal_of (XRecvmsg h) me ≡ None

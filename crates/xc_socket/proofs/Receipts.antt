@@ -6,18 +6,18 @@ use Rattle.std.specs.Prelude.{All, IfOk, Result, Ok, Err}
 use Rattle.xc_data.specs.declared.entry.KeptItem.{KeptItem}
 use Rattle.xc_data.specs.declared.entry.KeptItem.TheVariants.{Message}
 use Rattle.xc_data.specs.declared.object.Num.{Num}
-use Rattle.xc_maps.proofs.Laws.{get-insert_same, insert-insert_same, insert-get_same}
-use Rattle.xc_maps.proofs.Maps.{num_total, num_exact}
+use Rattle.xc_maps.proofs.Laws.{get-insert_same, insert-insert_same, insert-get_same, num_total, num_exact}
 use Rattle.xc_world.specs.World.{World, Pair, empty_pair, pair_of, waiting, with_pair, with_waiting}
 use Rattle.xc_world.specs.Run.{gives, given_back}
 use Rattle.xc_buffers.specs.Items.{is_fit, kept_messages}
-use Rattle.xc_buffers.proofs.Held.{no_message_items, pair_mark, side_front, side_put}
+use Rattle.xc_buffers.proofs.Laws.{no_message_items, pair_mark, side_front, side_put}
 use Rattle.xc_host.specs.Contents.{Contents, with_contents}
 use Rattle.xc_host.specs.Pairs.{IsReceivedOf, after_receipt, has_pair, pair_in, received_from}
 use Rattle.xc_host.specs.declared.errors.HostErr.{HostErr}
 use Rattle.xc_host.specs.declared.pipes.Took.{Took}
 use Rattle.xc_host.specs.declared.pipes.Took.TheVariants as took
-use Rattle.xc_socket.specs.Receiving.{Finds, HasNone, IsSame, Leaves}
+use Rattle.xc_socket.specs.Receiving.{Finds, HasNone, Leaves}
+use Rattle.xc_calls.specs.Sides.{IsSame}
 
 -- ---- the sides of a pair
 -- a side whose first message left it, with that message in front again

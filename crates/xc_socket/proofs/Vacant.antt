@@ -7,7 +7,7 @@ use Rattle.xc_data.specs.Private.{is_vacant, lowest_vacant}
 use Rattle.xc_data.specs.declared.object.Num.{Num}
 use Rattle.xc_data.specs.declared.private.Place.{Place}
 use Rattle.xc_data.specs.declared.private.Place.TheVariants.{Vacant, Pair}
-use Rattle.xc_world.proofs.SoundCalls.{no_vacant, vacant_set}
+use Rattle.xc_world.proofs.Laws.{no_vacant, vacant_set}
 
 -- what one place counts
 abbrev counts : Place → ℕ

@@ -13,8 +13,8 @@ use Rattle.xc_data.specs.declared.undo.Undo.{Undo}
 use Rattle.xc_data.specs.declared.undo.Undo.TheVariants.{NewPair}
 use Rattle.xc_world.specs.Act.Names.{making}
 use Rattle.xc_compensate.specs.Records.{AtHost}
-use Rattle.xc_file.specs.Calls.{replies_fault}
-use Rattle.xc_file.specs.Passing.{IsAsBefore}
+use Rattle.xc_calls.specs.Calls.{replies_fault}
+use Rattle.xc_calls.specs.Passing.{IsAsBefore}
 use Rattle.xc_host.specs.Contents.{Contents}
 use Rattle.xc_host.specs.Model.{HostModel}
 use Rattle.xc_host.specs.Pairs.{with_new_pair}

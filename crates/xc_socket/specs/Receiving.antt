@@ -16,11 +16,8 @@ use Rattle.xc_host.specs.Uses.{ReceiptsFor}
 use Rattle.xc_host.specs.declared.errors.HostErr.{HostErr}
 use Rattle.xc_host.specs.declared.pipes.Took.{Took}
 use Rattle.xc_host.specs.declared.pipes.Took.TheVariants as took
-use Rattle.xc_pipe.specs.Reading.{Sides, world_at}
-
--- a host and what is kept lead to the same worlds as before
-abbrev pub IsSame : Step Sides → Type 0
-IsSame s = (w : World) → world_at w s.old ≡ world_at w s.new
+use Rattle.xc_calls.specs.Sides.{Sides, world_at, IsSame}
+use Rattle.xc_calls.specs.Taking.{HasNoneKept, TakesFirst}
 
 -- this message was the first that waited for a side: given back, the world is the same; and the pair is there
 abbrev pub Leaves : Num → ℕ → List ℕ → Step Sides → Type 0
@@ -78,3 +75,11 @@ received_of pair side _ = []
 abbrev pub NotesOf : Num → ℕ → Step (List KeptItem) → Result Reply NoMemory → Type 0
 NotesOf pair side notes (Ok reply) = notes.new ≡ notes.old ++ received_of pair side reply
 NotesOf pair side notes (Err e) = notes.new ≡ notes.old
+
+-- ---- a receipt from a side of a pair
+-- a message that was kept, or else the host's; and without a message nothing was kept
+abbrev pub TakesMessageKept : Num → ℕ → Step (List KeptItem) → Result Took HostErr → Type 0
+TakesMessageKept num side kept (Ok (took.Bytes bytes)) = TakesFirst num side bytes kept ⊎ HasNoneKept num side kept
+TakesMessageKept num side kept (Ok took.Empty) = HasNoneKept num side kept
+TakesMessageKept num side kept (Ok took.End) = HasNoneKept num side kept
+TakesMessageKept num side kept (Err e) = HasNoneKept num side kept

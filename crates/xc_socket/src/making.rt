@@ -4,7 +4,7 @@ ghost use Rattle.xc_data.specs.Private.{is_vacant};
 ghost use Rattle.xc_data.specs.declared.call.Call.TheVariants.{XPair};
 ghost use Rattle.xc_data.specs.declared.entry.KeptItem.{KeptItem};
 ghost use Rattle.xc_buffers.specs.Items.{keeps_pair};
-ghost use Rattle.xc_file.specs.Calls.{IsFileCall, PassedBy};
+ghost use Rattle.xc_calls.specs.Calls.{IsHostCall, PassedBy};
 ghost use Rattle.xc_host.specs.Fronted.{before, fronted};
 ghost use Rattle.xc_host.specs.Kept.{KeepsData};
 ghost use Rattle.xc_host.specs.Pairs.{has_pair};
@@ -100,7 +100,7 @@ pub fn x_pair<H: Host>(
     requires new { IsTrue H.model.tells → has_pair (H.model.contents host.old) (next_num me.old tx) ≡ false }
     requires none { undo.old.ended ≡ [] }
     ensures call { (items : List KeptItem) → (IsTrue H.model.tells → keeps_pair (next_num me.old tx) items ≡ false)
-        → IsFileCall (fronted H.model) XPair
+        → IsHostCall (fronted H.model) XPair
         (record { host = before host.old items; number = tx; me = me.old; undo = undo.old })
         (record { host = before host.new items; number = tx; me = me.new; undo = undo.new }) result }
     ensures stored { me.new.stored ≡ me.old.stored }

@@ -6,8 +6,8 @@ ghost use Rattle.xc_data.specs.Private.{IsSided, place_of};
 ghost use Rattle.xc_data.specs.declared.call.Call.TheVariants.{XRecvmsg};
 ghost use Rattle.xc_data.specs.declared.private.Place.TheVariants.{Pair};
 ghost use Rattle.xc_compensate.specs.Records.{Records};
-ghost use Rattle.xc_file.specs.Calls.{IsFileCall, replies_fault};
-ghost use Rattle.xc_file.specs.Passing.{Passes};
+ghost use Rattle.xc_calls.specs.Calls.{IsHostCall, replies_fault};
+ghost use Rattle.xc_calls.specs.Passing.{Passes};
 ghost use Rattle.xc_host.specs.Cause.{is_fault};
 ghost use Rattle.xc_host.specs.Fronted.{before, fronted};
 ghost use Rattle.xc_host.specs.Kept.{KeepsData, with_kept};
@@ -17,10 +17,10 @@ ghost use Rattle.xc_buffers.specs.Items.{AreKept};
 ghost use Rattle.xc_world.specs.Act.Step.{storing_reply};
 ghost use Rattle.xc_world.specs.After.{bytes_in};
 ghost use Rattle.xc_world.specs.Checks.{refusal_of};
-ghost use Rattle.xc_pipe.specs.Reading.{Notes};
-ghost use Rattle.xc_pipe.specs.Taking.{HasTaken, ReceivesKeptOf, TakesMessageKept};
+ghost use Rattle.xc_calls.specs.Taking.{Notes, HasTaken, ReceivesKeptOf};
 ghost use Rattle.xc_socket.specs.Checks.{IsPairIn};
-ghost use Rattle.xc_socket.specs.Receiving.{AskedBy, Finds, IsReceiptReply, IsSame, NotesOf, Receives, ReceivesBy};
+ghost use Rattle.xc_socket.specs.Receiving.{AskedBy, Finds, IsReceiptReply, NotesOf, Receives, ReceivesBy, TakesMessageKept};
+ghost use Rattle.xc_calls.specs.Sides.{IsSame};
 
 use crate::checks::{OpenSide, open_side};
 use xc_buffers::{Kept, Taken};
@@ -171,7 +171,7 @@ pub fn x_recvmsg<H: Host>(
     requires side { IsSided (place_of me.old.places h) }
     requires there { IsTrue H.model.tells → refusal_of (XRecvmsg h) me.old ≡ None
         → IsPairIn (H.model.contents host.old) (place_of me.old.places h) }
-    ensures call { (number : ℕ) (undo : Records) → IsFileCall (fronted H.model) (XRecvmsg h)
+    ensures call { (number : ℕ) (undo : Records) → IsHostCall (fronted H.model) (XRecvmsg h)
         (record { host = before host.old kept.old.items; number = number; me = me.old; undo = undo })
         (record { host = before host.new kept.new.items; number = number; me = me.new; undo = undo }) result }
     ensures err { IsTrue H.model.tells → OnErr result

@@ -1,7 +1,7 @@
 ghost use Rattle.std.specs.Prelude.{◌≡◌, ◌≤◌, List, ℕ, Option, IfOk, OnErr};
 ghost use Rattle.xc_data.specs.declared.call.Call.TheVariants.{XSendmsg};
 ghost use Rattle.xc_data.specs.Private.{IsSided, place_of};
-ghost use Rattle.xc_pipe.specs.Deferring.{IsKeptWith};
+ghost use Rattle.xc_calls.specs.Deferred.{IsKeptWith};
 
 use crate::checks::open_side;
 use xc_data::{Chunk, LateCall, NoMemory, Private, Reply};

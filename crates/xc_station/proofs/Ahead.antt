@@ -7,11 +7,11 @@ use Rattle.std.specs.Prelude.{get_or, slice_get, slice_set}
 use Rattle.std.specs.declared.option.Option.TheVariants.{Some}
 use mathlib.Core.Logic.{dite}
 use native.Mathlib.Decide.{ℕ_discrete}
-use Rattle.xc_turns.proofs.Lists.{get_cases, get_inside}
+use Rattle.xc_turns.proofs.Laws.{get_cases, get_inside}
 use Rattle.xc_station.specs.declared.job.Job.{Job}
 use Rattle.xc_station.specs.Jobs.{doing_of, goes_on, job_view, job_views, stage_of}
 use Rattle.xc_station.specs.Stations.{AreAhead, IsAhead, live_at, lives}
-use Rattle.xc_data.proofs.Lists.{get_set_other, get_set_same, length_set, map_set}
+use Rattle.xc_data.proofs.Laws.{get_set_other, get_set_same, length_set, map_set}
 use Rattle.xc_station.proofs.Runs.{by_place, other_lives}
 
 -- ---- a turn of a job that lives

@@ -24,15 +24,14 @@ use Rattle.xc_buffers.specs.Items.{is_of_pair, keeps_from, keeps_pair}
 use Rattle.xc_buffers.specs.Sources.{is_from}
 use Rattle.xc_buffers.specs.Worlds.{has_pair, has_pipe}
 use Rattle.xc_buffers.specs.declared.source.Source.TheVariants as source
-use Rattle.xc_buffers.proofs.Held.{pair_is_there, pipe_is_there}
-use Rattle.xc_buffers.proofs.Orders.{one as source_one}
+use Rattle.xc_buffers.proofs.Laws.{pair_is_there, pipe_is_there, one as source_one}
 use Rattle.xc_data.specs.declared.call.LateCall.{LateCall}
 use Rattle.xc_data.specs.declared.call.LateCall.TheVariants as late_call
 use Rattle.xc_deferred.specs.Does.{IsThereFor}
-use Rattle.xc_maps.proofs.Laws.{tied}
-use Rattle.xc_maps.proofs.Maps.{num_exact, num_total}
+use Rattle.xc_maps.proofs.Laws.{tied, num_exact, num_total}
 use Rattle.xc_world.specs.Sound.{is_there}
-use Rattle.xc_file.specs.Calls.{ActsAsPlain, DidPart, IsOpenIn, CallView}
+use Rattle.xc_calls.specs.Calls.{ActsAsPlain, DidPart, CallView}
+use Rattle.xc_file.specs.Checks.{IsOpenIn}
 use Rattle.xc_host.specs.Contents.{Contents, contents_of, world_of}
 use Rattle.xc_host.specs.Kept.{KeepsData, with_kept}
 use Rattle.xc_world.specs.Act.{act}
@@ -43,18 +42,14 @@ use Rattle.xc_world.specs.Fits.{answer_of}
 use Rattle.xc_world.specs.Laws.{AgreeAt, ChangesOnly}
 use Rattle.xc_world.specs.Run.{given_back, item_object}
 use Rattle.xc_world.specs.World.{World}
-use Rattle.xc_world.proofs.GivenBeside.{HasNoData, each_away, no_data_spoken}
-use Rattle.xc_world.proofs.GivenBack.{given_away}
-use Rattle.xc_world.proofs.Local.{act_alike}
-use Rattle.xc_world.proofs.LocalParts.{agree_itself}
-use Rattle.xc_world.proofs.Records.{undone_to_alike}
+use Rattle.xc_world.proofs.Laws.{HasNoData, each_away, no_data_spoken, given_away, act_alike, agree_itself, undone_to_alike}
 use Rattle.xc_model.specs.Moment.{TxView, active_of}
 use Rattle.xc_model.specs.Movers.{IsActiveAt}
 use Rattle.xc_station.specs.declared.job.Job.{Job}
 use Rattle.xc_station.specs.Jobs.{job_view, job_views}
 use Rattle.xc_station.specs.Lent.{AreBacked, IsBacked}
 use Rattle.xc_station.proofs.Placed.{active_before, active_is}
-use Rattle.xc_data.proofs.Lists.{get_map, map_set}
+use Rattle.xc_data.proofs.Laws.{get_map, map_set}
 use Rattle.xc_station.proofs.Lent.{kept_files, kept_names, world_kept}
 
 -- ---- steps that speak of no pipe and no pair keep them all

@@ -4,7 +4,7 @@ use Rattle.std.specs.Prelude.{Option, map, slice_get, slice_set}
 use Rattle.std.specs.declared.option.Option.TheVariants.{None, Some}
 use mathlib.Core.Logic.{dite}
 use native.Mathlib.Decide.{ℕ_discrete}
-use Rattle.xc_data.proofs.Lists.{get_map, get_set_other, get_set_same}
+use Rattle.xc_data.proofs.Laws.{get_map, get_set_other, get_set_same}
 use Rattle.xc_data.specs.declared.entry.Mark.{Mark}
 use Rattle.xc_data.specs.declared.entry.Turn.{Turn}
 use Rattle.xc_data.specs.declared.entry.Turn.TheVariants as turn

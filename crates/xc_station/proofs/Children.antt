@@ -12,7 +12,7 @@ use Rattle.std.specs.Prelude.{get_or, slice_get, slice_set}
 use Rattle.xc_station.specs.declared.job.Job.{Job}
 use Rattle.xc_station.specs.Jobs.{job_view}
 use Rattle.xc_station.specs.Starting.{StartsChild}
-use Rattle.xc_data.proofs.Lists.{get_set_same}
+use Rattle.xc_data.proofs.Laws.{get_set_same}
 
 end_values : (v : Variables) (slot : Option (List ℕ)) (end : LateEnd) → (with_end v slot end).values ≡ v.values
 end_values v None end = refl

@@ -16,14 +16,14 @@ use Rattle.xc_data.specs.declared.memory.NoMemory.{NoMemory}
 use Rattle.xc_data.specs.declared.private.Private.{Private}
 use Rattle.xc_data.specs.declared.undo.Undo.{Undo}
 use Rattle.xc_compensate.specs.Records.{Records}
-use Rattle.xc_file.specs.Calls.{ActsAsPlain, AreRecorded, CallState, DidPart, IsFileCall, CallView, StepsAlone}
-use Rattle.xc_file.proofs.FileCalls.{alone_call}
+use Rattle.xc_calls.specs.Calls.{ActsAsPlain, AreRecorded, CallState, DidPart, IsHostCall, CallView, StepsAlone}
+use Rattle.xc_calls.proofs.Laws.{alone_call}
 use Rattle.xc_host.specs.Fronted.{Fronted, before as in_front, fronted}
 use Rattle.xc_host.specs.Kept.{KeepsData, with_kept}
 use Rattle.xc_host.specs.Model.{HostModel}
 use Rattle.xc_host.specs.Uses.{CallsOf, Uses}
 use Rattle.xc_data.specs.declared.script.Kind.{Kind}
-use Rattle.xc_pipe.specs.Taking.{HasTaken}
+use Rattle.xc_calls.specs.Taking.{HasTaken}
 use Rattle.xc_txmem.specs.Overlay.{overlaid}
 use Rattle.xc_world.specs.World.{World}
 use Rattle.xc_world.specs.Beside.{is_on_data}
@@ -116,7 +116,7 @@ uses_below model a b u = record { made = u.made; named = u.named; used = record 
 -- ---- a call on files or on pipes, or one that reaches no host
 module _ {H K : Type 0} (model : HostModel H) (seen_as : HostModel K) (a b : K) (c : Call) (old new : Acting H) (other : is_word_call c ≡ false) where
   -- it is done
-  pub call_done : (reply : Reply) (k : IsFileCall seen_as c (calling_at a old.tx) (calling_at b new.tx) (Ok reply))
+  pub call_done : (reply : Reply) (k : IsHostCall seen_as c (calling_at a old.tx) (calling_at b new.tx) (Ok reply))
       → Uses model (record { old = old.host; new = new.host }) (CallsOf (refusal_of c old.tx.me) c reply)
       → CountsFault (is_fault_reply reply) (model.fault_count old.host) (model.fault_count new.host)
       → (IsTrue model.tells → IsToldCall model c (record { old = old; new = new }) k.made reply)
@@ -159,7 +159,7 @@ module _ {H : Type 0} (model : HostModel H) (c : Call) (old new : Acting H) (oth
   told_new = ap (with_kept (model.contents new.host)) kept
 
   -- it goes on beside what is kept
-  file_told : (reply : Reply) (k : IsFileCall model c (calling old) (calling new) (Ok reply)) → IsTrue model.tells
+  file_told : (reply : Reply) (k : IsHostCall model c (calling old) (calling new) (Ok reply)) → IsTrue model.tells
       → IsToldCall model c (record { old = old; new = new }) k.made reply
   file_told reply k tells =
       let after : CallView = record { contents = model.contents new.host; number = new.tx.number; me = new.tx.me } in
@@ -200,7 +200,7 @@ module _ {H : Type 0} (model : HostModel H) (c : Call) (old new : Acting H) (oth
   data_left left (inr did) = keeps_part c before off (model.contents new.host) left did
 
   -- memory runs out
-  file_left : (e : NoMemory) → IsFileCall model c (calling old) (calling new) (Err e) → new.tx ≡ framed old.tx (tx_parts new.tx)
+  file_left : (e : NoMemory) → IsHostCall model c (calling old) (calling new) (Err e) → new.tx ≡ framed old.tx (tx_parts new.tx)
       → new.tx.writes ≡ old.tx.writes → LeavesOff model c old new
   file_left e k frame writes =
       record {
@@ -214,7 +214,7 @@ module _ {H : Type 0} (model : HostModel H) (c : Call) (old new : Acting H) (oth
         contents = λ tells. part_left k.made (k.memory.effect tells);
       }
 
-  file_answered : (r : Result Reply NoMemory) → IsFileCall model c (calling old) (calling new) r → new.tx ≡ framed old.tx (tx_parts new.tx)
+  file_answered : (r : Result Reply NoMemory) → IsHostCall model c (calling old) (calling new) r → new.tx ≡ framed old.tx (tx_parts new.tx)
       → new.tx.writes ≡ old.tx.writes → new.tx.me.stored ≤ 16384 → is_kept c ≡ false → IfOk r (λ reply. is_late reply ≡ false)
       → HasActedAsPlain model c old new r
   file_answered (Ok reply) k frame writes stored at_once now =
@@ -226,7 +226,7 @@ module _ {H : Type 0} (model : HostModel H) (c : Call) (old new : Acting H) (oth
 
 -- so it has acted; the transaction and the words are as before but for its private state and its records
 pub file_acted : {H : Type 0} (model : HostModel H) (c d : Call) (old new : Acting H) (r : Result Reply NoMemory) → c ≡ d → is_word_call d ≡ false
-    → is_on_data d ≡ false → is_back d ≡ false → new.kept ≡ old.kept → is_kept d ≡ false → IsFileCall model d (calling old) (calling new) r
+    → is_on_data d ≡ false → is_back d ≡ false → new.kept ≡ old.kept → is_kept d ≡ false → IsHostCall model d (calling old) (calling new) r
     → new.tx ≡ record old.tx { me = new.tx.me; undo = new.tx.undo }
     → new.tx.me.stored ≤ 16384 → IfOk r (λ reply. is_late reply ≡ false) → HasActedAsPlain model c old new r
 file_acted model c d old new r is other off ahead kept at_once k frame stored now =
@@ -238,12 +238,12 @@ file_acted model c d old new r is other off ahead kept at_once k frame stored no
 -- so has one at these handles, which are those of the transaction
 pub file_acted_at : {H : Type 0} (model : HostModel H) (c d : Call) (old new : Acting H) (me : Private) (r : Result Reply NoMemory) → me ≡ old.tx.me
     → c ≡ d → is_word_call d ≡ false → is_on_data d ≡ false → is_back d ≡ false → new.kept ≡ old.kept → is_kept d ≡ false
-    → IsFileCall model d (record (calling old) { me = me }) (calling new) r
+    → IsHostCall model d (record (calling old) { me = me }) (calling new) r
     → new.tx ≡ record old.tx { me = new.tx.me; undo = new.tx.undo } → new.tx.me.stored ≤ 16384 → IfOk r (λ reply. is_late reply ≡ false)
     → HasActedAsPlain model c old new r
 file_acted_at model c d old new me r same is other off ahead kept at_once k =
     file_acted model c d old new r is other off ahead kept at_once
-    (subst (λ (m : Private). IsFileCall model d (record (calling old) { me = m }) (calling new) r) same k)
+    (subst (λ (m : Private). IsHostCall model d (record (calling old) { me = m }) (calling new) r) same k)
 
 -- a call that reaches no host has acted
 pub alone_acted : {H : Type 0} (model : HostModel H) (c d : Call) (old : Acting H) (next : Private) (reply : Reply) → c ≡ d → is_word_call d ≡ false

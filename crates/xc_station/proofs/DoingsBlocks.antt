@@ -9,7 +9,7 @@ use Rattle.xc_data.specs.declared.call.Reply.{Reply}
 use Rattle.xc_data.specs.declared.call.Reply.TheVariants as reply
 use Rattle.xc_data.specs.declared.memory.NoMemory.{NoMemory}
 use Rattle.xc_host.specs.Model.{HostModel}
-use Rattle.xc_host.proofs.Called.{unused}
+use Rattle.xc_host.proofs.Laws.{unused}
 use Rattle.xc_model.specs.PlainSteps.{saved_by, tx_parts}
 use Rattle.xc_model.specs.RunningRows.{opens_or_closes, is_way_back}
 use Rattle.xc_data.specs.declared.private.Private.{Private}

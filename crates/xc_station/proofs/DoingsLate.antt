@@ -7,13 +7,12 @@ use Rattle.xc_data.specs.declared.call.Reply.{Reply}
 use Rattle.xc_data.specs.declared.memory.NoMemory.{NoMemory}
 use Rattle.xc_data.specs.declared.private.Private.{Private}
 use Rattle.xc_deferred.specs.Queue.{Queue}
-use Rattle.xc_file.specs.Calls.{StepsAlone}
-use Rattle.xc_file.specs.Deferred.{IsDeferred}
-use Rattle.xc_file.proofs.FileCalls.{alone_call}
+use Rattle.xc_calls.specs.Calls.{StepsAlone}
+use Rattle.xc_calls.specs.Deferred.{IsDeferred, IsKeptWith}
+use Rattle.xc_calls.proofs.Laws.{alone_call}
 use Rattle.xc_host.specs.Contents.{with_contents}
 use Rattle.xc_host.specs.Model.{HostModel}
-use Rattle.xc_pipe.specs.Deferring.{IsKeptWith}
-use Rattle.xc_host.proofs.Called.{unused}
+use Rattle.xc_host.proofs.Laws.{unused}
 use Rattle.xc_world.specs.Act.Step.{Stepped}
 use Rattle.xc_world.specs.Effects.{takes_data}
 use Rattle.xc_data.specs.Calls.{is_kept}

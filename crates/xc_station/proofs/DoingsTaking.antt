@@ -9,12 +9,11 @@ use Rattle.xc_data.specs.declared.entry.KeptItem.{KeptItem}
 use Rattle.xc_data.specs.declared.memory.NoMemory.{NoMemory}
 use Rattle.xc_data.specs.declared.private.Private.{Private}
 use Rattle.xc_data.specs.declared.undo.Undo.{Undo}
-use Rattle.xc_file.specs.Calls.{DidPart, IsFileCall}
+use Rattle.xc_calls.specs.Calls.{DidPart, IsHostCall}
 use Rattle.xc_host.specs.Fronted.{before as in_front, fronted}
 use Rattle.xc_host.specs.Kept.{KeepsData, with_kept}
 use Rattle.xc_host.specs.Model.{HostModel}
-use Rattle.xc_pipe.specs.Reading.{Notes}
-use Rattle.xc_pipe.specs.Taking.{HasTaken}
+use Rattle.xc_calls.specs.Taking.{Notes, HasTaken}
 use Rattle.xc_txmem.specs.Overlay.{overlaid}
 use Rattle.xc_world.specs.World.{World}
 use Rattle.xc_world.specs.Effects.{takes_data}
@@ -35,7 +34,7 @@ use Rattle.xc_station.proofs.Doings.{uses_below}
 -- ---- a call on a pipe
 module _ {H : Type 0} (model : HostModel H) (c : Call) (old new : Acting H) (other : is_word_call c ≡ false) where
   -- over the host with what is kept in front it is the plain machine's
-  pub pipe_done : (reply : Reply) → IsFileCall (fronted model) c (calling_front old) (calling_front new) (Ok reply)
+  pub pipe_done : (reply : Reply) → IsHostCall (fronted model) c (calling_front old) (calling_front new) (Ok reply)
       → (IsTrue model.tells → All (IsBacked (model.contents old.host)) (taken_by c old.tx.me reply))
       → (IsTrue model.tells → KeepsData (model.contents old.host) (model.contents new.host))
       → new.tx ≡ with_parts old.tx c reply (tx_parts new.tx) → new.tx.writes ≡ old.tx.writes → new.tx.me.stored ≤ 16384
@@ -60,7 +59,7 @@ module _ {H : Type 0} (model : HostModel H) (c : Call) (old new : Acting H) (oth
         λ w at. record { untaken = untaken; ahead = ahead; fits = did.fits (over w); world = sym (did.world (over w)); records = did.records (over w) },
       )
 
-  pub pipe_left : (e : NoMemory) → takes_data c ≡ false → is_back c ≡ false → IsFileCall (fronted model) c (calling_front old) (calling_front new) (Err e)
+  pub pipe_left : (e : NoMemory) → takes_data c ≡ false → is_back c ≡ false → IsHostCall (fronted model) c (calling_front old) (calling_front new) (Err e)
       → (IsTrue model.tells → KeepsData (model.contents old.host) (model.contents new.host))
       → new.tx ≡ framed old.tx (tx_parts new.tx) → new.tx.writes ≡ old.tx.writes → new.kept ≡ old.kept → LeavesOff model c old new
   pipe_left e untaken ahead k keeps frame writes still =
@@ -79,7 +78,7 @@ module _ {H : Type 0} (model : HostModel H) (c : Call) (old new : Acting H) (oth
 -- a call on a pipe or a pair that takes nothing and isn't kept is done, or memory ran out
 pub made_acted : {H : Type 0} (model : HostModel H) (c d : Call) (old new : Acting H) (me : Private) (r : Result Reply NoMemory) → me ≡ old.tx.me
     → c ≡ d → is_word_call d ≡ false → takes_data d ≡ false → is_back d ≡ false → is_kept d ≡ false → new.kept ≡ old.kept
-    → IsFileCall (fronted model) d (record (calling_front old) { me = me }) (calling_front new) r
+    → IsHostCall (fronted model) d (record (calling_front old) { me = me }) (calling_front new) r
     → (IsTrue model.tells → KeepsData (model.contents old.host) (model.contents new.host))
     → new.tx ≡ record old.tx { me = new.tx.me; undo = new.tx.undo } → new.tx.me.stored ≤ 16384 → IfOk r (λ reply. is_late reply ≡ false)
     → HasActedAsPlain model c old new r
@@ -87,11 +86,11 @@ made_acted {H = H} model c d old new me r same is other untaken ahead at_once st
     let writes = ap (λ (t : TxView). t.writes) frame in
     let whole : new.tx ≡ framed old.tx (tx_parts new.tx) =
     frame ∙ ap (λ ws. record old.tx { me = new.tx.me; writes = ws; undo = new.tx.undo }) (sym writes) in
-    let called = subst (λ (m : Private). IsFileCall (fronted model) d (record (calling_front old) { me = m }) (calling_front new) r) same k in
+    let called = subst (λ (m : Private). IsHostCall (fronted model) d (record (calling_front old) { me = m }) (calling_front new) r) same k in
     subst (λ (e : Call). HasActedAsPlain model e old new r) (sym is) (by_result r whole writes called now)
   where
     by_result : (r : Result Reply NoMemory) → new.tx ≡ framed old.tx (tx_parts new.tx) → new.tx.writes ≡ old.tx.writes
-        → IsFileCall (fronted model) d (calling_front old) (calling_front new) r → IfOk r (λ reply. is_late reply ≡ false)
+        → IsHostCall (fronted model) d (calling_front old) (calling_front new) r → IfOk r (λ reply. is_late reply ≡ false)
         → HasActedAsPlain model d old new r
     by_result (Ok reply) whole writes called now =
         let P = IsBacked (model.contents old.host) in
@@ -110,7 +109,7 @@ module _ {H : Type 0} (model : HostModel H) (d : Call) (old : Acting H) (host : 
   read_to = record old { host = host; kept = kept; tx = reading old.tx me taken }
 
   pub read_acted : (r : Result Reply NoMemory) → is_word_call d ≡ false → is_kept d ≡ false
-      → IfOk r (λ reply. IsFileCall (fronted model) d (calling_front old) (calling_front read_to) (Ok reply))
+      → IfOk r (λ reply. IsHostCall (fronted model) d (calling_front old) (calling_front read_to) (Ok reply))
       → OnErr r (StopsTaking model d (record { old = old.host; new = host }) (record { old = old.tx.me; new = me }))
       → Notes d old.tx.me (record { old = old.tx.taken; new = taken }) r
       → (IsTrue model.tells → OnErr r (told_of model read_to ≡ told_of model old))
@@ -136,7 +135,7 @@ module _ {H : Type 0} (model : HostModel H) (d : Call) (old : Acting H) (host : 
 -- so is it at these handles
 pub read_acted_at : {H : Type 0} (model : HostModel H) (c d : Call) (old : Acting H) (host : H) (kept taken : List KeptItem) (was me : Private)
     (r : Result Reply NoMemory) → was ≡ old.tx.me → c ≡ d → is_word_call d ≡ false → is_kept d ≡ false
-    → IfOk r (λ reply. IsFileCall (fronted model) d (record (calling_front old) { me = was })
+    → IfOk r (λ reply. IsHostCall (fronted model) d (record (calling_front old) { me = was })
     (calling_front (read_to model d old host kept taken me)) (Ok reply))
     → OnErr r (StopsTaking model d (record { old = old.host; new = host }) (record { old = was; new = me }))
     → Notes d was (record { old = old.tx.taken; new = taken }) r
@@ -148,7 +147,7 @@ read_acted_at model c d old host kept taken was me r same is other at_once k sto
     let after = read_to model d old host kept taken me in
     subst (λ (e : Call). HasActedAsPlain model e old after r) (sym is)
     (read_acted model d old host kept taken me r other at_once
-    (subst (λ (m : Private). IfOk r (λ reply. IsFileCall (fronted model) d (record (calling_front old) { me = m }) (calling_front after) (Ok reply))) same k)
+    (subst (λ (m : Private). IfOk r (λ reply. IsHostCall (fronted model) d (record (calling_front old) { me = m }) (calling_front after) (Ok reply))) same k)
     (subst (λ (m : Private). OnErr r (StopsTaking model d (record { old = old.host; new = host }) (record { old = m; new = me }))) same stops)
     (subst (λ (m : Private). Notes d m (record { old = old.tx.taken; new = taken }) r) same notes) err
     (λ t. subst (λ (m : Private). IfOk r (λ reply. All (IsBacked (model.contents old.host)) (taken_by d m reply))) same (backed t)) keeps stored now

@@ -11,7 +11,7 @@ use Rattle.xc_data.specs.declared.call.Call.TheVariants as call
 use Rattle.xc_data.specs.declared.call.Reply.{Reply}
 use Rattle.xc_data.specs.declared.memory.NoMemory.{NoMemory}
 use Rattle.xc_host.specs.Model.{HostModel}
-use Rattle.xc_host.proofs.Called.{unused}
+use Rattle.xc_host.proofs.Laws.{unused}
 use Rattle.xc_txmem.specs.Overlay.{overlaid}
 use Rattle.xc_world.specs.Act.{act}
 use Rattle.xc_world.specs.After.{IsMeAfter}

@@ -6,9 +6,7 @@ use Rattle.xc_buffers.specs.Items.{is_fit, keeps_from, kept_bytes, kept_messages
 use Rattle.xc_buffers.specs.Sources.{is_from}
 use Rattle.xc_buffers.specs.declared.source.Source.{Source}
 use Rattle.xc_buffers.specs.declared.source.Source.TheVariants as source
-use Rattle.xc_buffers.proofs.Fronts.{fit_side}
-use Rattle.xc_buffers.proofs.Held.{no_items, no_message_items, pipe_front, side_front}
-use Rattle.xc_buffers.proofs.Orders.{own}
+use Rattle.xc_buffers.proofs.Laws.{fit_side, no_items, no_message_items, pipe_front, side_front, own}
 use Rattle.xc_data.specs.Remaining.{objects_of}
 use Rattle.xc_data.specs.declared.entry.KeptItem.{KeptItem}
 use Rattle.xc_data.specs.declared.entry.KeptItem.TheVariants.{Bytes, Message}
@@ -23,7 +21,7 @@ use Rattle.xc_refines.specs.InFlight.{IsEmptyNew}
 use Rattle.xc_world.specs.Beside.{AreElsewhere}
 use Rattle.xc_world.specs.Run.{given_back, item_object}
 use Rattle.xc_world.specs.World.{Pipe, World, pair_of, pipe_of, waiting}
-use Rattle.xc_world.proofs.GivenBeside.{HasNoData, file_has_none, name_has_none, no_data_elsewhere, one}
+use Rattle.xc_world.proofs.Laws.{HasNoData, file_has_none, name_has_none, no_data_elsewhere, one}
 use Rattle.xc_station.specs.Lent.{IsBacked}
 use Rattle.xc_station.proofs.Lent.{world_kept}
 

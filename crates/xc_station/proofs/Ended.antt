@@ -12,9 +12,8 @@ use Rattle.xc_model.specs.Consistent.{AreLinesOf, IsLineOf}
 use Rattle.xc_model.specs.Counted.{tx_faults}
 use Rattle.xc_model.specs.Ending.{IsTrueEnd}
 use Rattle.xc_model.specs.Handles.{AreCalled}
-use Rattle.xc_turns.proofs.Closings.{calls_true, ends_told, journal_true, words_left}
-use Rattle.xc_turns.proofs.Completions.{complete}
-use Rattle.xc_refines.proofs.AtRest.{at_rest}
+use Rattle.xc_turns.proofs.Laws.{calls_true, ends_told, journal_true, words_left, complete}
+use Rattle.xc_refines.proofs.Laws.{at_rest}
 use Rattle.xc_station.specs.declared.job.Job.{Job}
 use Rattle.xc_station.specs.Jobs.{is_live, job_view}
 use Rattle.xc_station.specs.Stations.{IsSteady, NobodyLives, live_at, lives}

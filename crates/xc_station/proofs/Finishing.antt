@@ -10,7 +10,7 @@ use Rattle.xc_data.specs.declared.entry.Cause.{Cause}
 use Rattle.xc_data.specs.declared.entry.Turn.{Turn}
 use Rattle.xc_data.specs.declared.entry.Turn.TheVariants as turn
 use Rattle.xc_data.specs.declared.undo.Undo.{Undo}
-use Rattle.xc_data.proofs.Lists.{get_set_same, get_set_other}
+use Rattle.xc_data.proofs.Laws.{get_set_same, get_set_other}
 use Rattle.xc_host.specs.Model.{HostModel}
 use Rattle.xc_model.specs.declared.phase.Phase.{Phase}
 use Rattle.xc_model.specs.declared.phase.Phase.TheVariants.{Running, Committing, Undoing, Backing}
@@ -20,9 +20,7 @@ use Rattle.xc_model.specs.Movers.{mover, with_tx}
 use Rattle.xc_model.specs.Rows.{IsTurn, TurnOf, ActiveTurn}
 use Rattle.xc_model.specs.CommittingRows.{CommittingTurn, LateTurn}
 use Rattle.xc_model.specs.UndoingRows.{UndoingTurn, BackTurn}
-use Rattle.xc_turns.proofs.LateCounts.{left_some}
-use Rattle.xc_turns.proofs.LateEnds.{next_ends}
-use Rattle.xc_turns.proofs.Lists.{get_inside}
+use Rattle.xc_turns.proofs.Laws.{left_some, next_ends, get_inside}
 use Rattle.std.proofs.lemmas.Bool.{eqb-false, ne_eqb}
 use Rattle.xc_station.specs.Finishing.{Enters, IsEntryOf, OthersStay, left_at, left_in, left_of, phase_at, phase_in, told_at}
 use Rattle.xc_station.specs.declared.job.Job.{Job}

@@ -6,7 +6,7 @@ use Rattle.std.proofs.lemmas.List.Elements.{All-nil, All-cons, All-head, All-tai
 use Rattle.xc_buffers.specs.Items.{items_apart, items_from}
 use Rattle.xc_buffers.specs.Sources.{is_from, source_of}
 use Rattle.xc_buffers.specs.declared.source.Source.{Source}
-use Rattle.xc_buffers.proofs.Orders.{own}
+use Rattle.xc_buffers.proofs.Laws.{own}
 use Rattle.xc_data.specs.declared.entry.KeptItem.{KeptItem}
 
 -- what holds of all that pass a test holds of each that does

@@ -15,7 +15,7 @@ use Rattle.xc_data.specs.declared.entry.Turn.{Turn}
 use Rattle.xc_data.specs.declared.object.Object.TheVariants as object
 use Rattle.xc_data.specs.declared.undo.Undo.{Undo}
 use Rattle.xc_data.specs.Step.{Step}
-use Rattle.xc_data.proofs.Lists.{get_map, get_set_same, get_set_other, map_set, ones}
+use Rattle.xc_data.proofs.Laws.{get_map, get_set_same, get_set_other, map_set, ones}
 use Rattle.xc_host.specs.Contents.{Contents, contents_of, world_of}
 use Rattle.xc_host.specs.Model.{HostModel}
 use Rattle.xc_roomy.specs.Room.{Roomy}
@@ -32,9 +32,7 @@ use Rattle.xc_model.specs.Progress.{Following}
 use Rattle.xc_model.specs.Rows.{IsTurn}
 use Rattle.xc_model.specs.Setting.{Setting, setting}
 use Rattle.xc_model.specs.Stories.{IsAboveSave, IsBacking, IsInPhase}
-use Rattle.xc_refines.proofs.NewEmpty.{made_empty, not_taken_from}
-use Rattle.xc_refines.proofs.NextRecord.{covered_now}
-use Rattle.xc_refines.proofs.TurnRows.{row_cuts_back}
+use Rattle.xc_refines.proofs.Laws.{made_empty, not_taken_from, covered_now, row_cuts_back}
 use Rattle.xc_refines.specs.InFlight.{AreInFlight}
 use Rattle.xc_station.specs.Backs.{AllBackSafely, BacksSafely, CanGoBack, CanStepBack, IsBackRow}
 use Rattle.xc_station.specs.Jobs.{doing_of, doing_view, job_view, job_views, phase_stage, back_stage, late_stage, stage_of, started_in}

@@ -14,11 +14,9 @@ use Rattle.xc_text.specs.declared.script.Script.{Script}
 use Rattle.xc_model.specs.Moment.{TxView, JobView, Idle, Ended, Moment}
 use Rattle.xc_model.specs.Setting.{Setting}
 use Rattle.xc_model.specs.Started.{starting}
-use Rattle.xc_wordlocks.specs.Table.{mode_in, held_mode}
+use Rattle.xc_locks.specs.Table.{mode_in, held_mode}
 use Rattle.xc_sentinel.specs.Seating.{seat_in}
-use Rattle.xc_turns.proofs.CountedSums.{sum_set}
-use Rattle.xc_turns.proofs.Grown.{AreIdle, grown_active, grown_actives, grown_still}
-use Rattle.xc_turns.proofs.StartedTurns.{started_count}
+use Rattle.xc_turns.proofs.Laws.{sum_set, AreIdle, grown_active, grown_actives, grown_still, started_count}
 use Rattle.xc_station.specs.declared.calls.Shared.{Shared}
 use Rattle.xc_station.specs.declared.job.Child.{Child}
 use Rattle.xc_station.specs.declared.job.Job.{Job}
@@ -26,7 +24,7 @@ use Rattle.xc_station.specs.Jobs.{HasChildren, doing_of, child_view, job_view, j
 use Rattle.xc_station.specs.Lent.{AreBacked, notes_in, notes_in_all, notes_of}
 use Rattle.xc_station.specs.Moments.{AreTracked, runs, seated_as}
 use Rattle.xc_station.specs.Stations.{HasRooms, HasStarts, IsSteady, Room}
-use Rattle.xc_data.proofs.Lists.{get_map}
+use Rattle.xc_data.proofs.Laws.{get_map}
 use Rattle.xc_station.proofs.Waiting.{as_many}
 
 -- ---- beside them all is as before

@@ -8,7 +8,7 @@ use Rattle.xc_data.specs.declared.entry.KeptItem.TheVariants.{Bytes, Message}
 use Rattle.xc_data.specs.declared.undo.Undo.{Undo}
 use Rattle.xc_data.specs.declared.undo.UndoEnd.{UndoEnd}
 use Rattle.xc_data.specs.Remaining.{objects_of}
-use Rattle.xc_file.specs.Calls.{ActsAsPlain, AreRecorded, DidPart, CallView}
+use Rattle.xc_calls.specs.Calls.{ActsAsPlain, AreRecorded, DidPart, CallView}
 use Rattle.xc_host.specs.Contents.{Contents, contents_of, with_contents, world_of}
 use Rattle.xc_host.specs.Kept.{with_kept}
 use Rattle.xc_world.specs.Act.{act}
@@ -19,7 +19,7 @@ use Rattle.xc_world.specs.Fits.{answer_of, fits}
 use Rattle.xc_world.specs.Run.{gives, given_back}
 use Rattle.xc_world.specs.Trail.{recorded}
 use Rattle.xc_world.specs.World.{World}
-use Rattle.xc_world.proofs.GivenBeside.{act_beside, data_elsewhere, fits_beside, recorded_beside, undone_beside}
+use Rattle.xc_world.proofs.Laws.{act_beside, data_elsewhere, fits_beside, recorded_beside, undone_beside}
 
 -- ---- contents with kept data in front
 gives_in : (w x : World) (t : KeptItem) → with_contents w (contents_of (gives x t)) ≡ gives (with_contents w (contents_of x)) t

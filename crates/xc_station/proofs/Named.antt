@@ -12,7 +12,7 @@ use Rattle.xc_model.specs.Progress.{Following, progress_of}
 use Rattle.xc_model.specs.Setting.{Setting}
 use Rattle.xc_model.specs.Started.{AreStarted, blocks, started_by}
 use Rattle.xc_model.specs.Stories.{StoriesHold}
-use Rattle.xc_turns.proofs.Lists.{get_inside}
+use Rattle.xc_turns.proofs.Laws.{get_inside}
 use Rattle.xc_station.specs.Names.{IsNameOf, name_at, told_blocks}
 
 -- the started jobs have the blocks that the journal tells

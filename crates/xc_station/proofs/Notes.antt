@@ -16,7 +16,7 @@ use Rattle.xc_station.specs.Lent.{AreBacked, IsBacked, notes_in, notes_in_all, n
 use Rattle.xc_station.specs.declared.job.Job.{Job}
 use Rattle.xc_station.specs.Jobs.{job_view, job_views}
 use Rattle.xc_station.proofs.Placed.{active_before, active_is}
-use Rattle.xc_data.proofs.Lists.{get_map, map_set}
+use Rattle.xc_data.proofs.Laws.{get_map, map_set}
 
 -- ---- how much is noted
 -- the notes of one job go, and those of another come

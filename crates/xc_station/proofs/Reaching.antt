@@ -8,7 +8,7 @@ use Rattle.xc_buffers.specs.Items.{item_bytes, keeps_from, keeps_pair, kept_byte
 use Rattle.xc_buffers.specs.Sources.{is_from}
 use Rattle.xc_buffers.specs.Worlds.{has_pair, has_pipe}
 use Rattle.xc_buffers.specs.declared.source.Source.TheVariants as source
-use Rattle.xc_buffers.proofs.Held.{pair_is_there, pipe_is_there}
+use Rattle.xc_buffers.proofs.Laws.{pair_is_there, pipe_is_there}
 use Rattle.xc_data.specs.Claims.{objects}
 use Rattle.xc_data.specs.Private.{place_of}
 use Rattle.xc_data.specs.declared.call.Call.{Call}
@@ -19,7 +19,7 @@ use Rattle.xc_data.specs.declared.object.Object.{Object}
 use Rattle.xc_data.specs.declared.object.Object.TheVariants as object
 use Rattle.xc_data.specs.declared.private.Place.{Place}
 use Rattle.xc_data.specs.declared.private.Place.TheVariants as place
-use Rattle.xc_file.proofs.Refusals.{passed_checks}
+use Rattle.xc_calls.proofs.Laws.{passed_checks}
 use Rattle.xc_host.specs.Contents.{Contents, world_of}
 use Rattle.xc_host.specs.Kept.{with_kept}
 use Rattle.xc_pipe.specs.Reading.{IsPipeIn}
@@ -29,7 +29,7 @@ use Rattle.xc_world.specs.Checks.{is_refused, refusal_of}
 use Rattle.xc_world.specs.Modes.{mode_of}
 use Rattle.xc_world.specs.Sound.{IsKnown}
 use Rattle.xc_world.specs.Touch.{object_at, touch}
-use Rattle.xc_world.proofs.Calls.{objects_of_claims}
+use Rattle.xc_world.proofs.Laws.{objects_of_claims}
 use Rattle.xc_model.specs.declared.phase.Phase.TheVariants.{Running}
 use Rattle.xc_model.specs.Rivals.{HasNoRival}
 use Rattle.xc_model.specs.Movers.{IsActiveAt}
@@ -37,8 +37,7 @@ use Rattle.xc_model.specs.PlainSteps.{claims_at}
 use Rattle.xc_model.specs.Moment.{TxView, Moment}
 use Rattle.xc_model.specs.Setting.{Setting}
 use Rattle.xc_refines.specs.InFlight.{AreInFlight}
-use Rattle.xc_refines.proofs.ClaimedThere.{claimed_there}
-use Rattle.xc_refines.proofs.NewNumbers.{free_now}
+use Rattle.xc_refines.proofs.Laws.{claimed_there, free_now}
 use Rattle.xc_station.specs.Acting.{IsFreeFor, IsLentFor, IsSourceIn}
 use Rattle.xc_station.specs.Lent.{IsBacked}
 use Rattle.xc_station.proofs.Backed.{there_below}

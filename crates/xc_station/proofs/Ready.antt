@@ -23,7 +23,7 @@ use Rattle.xc_script.specs.Ask.{transactions_of, transactions_at}
 use Rattle.xc_script.specs.Asking.{asks}
 use Rattle.xc_script.specs.Blocks.{IsInner, ask_fits, block_from}
 use Rattle.xc_script.specs.Position.{Position, walk_of}
-use Rattle.xc_script.proofs.Opened.{all_inner, asks_inner, begins_inner}
+use Rattle.xc_script.proofs.Laws.{all_inner, asks_inner, begins_inner}
 use Rattle.xc_model.specs.declared.phase.Attempts.{Attempts}
 use Rattle.xc_model.specs.declared.rules.Rules.{Rules}
 use Rattle.xc_model.specs.Setting.{Setting, setting}
@@ -31,8 +31,7 @@ use Rattle.xc_model.specs.Progress.{Following, Progress, after_entry, opening_pr
 use Rattle.xc_model.specs.Moment.{TxView, JobView, Active, Moment, active_in, actives, failures, late_left}
 use Rattle.xc_model.specs.Stories.{AreAttempts, IsAhead, IsDoing, IsInPhase, IsUnderway}
 use Rattle.xc_model.specs.Movers.{IsActiveAt}
-use Rattle.xc_turns.proofs.GivenNumbers.{given_by_now, given_once}
-use Rattle.xc_turns.proofs.WordStates.{behind_count}
+use Rattle.xc_turns.proofs.Laws.{given_by_now, given_once, behind_count}
 use Rattle.xc_sentinel.specs.declared.seat.Seat.{Seat}
 use Rattle.xc_sentinel.specs.Seating.{seat_in}
 use Rattle.xc_station.proofs.Tracked.{nobody}
@@ -44,11 +43,7 @@ use Rattle.xc_world.specs.Act.Names.{next_num}
 use Rattle.xc_world.specs.Beside.{AreElsewhere}
 use Rattle.xc_world.specs.Modes.{claims_of}
 use Rattle.xc_world.specs.Run.{item_object}
-use Rattle.xc_refines.proofs.NewEmpty.{made_empty, not_taken_from}
-use Rattle.xc_refines.proofs.NewNumbers.{absent_now}
-use Rattle.xc_refines.proofs.NextLate.{late_there}
-use Rattle.xc_refines.proofs.NextRecord.{covered_now}
-use Rattle.xc_refines.proofs.OpenFiles.{open_files}
+use Rattle.xc_refines.proofs.Laws.{made_empty, not_taken_from, absent_now, late_there, covered_now, open_files}
 use Rattle.xc_station.specs.declared.calls.Shared.{Shared}
 use Rattle.xc_station.specs.declared.job.Job.{Job}
 use Rattle.xc_station.specs.declared.job.Stage.{Stage}
@@ -60,7 +55,7 @@ use Rattle.xc_station.proofs.Elsewhere.{nothing_kept_of}
 use Rattle.xc_station.proofs.Lent.{kept_files}
 use Rattle.xc_station.specs.Moments.{AreSingle, CanRun, IsAt, marks_of, runs, seated_as}
 use Rattle.xc_station.specs.Stations.{HasRooms, IsSteady, moment}
-use Rattle.xc_data.proofs.Lists.{get_map}
+use Rattle.xc_data.proofs.Laws.{get_map}
 use Rattle.xc_station.proofs.Notes.{notes_within}
 use Rattle.xc_station.proofs.Reaching.{lent_for}
 use Rattle.xc_station.proofs.Rivals.{none_met}

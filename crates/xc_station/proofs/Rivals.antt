@@ -8,10 +8,10 @@ use Rattle.xc_data.specs.declared.claim.Claim.{Claim}
 use Rattle.xc_data.specs.declared.claim.Mode.{Mode}
 use Rattle.xc_data.specs.declared.claim.Mode.TheVariants.{Shared, Exclusive}
 use Rattle.xc_data.specs.declared.object.Object.{Object}
-use Rattle.xc_wordlocks.specs.Table.{Table, mode_in, held_mode}
-use Rattle.xc_wordlocks.specs.Met.{Meets, IsMet, IsNotMet}
-use Rattle.xc_wordlocks.specs.Met as met
-use Rattle.xc_wordlocks.proofs.Held.{member, once_member}
+use Rattle.xc_locks.specs.Table.{Table, mode_in, held_mode}
+use Rattle.xc_locks.specs.Met.{Meets, IsMet, IsNotMet}
+use Rattle.xc_locks.specs.Met as met
+use Rattle.xc_locks.proofs.Laws.{member, once_member}
 use Rattle.xc_model.specs.Moment.{TxView, JobView, active_of}
 use Rattle.xc_model.specs.Movers.{IsActiveAt}
 use Rattle.xc_model.specs.Rivals.{HoldsAgainst, HasNoRival, IsRival, IsFirstRival}

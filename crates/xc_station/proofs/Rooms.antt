@@ -10,7 +10,7 @@ use Rattle.xc_station.specs.Lent.{notes_in_all, notes_of}
 use Rattle.xc_station.specs.Moments.{AreSeats, IsTable}
 use Rattle.xc_station.specs.Stations.{HasRooms}
 use Rattle.xc_station.proofs.Notes.{notes_set}
-use Rattle.xc_data.proofs.Lists.{ones, picked_set, length_set}
+use Rattle.xc_data.proofs.Laws.{ones, picked_set, length_set}
 
 -- ---- all
 -- with another job in one place

@@ -18,7 +18,7 @@ use Rattle.xc_script.specs.declared.ask.Ask.{Ask}
 use Rattle.xc_script.specs.declared.ask.Ask.TheVariants as ask
 use Rattle.xc_sentinel.specs.declared.sentinels.Sentinels.{Sentinels}
 use Rattle.xc_sentinel.specs.Seating.{KeepsSeats, SetsSeat, seat_in}
-use Rattle.xc_wordlocks.specs.Table.{Table, mode_in, held_mode}
+use Rattle.xc_locks.specs.Table.{Table, mode_in, held_mode}
 use Rattle.xc_model.specs.Setting.{Setting}
 use Rattle.xc_model.specs.Moment.{TxView, JobView, Active, Ended, Moment, active_in, active_of, begun_count, rank_of, waiting, with_job}
 use Rattle.xc_model.specs.RunningRows.{AskedTurn, CalledTurn, MarkedTurn, RunningTurn}
@@ -26,7 +26,7 @@ use Rattle.xc_model.specs.IdleRows.{IdleTurn, beginning_job, new_tx}
 use Rattle.xc_model.specs.Movers.{IsActiveAt, asked_at, mover}
 use Rattle.xc_model.specs.Entering.{behind_abort}
 use Rattle.xc_model.specs.Stories.{StoriesHold}
-use Rattle.xc_turns.proofs.GivenNumbers.{given_once, given_by_now}
+use Rattle.xc_turns.proofs.Laws.{given_once, given_by_now}
 use Rattle.xc_station.specs.declared.calls.Shared.{Shared}
 use Rattle.xc_station.specs.declared.job.Job.{Job}
 use Rattle.xc_station.specs.Beginning.{IsSeatBehind}
@@ -35,7 +35,7 @@ use Rattle.xc_station.specs.Lent.{Lent, notes_in, notes_of}
 use Rattle.xc_station.specs.Moments.{Frees, IsRunningRow, marks_of, moved, runs, seated_as}
 use Rattle.xc_station.specs.Stations.{HasRooms, moment}
 use Rattle.xc_station.proofs.Notes.{no_notes}
-use Rattle.xc_data.proofs.Lists.{ones, get_map, get_set_same, map_set}
+use Rattle.xc_data.proofs.Laws.{ones, get_map, get_set_same, map_set}
 use Rattle.xc_station.proofs.Rooms.{rooms_set}
 use Rattle.xc_station.proofs.Seated.{seat_there, seat_elsewhere}
 use Rattle.xc_station.proofs.Tracked.{nobody, tracked_begun, tracked_ended, tracked_on, tracked_still}

@@ -22,7 +22,7 @@ use Rattle.xc_script.specs.Position.{Position, walk_of}
 use Rattle.xc_script.specs.declared.ask.Ask.TheVariants as ask
 use Rattle.xc_sentinel.specs.declared.sentinels.Sentinels.{Sentinels}
 use Rattle.xc_sentinel.specs.Seating.{seat_in}
-use Rattle.xc_wordlocks.specs.Table.{Table, mode_in, held_mode}
+use Rattle.xc_locks.specs.Table.{Table, mode_in, held_mode}
 use Rattle.xc_world.specs.Beside.{AreElsewhere}
 use Rattle.xc_world.specs.Effects.{undone_to}
 use Rattle.xc_world.specs.Run.{given_back}

@@ -17,7 +17,7 @@ use Rattle.xc_data.specs.declared.script.Kind.{Kind}
 use Rattle.xc_host.specs.Cause.{IsCalled}
 use Rattle.xc_host.specs.Model.{HostModel}
 use Rattle.xc_host.specs.Uses.{CallsOf, Uses}
-use Rattle.xc_pipe.specs.Taking.{HasTaken}
+use Rattle.xc_calls.specs.Taking.{HasTaken}
 use Rattle.xc_script.specs.declared.ask.Ask.TheVariants as ask
 use Rattle.xc_script.specs.Asking.{asks}
 use Rattle.xc_script.specs.Answers.{answered}
@@ -26,8 +26,8 @@ use Rattle.xc_txmem.specs.Overlay.{overlaid}
 use Rattle.xc_world.specs.After.{IsMeAfter}
 use Rattle.xc_world.specs.Checks.{IsChecked, refusal_of}
 use Rattle.xc_world.specs.Modes.{claims_of}
-use Rattle.xc_wordlocks.specs.Table.{claimed, mode_in, held_mode}
-use Rattle.xc_wordlocks.proofs.Held.{claimed-holding}
+use Rattle.xc_locks.specs.Table.{claimed, mode_in, held_mode}
+use Rattle.xc_locks.proofs.Laws.{claimed-holding}
 use Rattle.xc_model.specs.declared.phase.Phase.TheVariants.{Undoing}
 use Rattle.xc_model.specs.Setting.{Setting}
 use Rattle.xc_model.specs.Moment.{TxView, JobView, Active, Moment, active_in, kept_between, with_job}

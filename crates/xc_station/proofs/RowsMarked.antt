@@ -8,7 +8,7 @@ use Rattle.xc_data.specs.declared.entry.Turn.TheVariants as turn
 use Rattle.xc_host.specs.Model.{HostModel}
 use Rattle.xc_sentinel.specs.Seated.{Seats}
 use Rattle.xc_sentinel.specs.Seating.{seat_in}
-use Rattle.xc_wordlocks.specs.Table.{Table, mode_in, held_mode}
+use Rattle.xc_locks.specs.Table.{Table, mode_in, held_mode}
 use Rattle.xc_model.specs.declared.phase.Phase.TheVariants.{Undoing}
 use Rattle.xc_model.specs.Setting.{Setting}
 use Rattle.xc_model.specs.Moment.{TxView, JobView, Active, Moment, active_in, revoked}
@@ -18,7 +18,7 @@ use Rattle.xc_station.specs.declared.calls.Shared.{Shared}
 use Rattle.xc_station.specs.Moments.{Front, front_of, told_front}
 use Rattle.xc_station.specs.Moments.{AreSeats, KeepsSeated, IsAt, IsRow, IsRunningRow, IsTable, marks_of, moved, runs, seated_as}
 use Rattle.xc_station.proofs.Closed.{same_active}
-use Rattle.xc_data.proofs.Lists.{get_set_same}
+use Rattle.xc_data.proofs.Laws.{get_set_same}
 use Rattle.xc_station.proofs.RoomsKept.{goes_on}
 use Rattle.xc_station.proofs.Tracked.{tracked_on}
 

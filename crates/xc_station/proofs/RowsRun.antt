@@ -32,8 +32,8 @@ use Rattle.xc_sentinel.specs.Seating.{KeepsSeats, seat_in}
 use Rattle.xc_sentinel.specs.Asking.{IsYounger}
 use Rattle.xc_txmem.specs.Overlay.{overlaid}
 use Rattle.xc_world.specs.Modes.{claims_of}
-use Rattle.xc_wordlocks.specs.Table.{Table, mode_in, held_mode}
-use Rattle.xc_wordlocks.specs.Met as met
+use Rattle.xc_locks.specs.Table.{Table, mode_in, held_mode}
+use Rattle.xc_locks.specs.Met as met
 use Rattle.xc_model.specs.declared.phase.Phase.TheVariants.{Committing, Undoing, Backing}
 use Rattle.xc_model.specs.Setting.{Setting}
 use Rattle.xc_model.specs.Moment.{TxView, JobView, Moment, Active, active_in, waiting, with_job}

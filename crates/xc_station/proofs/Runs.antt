@@ -21,13 +21,12 @@ use Rattle.xc_data.specs.declared.call.LateCall.{LateCall}
 use Rattle.xc_model.specs.Moment.{TxView, JobView, Doing, Active, Moment, active_in, late_left}
 use Rattle.xc_model.specs.Rows.{IsTurn}
 use Rattle.xc_model.specs.Movers.{IsActiveAt}
-use Rattle.xc_turns.proofs.Lists.{get_inside}
-use Rattle.xc_turns.proofs.Orders.{alone_turned, alone_later}
+use Rattle.xc_turns.proofs.Laws.{get_inside, alone_turned, alone_later}
 use Rattle.xc_station.specs.declared.job.Job.{Job}
 use Rattle.xc_station.specs.Jobs.{back_stage, goes_on, is_live, late_stage, phase_stage, job_view, job_views, stage_of}
 use Rattle.xc_station.specs.Stations.{ChangesOne, GoesOn, IsFrontOf, IsNextOf, IsStepOf, KeepsEvents, KeepsOpening, KeepsOrigin}
 use Rattle.xc_station.specs.Events.{IsEvent, IsTried}
-use Rattle.xc_data.proofs.Lists.{get_set_other}
+use Rattle.xc_data.proofs.Laws.{get_set_other}
 use Rattle.xc_station.specs.Stations.{StationView, TakeTurns, WorksOn, live_at, lives, now_of, numbers, setting_of, turns_of}
 use Rattle.xc_station.specs.Events.{noted}
 

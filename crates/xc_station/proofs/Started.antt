@@ -13,15 +13,15 @@ use Rattle.xc_host.specs.Contents.{Contents, opened}
 use Rattle.xc_roomy.specs.Room.{Roomy}
 use Rattle.xc_text.specs.declared.script.Script.{Script}
 use Rattle.xc_text.specs.Scripts.{IsScript}
-use Rattle.xc_text.proofs.Keeping.{block_count}
+use Rattle.xc_text.proofs.Laws.{block_count}
 use Rattle.xc_sentinel.specs.Seating.{seat_in}
-use Rattle.xc_wordlocks.specs.Table.{held_mode}
+use Rattle.xc_locks.specs.Table.{held_mode}
 use Rattle.xc_model.specs.Setting.{Setting}
 use Rattle.xc_model.specs.Moment.{TxView, JobView, Moment, active_of, actives}
 use Rattle.xc_model.specs.Opened.{IsOpening, opened_job}
 use Rattle.xc_model.specs.Consistent.{IsSet, IsConsistent}
-use Rattle.xc_turns.proofs.StoryStart.{start_kept}
-use Rattle.xc_refines.proofs.TurnStart.{start_flies}
+use Rattle.xc_turns.proofs.Laws.{start_kept}
+use Rattle.xc_refines.proofs.Laws.{start_flies}
 use Rattle.xc_station.specs.declared.calls.Shared.{Shared}
 use Rattle.xc_station.specs.declared.job.Job.{Job}
 use Rattle.xc_station.specs.Jobs.{HasChildren, child_view, job_view, job_views, started_in}

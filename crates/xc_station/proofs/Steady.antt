@@ -10,18 +10,9 @@ use Rattle.xc_model.specs.Played.{IsPlayedSoFar}
 use Rattle.xc_model.specs.Moment.{TxView, Moment}
 use Rattle.xc_model.specs.Movers.{IsActiveAt}
 use Rattle.xc_model.specs.Rows.{IsTurn}
-use Rattle.xc_turns.proofs.Apart.{apart_kept}
-use Rattle.xc_turns.proofs.Attempts.{turn_leaves_attempts}
-use Rattle.xc_turns.proofs.CountedTurns.{turn_keeps_count}
-use Rattle.xc_turns.proofs.Grounding.{grounds_kept}
-use Rattle.xc_turns.proofs.HandledTurns.{turn_keeps_handles}
-use Rattle.xc_turns.proofs.Lefts.{measured}
-use Rattle.xc_turns.proofs.Patience.{turn_revokes_none}
-use Rattle.xc_turns.proofs.StartedTurns.{turn_keeps_started}
-use Rattle.xc_turns.proofs.WordTurns.{turn_keeps_words}
-use Rattle.xc_turns.proofs.StoryTurns.{a_turn_keeps_the_stories_but}
-use Rattle.xc_refines.proofs.Noted.{played_there}
-use Rattle.xc_refines.proofs.TurnTable.{turn_flies}
+use Rattle.xc_turns.proofs.Laws.{apart_kept, turn_leaves_attempts, turn_keeps_count, grounds_kept, turn_keeps_handles, measured, turn_revokes_none}
+use Rattle.xc_turns.proofs.Laws.{turn_keeps_started, turn_keeps_words, a_turn_keeps_the_stories_but}
+use Rattle.xc_refines.proofs.Laws.{played_there, turn_flies}
 use Rattle.xc_station.specs.Stations.{IsSteady, KeepsOpening, StationView, now_of, setting_of}
 
 -- a turn keeps it

@@ -17,9 +17,9 @@ use Rattle.xc_data.specs.declared.private.Private.{Private}
 use Rattle.xc_world.specs.Effects.{takes_data}
 use Rattle.xc_world.specs.Run.{bytes_taken, given_back, message_taken, taken_by}
 use Rattle.xc_world.specs.World.{World}
-use Rattle.xc_pipe.specs.Taking.{HasTaken, HoldsMore, ReadsAt, ReadsKept, ReceivesAt, ReceivesKept}
-use Rattle.xc_pipe.proofs.Behind.{given_all}
-use Rattle.xc_socket.proofs.Behind.{given_message}
+use Rattle.xc_calls.specs.Taking.{HasTaken, HoldsMore, ReadsAt, ReadsKept, ReceivesAt, ReceivesKept}
+use Rattle.xc_pipe.proofs.Laws.{given_all}
+use Rattle.xc_socket.proofs.Laws.{given_message}
 use Rattle.xc_station.specs.Acting.{IsSidedFor}
 
 -- a call that takes no data leaves what is kept

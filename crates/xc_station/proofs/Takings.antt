@@ -6,10 +6,8 @@ use Rattle.std.specs.FinMap as map
 use Rattle.xc_buffers.specs.Items.{is_fit, is_of_pair}
 use Rattle.xc_buffers.specs.Sources.{is_from}
 use Rattle.xc_buffers.specs.declared.source.Source.TheVariants as source
-use Rattle.xc_buffers.proofs.Orders.{own}
-use Rattle.xc_buffers.proofs.Splits.{All-both}
+use Rattle.xc_buffers.proofs.Laws.{own, All-both, pair_is_there, pipe_is_there}
 use Rattle.xc_buffers.specs.Worlds.{has_pair, has_pipe}
-use Rattle.xc_buffers.proofs.Held.{pair_is_there, pipe_is_there}
 use Rattle.xc_data.specs.Private.{IsSided, place_of}
 use Rattle.xc_data.specs.declared.call.Call.{Call}
 use Rattle.xc_data.specs.declared.call.Call.TheVariants as call
@@ -24,15 +22,15 @@ use Rattle.xc_data.specs.declared.object.Object.TheVariants as object
 use Rattle.xc_data.specs.declared.private.Place.{Place}
 use Rattle.xc_data.specs.declared.private.Place.TheVariants as place
 use Rattle.xc_data.specs.declared.private.Private.{Private}
-use Rattle.xc_file.specs.Calls.{CallState, IsFileCall}
-use Rattle.xc_file.proofs.Refusals.{refused_acts}
+use Rattle.xc_calls.specs.Calls.{CallState, IsHostCall}
+use Rattle.xc_calls.proofs.Laws.{refused_acts}
 use Rattle.xc_host.specs.Fronted.{Fronted, fronted}
 use Rattle.xc_host.specs.Model.{HostModel}
 use Rattle.xc_host.specs.Contents.{Contents, contents_of, with_contents, world_of}
 use Rattle.xc_host.specs.Kept.{with_kept}
-use Rattle.xc_maps.proofs.Laws.{alike}
-use Rattle.xc_maps.proofs.Maps.{num_exact, num_total}
-use Rattle.xc_pipe.specs.Reading.{IsPipeIn, Notes}
+use Rattle.xc_maps.proofs.Laws.{alike, num_exact, num_total}
+use Rattle.xc_pipe.specs.Reading.{IsPipeIn}
+use Rattle.xc_calls.specs.Taking.{Notes}
 use Rattle.xc_socket.specs.Checks.{IsPairIn}
 use Rattle.xc_world.specs.Act.{act}
 use Rattle.xc_world.specs.Act.Step.{Stepped, step_to}
@@ -42,7 +40,7 @@ use Rattle.xc_world.specs.Fits.{answer_of}
 use Rattle.xc_world.specs.Run.{bytes_taken, given_back, gives, message_taken, taken_by}
 use Rattle.xc_world.specs.Sound.{IsKnown}
 use Rattle.xc_world.specs.World.{World}
-use Rattle.xc_world.proofs.Taken.{KnowsHandle, act_takes}
+use Rattle.xc_world.proofs.Laws.{KnowsHandle, act_takes}
 use Rattle.xc_station.specs.Acting.{IsSidedFor, IsSourceIn, StopsTaking}
 use Rattle.xc_station.specs.Lent.{IsBacked, has_place}
 use Rattle.xc_station.proofs.Backed.{there_below}
@@ -279,7 +277,7 @@ kept_still c d kept kept' same fit backed =
 
 -- whatever it came to
 pub taking_keeps : {H : Type 0} (model : HostModel H) (d : Call) (old new : CallState (Fronted H)) (r : Result Reply NoMemory) → takes_data d ≡ true
-    → IfOk r (λ reply. IsFileCall (fronted model) d old new (Ok reply))
+    → IfOk r (λ reply. IsHostCall (fronted model) d old new (Ok reply))
     → IsTrue model.tells
     → OnErr r (with_kept (model.contents new.host.host) new.host.items ≡ with_kept (model.contents old.host.host) old.host.items)
     → (refusal_of d old.me ≡ None → IsSourceIn (model.contents old.host.host) old.me d) → IsSidedFor old.me d
@@ -327,13 +325,13 @@ one_taken _ me r = omega arith
 
 -- what a call says of its checks
 pub ok_checked : {H : Type 0} (model : HostModel H) (c : Call) (old new : CallState H) (r : Result Reply NoMemory)
-    → IfOk r (λ reply. IsFileCall model c old new (Ok reply)) → IfOk r (IsChecked (refusal_of c old.me) c)
+    → IfOk r (λ reply. IsHostCall model c old new (Ok reply)) → IfOk r (IsChecked (refusal_of c old.me) c)
 ok_checked model c old new (Ok reply) k = k.checked
 ok_checked model c old new (Err e) k = tt
 
 -- a call of which one thing is known wanted memory so
 pub taking_stops : {H : Type 0} (model : HostModel H) (d : Call) (old new : CallState (Fronted H)) (r : Result Reply NoMemory)
-    → IsFileCall (fronted model) d old new r
+    → IsHostCall (fronted model) d old new r
     → OnErr r (StopsTaking model d (record { old = old.host.host; new = new.host.host }) (record { old = old.me; new = new.me }))
 taking_stops model d old new (Ok reply) k = tt
 taking_stops model d old new (Err e) k =

@@ -50,7 +50,7 @@ use Rattle.xc_station.specs.Lent.{Gives, Lent}
 use Rattle.xc_station.specs.Moments.{IsRunningRow, marks_of, moved, told_by}
 use Rattle.xc_station.specs.Stations.{moment}
 use Rattle.xc_station.proofs.Lent.{kept_again, undone_kept}
-use Rattle.xc_data.proofs.Lists.{get_map, length_set, map_set}
+use Rattle.xc_data.proofs.Laws.{get_map, length_set, map_set}
 use Rattle.xc_station.proofs.Seated.{marks_unmarked}
 use Rattle.xc_station.proofs.Stages.{IsThere, idle_stage, starved_stage, running_stage, committing_stage, committed_stage, undoing_stage, undone_stage}
 

@@ -24,7 +24,7 @@ use Rattle.xc_station.proofs.Doings.{none_taken}
 use Rattle.xc_station.proofs.DoingsStarved.{taking_undone, unanswered}
 use Rattle.xc_station.proofs.Giving.{given_last}
 use Rattle.xc_station.proofs.Takings.{one_taken}
-use Rattle.xc_turns.proofs.Sided.{sided_at}
+use Rattle.xc_turns.proofs.Laws.{sided_at}
 
 -- a call takes data, or it doesn't
 taking_or_not : (b : Bool) → (b ≡ false) ⊎ (b ≡ true)

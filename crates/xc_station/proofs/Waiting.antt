@@ -26,10 +26,7 @@ use Rattle.xc_model.specs.Moment.{TxView, JobView, Doing, Idle, Active, Starved,
 use Rattle.xc_model.specs.Setting.{Setting}
 use Rattle.xc_model.specs.Started.{starting, started_by}
 use Rattle.xc_model.specs.Stories.{IsInPhase, IsRunning}
-use Rattle.xc_turns.proofs.CountedSums.{adds, sum_set}
-use Rattle.xc_turns.proofs.CountedTurns.{in_phase, none_late}
-use Rattle.xc_turns.proofs.StartedLists.{no_thread}
-use Rattle.xc_turns.proofs.StartedTurns.{none_started, one_more, started_count}
+use Rattle.xc_turns.proofs.Laws.{adds, sum_set, in_phase, none_late, no_thread, none_started, one_more, started_count}
 use Rattle.xc_world.specs.World.{beginning}
 use Rattle.xc_station.specs.declared.calls.Shared.{Shared}
 use Rattle.xc_station.specs.declared.job.Job.{Job}
@@ -37,7 +34,7 @@ use Rattle.xc_station.specs.Jobs.{HasChildren, doing_of, child_view, job_view, s
 use Rattle.xc_station.specs.Starting.{StartsChild}
 use Rattle.xc_station.specs.Stations.{HasStarts, IsSteady, Room, moment}
 use Rattle.xc_station.proofs.Children.{handed_same}
-use Rattle.xc_data.proofs.Lists.{get_map, get_set_other, get_set_same, length_set, map_set}
+use Rattle.xc_data.proofs.Laws.{get_map, get_set_other, get_set_same, length_set, map_set}
 use Rattle.xc_station.proofs.Steady.{steady_kept}
 
 -- ---- how much a transaction has started

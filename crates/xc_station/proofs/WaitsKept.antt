@@ -4,7 +4,7 @@ use Rattle.xc_data.specs.declared.entry.Turn.{Turn}
 use Rattle.xc_model.specs.Setting.{Setting}
 use Rattle.xc_model.specs.Moment.{Moment}
 use Rattle.xc_model.specs.Rows.{IsTurn}
-use Rattle.xc_turns.proofs.Waits.{may_wait, waits_counted, count_kept, others_kept, marks_made}
+use Rattle.xc_turns.proofs.Laws.{may_wait, waits_counted, count_kept, others_kept, marks_made}
 use Rattle.xc_station.specs.Waits.{IsFairWait}
 
 -- each row does

@@ -16,7 +16,7 @@ use Rattle.xc_data.specs.declared.memory.NoMemory.{NoMemory}
 use Rattle.xc_data.specs.declared.object.Num.{Num}
 use Rattle.xc_data.specs.declared.private.Private.{Private}
 use Rattle.xc_data.specs.declared.undo.Undo.{Undo}
-use Rattle.xc_file.specs.Calls.{IsNewIn, IsOpenIn}
+use Rattle.xc_file.specs.Checks.{IsNewIn, IsOpenIn}
 use Rattle.xc_host.specs.Contents.{Contents}
 use Rattle.xc_host.specs.Kept.{KeepsData, with_kept}
 use Rattle.xc_host.specs.Model.{HostModel}
@@ -24,11 +24,11 @@ use Rattle.xc_host.specs.Pairs.{has_pair}
 use Rattle.xc_host.specs.Pipes.{has_pipe}
 use Rattle.xc_host.specs.Uses.{CallsOf, StopsFor, Uses}
 use Rattle.xc_pipe.specs.Reading.{IsPipeIn}
-use Rattle.xc_pipe.specs.Taking.{HasTaken}
+use Rattle.xc_calls.specs.Taking.{HasTaken}
 use Rattle.xc_socket.specs.Checks.{IsPairIn}
 use Rattle.xc_script.specs.declared.ask.Ask.TheVariants as ask
 use Rattle.xc_txmem.specs.Overlay.{AreWithin, overlaid}
-use Rattle.xc_wordlocks.specs.Held.{HasRoomFor}
+use Rattle.xc_locks.specs.Held.{HasRoomFor}
 use Rattle.xc_world.specs.Act.Names.{next_num}
 use Rattle.xc_world.specs.After.{IsMeAfter}
 use Rattle.xc_world.specs.Checks.{IsChecked, refusal_of}

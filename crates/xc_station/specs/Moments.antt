@@ -20,8 +20,8 @@ use Rattle.xc_script.specs.Asking.{asks}
 use Rattle.xc_script.specs.Blocks.{ask_fits}
 use Rattle.xc_script.specs.Position.{Position, job_of, walk_of}
 use Rattle.xc_text.specs.declared.script.Script.{Script}
-use Rattle.xc_wordlocks.specs.Met.{IsNotMet}
-use Rattle.xc_wordlocks.specs.Table.{Table, Holds, KeepsOthers, mode_in, held_mode}
+use Rattle.xc_locks.specs.Met.{IsNotMet}
+use Rattle.xc_locks.specs.Table.{Table, Holds, KeepsOthers, mode_in, held_mode}
 use Rattle.xc_world.specs.Modes.{claims_of}
 use Rattle.xc_sentinel.specs.declared.seat.Seat.{Seat}
 use Rattle.xc_sentinel.specs.Seated.{Seats}

@@ -5,11 +5,10 @@ ghost use Rattle.xc_compensate.specs.Records.{Records};
 ghost use Rattle.xc_data.specs.Calls.{is_late};
 ghost use Rattle.xc_data.specs.declared.call.Call.TheVariants.{XReadPipe, XRecvmsg};
 ghost use Rattle.xc_data.specs.declared.entry.KeptItem.{KeptItem};
-ghost use Rattle.xc_file.specs.Calls.{IsFileCall};
+ghost use Rattle.xc_calls.specs.Calls.{IsHostCall};
 ghost use Rattle.xc_host.specs.Fronted.{before, fronted};
 ghost use Rattle.xc_host.specs.Kept.{KeepsData, with_kept};
-ghost use Rattle.xc_pipe.specs.Reading.{Notes};
-ghost use Rattle.xc_pipe.specs.Taking.{HasTaken};
+ghost use Rattle.xc_calls.specs.Taking.{Notes, HasTaken};
 ghost use Rattle.xc_world.specs.Checks.{refusal_of};
 ghost use Rattle.xc_world.specs.Run.{given_back, gives};
 ghost use Rattle.xc_world.specs.World.{World};
@@ -82,7 +81,7 @@ impl Buffers {
         requires noted { length taken.old.items ≤ self.old.noted }
         requires there { IsTrue H.model.tells → refusal_of (XReadPipe h n) me.old ≡ None
             → IsSourceIn (H.model.contents host.old) me.old (XReadPipe h n) }
-        ensures call { (number : ℕ) (undo : Records) → IfOk result (λ reply. IsFileCall (fronted H.model) (XReadPipe h n)
+        ensures call { (number : ℕ) (undo : Records) → IfOk result (λ reply. IsHostCall (fronted H.model) (XReadPipe h n)
             (record { host = before host.old self.old.kept; number = number; me = me.old; undo = undo })
             (record { host = before host.new self.new.kept; number = number; me = me.new; undo = undo }) (Ok reply)) }
         ensures stops { OnErr result
@@ -119,7 +118,7 @@ impl Buffers {
         requires sided { IsSidedFor me.old (XRecvmsg h) }
         requires there { IsTrue H.model.tells → refusal_of (XRecvmsg h) me.old ≡ None
             → IsSourceIn (H.model.contents host.old) me.old (XRecvmsg h) }
-        ensures call { (number : ℕ) (undo : Records) → IfOk result (λ reply. IsFileCall (fronted H.model) (XRecvmsg h)
+        ensures call { (number : ℕ) (undo : Records) → IfOk result (λ reply. IsHostCall (fronted H.model) (XRecvmsg h)
             (record { host = before host.old self.old.kept; number = number; me = me.old; undo = undo })
             (record { host = before host.new self.new.kept; number = number; me = me.new; undo = undo }) (Ok reply)) }
         ensures stops { OnErr result

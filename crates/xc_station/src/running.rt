@@ -19,7 +19,7 @@ ghost use Rattle.xc_station.specs.Jobs.{begun_of, job_view, tx_view};
 ghost use Rattle.xc_station.specs.Moments.{AreTerms, CanRun, HasClaimed, HasNeeds, HasTx, IsAt, IsRow, IsRunningRow, KeepsSeated, Lends};
 ghost use Rattle.xc_station.specs.Moments.{counted, front_of, marks_of, moved, runs, seated_as};
 ghost use Rattle.xc_sentinel.specs.Seating.{seat_in};
-ghost use Rattle.xc_wordlocks.specs.Table.{Holds};
+ghost use Rattle.xc_locks.specs.Table.{Holds};
 
 use crate::backing::begin_back;
 use crate::calls::{Shared, do_call};

@@ -1,6 +1,6 @@
 use xc_data::{JobList, KeptList, WordList};
 use xc_host::OpenErr;
-use xc_journal::Journal;
+use xc_roomy::Journal;
 use xc_text::Script;
 
 /// What a station was started with.

@@ -21,10 +21,9 @@ use std::alloc::Global;
 use std::marker::Model;
 use xc_data::{Entry, Event, Ident, JobLine};
 use xc_host::Host;
-use xc_journal::Journal;
 use xc_maps::IdentMap;
 use xc_model::Rules;
-use xc_roomy::Roomy;
+use xc_roomy::{Journal, Roomy};
 
 /// The core, over a host. Jobs are numbered from 1, in the order of their starts.
 #[derive(Drop)]

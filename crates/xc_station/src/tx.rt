@@ -5,7 +5,7 @@ ghost use Rattle.xc_model.specs.declared.phase.Phase.TheVariants as PlainPhase;
 ghost use Rattle.xc_model.specs.Entering.{entry_of};
 ghost use Rattle.xc_model.specs.IdleRows.{new_tx};
 ghost use Rattle.xc_station.specs.Jobs.{begun_of, kept_or, outcome_in, tx_view};
-ghost use Rattle.xc_wordlocks.specs.Table.{Holds};
+ghost use Rattle.xc_locks.specs.Table.{Holds};
 ghost use Rattle.xc_station.specs.Acting.{HasRoom, HasNoteRoom};
 ghost use Rattle.xc_station.specs.Backs.{HasSave};
 ghost use Rattle.xc_station.specs.Moments.{Frees};
@@ -16,11 +16,11 @@ use xc_buffers::Taken;
 use xc_compensate::Stack;
 use xc_data::{Call, Claim, Entry, NoMemory, Outcome, Private, Reply, Report};
 use xc_deferred::Late;
+use xc_locks::Holding;
 use xc_model::Phase;
 use xc_roomy::Roomy;
 use xc_sentinel::Sentinels;
 use xc_txmem::WriteSet;
-use xc_wordlocks::Holding;
 
 /// What an inner block's save keeps of a transaction: its handles, and how many records, notes and late calls it had.
 #[derive(Drop)]

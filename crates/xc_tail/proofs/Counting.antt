@@ -11,7 +11,7 @@ use Rattle.xc_data.specs.declared.entry.Outcome.{Outcome}
 use Rattle.xc_data.specs.declared.entry.Outcome.TheVariants.{Committed, Aborted}
 use Rattle.xc_data.specs.declared.undo.Undo.{Undo}
 use Rattle.xc_data.specs.declared.undo.UndoEnd.{UndoEnd}
-use Rattle.xc_failure.specs.Effects.{effect_remains}
+use Rattle.xc_world.specs.Remains.{effect_remains}
 use Rattle.xc_print.specs.Totals.{is_committed, is_aborted, outcome_remains, entry_remains, totals_of}
 use Rattle.xc_print.specs.declared.totals.Totals.{Totals}
 use Rattle.xc_shown.specs.Shown.{records_of, bare_outcome, record_shown, effect_from, effects_shown, shown_of}

@@ -7,14 +7,11 @@ use Rattle.xc_buffers.specs.Items.{is_fit}
 use Rattle.xc_buffers.specs.Sources.{source_of}
 use Rattle.xc_buffers.specs.Worlds.{without_front, without_first}
 use Rattle.xc_buffers.specs.declared.source.Source.{Source}
-use Rattle.xc_buffers.proofs.Fronts.{Passes, turn_pipe, turn_pair, given_passes, pipe_passes, pair_passes, fronted, firsted}
-use Rattle.xc_buffers.proofs.Puts.{front_left, first_left}
-use Rattle.xc_buffers.proofs.Turns.{change_same}
+use Rattle.xc_buffers.proofs.Laws.{Passes, turn_pipe, turn_pair, given_passes, pipe_passes, pair_passes, fronted, firsted, front_left, first_left, change_same}
 use Rattle.xc_data.specs.declared.entry.KeptItem.{KeptItem}
 use Rattle.xc_data.specs.declared.entry.KeptItem.TheVariants.{Bytes, Message}
 use Rattle.xc_machine.specs.Taking.{Takes, IsNotInFront, has_source}
-use Rattle.xc_maps.proofs.Laws.{get-insert_same}
-use Rattle.xc_maps.proofs.Maps.{num_total, num_exact}
+use Rattle.xc_maps.proofs.Laws.{get-insert_same, num_total, num_exact}
 use Rattle.xc_sheet.specs.Ends.{lines_of_kept}
 use Rattle.xc_sheet.specs.declared.lines.Line.{Line}
 use Rattle.xc_sheet.specs.declared.lines.Line.TheVariants as line

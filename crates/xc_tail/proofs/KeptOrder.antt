@@ -9,8 +9,7 @@ use Rattle.xc_buffers.specs.Items.{AreKept, is_fit}
 use Rattle.xc_buffers.specs.Sources.{source_of, is_before}
 use Rattle.xc_buffers.specs.declared.source.Source.{Source}
 use Rattle.xc_buffers.specs.declared.source.Source.TheVariants.{Pipe, Side}
-use Rattle.xc_buffers.proofs.Orders.{before_itself, before_not, neither, not_before, one}
-use Rattle.xc_buffers.proofs.Ordered.{NotBefore, Rises, rises_from, order_from}
+use Rattle.xc_buffers.proofs.Laws.{before_itself, before_not, neither, not_before, one, NotBefore, Rises, rises_from, order_from}
 use Rattle.xc_data.specs.declared.entry.KeptItem.{KeptItem}
 use Rattle.xc_data.specs.declared.entry.KeptItem.TheVariants.{Bytes, Message}
 use Rattle.xc_data.specs.declared.object.Num.{Num}

@@ -2,8 +2,7 @@
 use Rattle.std.proofs.Common.{◌≡◌, Bool, true, false, None, List, [], ◌∷◌, ◌++◌, refl, ap, sym, ◌∙◌}
 use Rattle.std.specs.Prelude.{if◌then◌else◌}
 use Rattle.xc_buffers.specs.Worlds.{with_held}
-use Rattle.xc_buffers.proofs.Held.{held_alone}
-use Rattle.xc_buffers.proofs.Puts.{gives_joined}
+use Rattle.xc_buffers.proofs.Laws.{held_alone, gives_joined}
 use Rattle.xc_data.specs.declared.entry.KeptItem.{KeptItem}
 use Rattle.xc_data.specs.declared.entry.KeptItem.TheVariants.{Bytes, Message}
 use Rattle.xc_host.specs.Contents.{Contents, contents_of, with_contents, world_of}

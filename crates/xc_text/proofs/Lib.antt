@@ -15,3 +15,4 @@ pub mod PlacedItems
 pub mod PlacedParts
 pub mod Sound
 pub mod Standing
+pub mod Laws

@@ -1,7 +1,7 @@
 ghost use Rattle.std.specs.Prelude.{◌≡◌, ℕ, List, Option, IfOk, OnErr};
 ghost use Rattle.xc_data.specs.declared.call.Call.TheVariants.{XThreadCreate};
 ghost use Rattle.xc_data.specs.declared.private.Private.{Private as PlainPrivate};
-ghost use Rattle.xc_file.specs.Deferred.{IsDeferred};
+ghost use Rattle.xc_calls.specs.Deferred.{IsDeferred};
 
 use xc_data::{Ident, LateCall, NoMemory, Reply};
 use xc_deferred::Late;

@@ -6,3 +6,4 @@ pub mod Quotes
 pub mod TokenLists
 pub mod Windows
 pub mod PlainBytes
+pub mod Laws

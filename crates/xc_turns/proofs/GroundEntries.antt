@@ -18,7 +18,7 @@ use Rattle.xc_model.specs.Played.{IsPlayedSoFar, ran_behind}
 use Rattle.xc_model.specs.Stories.{StoriesHold, active_parts, part_under_way}
 use Rattle.xc_model.specs.Stories.{asked_of_tx, wanted_by, reading, scene_at}
 use Rattle.xc_turns.proofs.Lists.{get_front, get_inside}
-use Rattle.xc_data.proofs.Lists.{get_set_same, get_set_other}
+use Rattle.xc_data.proofs.Laws.{get_set_same, get_set_other}
 use Rattle.xc_turns.proofs.Progressing.{parts_more, progress-more}
 use Rattle.xc_turns.proofs.HeldClaims.{covered_same}
 use Rattle.xc_turns.proofs.GroundSteps.{grounds_enter}

@@ -35,7 +35,7 @@ use Rattle.xc_model.specs.Joint.{entry_parts}
 use Rattle.xc_model.specs.Stories.{StoriesHold, IsDoing, IsUnderway, IsInPhase, IsRunning, IsBacking, active_begin, active_part, active_parts, part_under_way}
 use Rattle.xc_model.specs.Stories.{asked_of_tx, cause_of_phase, wanted_by, reading}
 use Rattle.xc_turns.proofs.Lists.{contains_first, get_beside, not_both}
-use Rattle.xc_data.proofs.Lists.{get_set_same, get_set_other}
+use Rattle.xc_data.proofs.Laws.{get_set_same, get_set_other}
 use Rattle.xc_turns.proofs.Progressing.{parts_length}
 use Rattle.xc_turns.proofs.StoryBegins.{active_begun}
 use Rattle.xc_turns.proofs.HeldClaims.{AreCovered, covered_same, covered_all, claims_covered, covered_parts, covered_front, covered_back}

@@ -20,7 +20,7 @@ use Rattle.xc_model.specs.Joint.{asked_behind}
 use Rattle.xc_model.specs.Movers.{IsActiveAt}
 use Rattle.xc_model.specs.Stories.{active_part, active_parts, asked_of_tx, cause_of_phase, part_under_way, wanted_by, reading}
 use Rattle.xc_turns.proofs.Lists.{get_inside}
-use Rattle.xc_data.proofs.Lists.{get_set_other}
+use Rattle.xc_data.proofs.Laws.{get_set_other}
 
 -- ---- active transactions by job
 module _ (s : Setting) (words : ℕ) (marks : ℕ → Option Mark) where

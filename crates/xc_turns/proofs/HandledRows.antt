@@ -2,7 +2,7 @@
 use Rattle.std.proofs.Common.{◌≡◌, ℕ, ◌-◌, ◌+◌, Option, Some, List, [], ◌∷◌, ◌++◌, length, map, refl, ap, ap₂, sym, ◌∙◌, subst, arith}
 use Rattle.std.specs.Prelude.{replicate, slice_get, slice_set, sum_by, unwrap_or}
 use Rattle.std.proofs.lemmas.List.{map-append}
-use Rattle.xc_data.proofs.Lists.{get_map, map_set, map_set_same}
+use Rattle.xc_data.proofs.Laws.{get_map, map_set, map_set_same}
 use Rattle.xc_data.specs.Calls.{thread_asked, thread_in}
 use Rattle.xc_data.specs.Counts.{RisesBy}
 use Rattle.xc_data.specs.declared.entry.Entry.{Entry}
@@ -12,7 +12,7 @@ use Rattle.xc_data.specs.declared.entry.Report.{Report}
 use Rattle.xc_data.specs.declared.private.Place.{Place}
 use Rattle.xc_data.specs.declared.script.Kind.{Kind}
 use Rattle.xc_host.specs.Cause.{IsCalled, times}
-use Rattle.xc_host.proofs.Called.{rises_sum}
+use Rattle.xc_host.proofs.Laws.{rises_sum}
 use Rattle.xc_script.specs.declared.ask.Ask.{Ask}
 use Rattle.xc_script.specs.Blocks.{kept_calls}
 use Rattle.xc_text.specs.declared.script.Script.{Script}
@@ -27,7 +27,7 @@ use Rattle.xc_model.specs.LateCalls.{started_late}
 use Rattle.xc_model.specs.Moment.{TxView, JobView, active_of}
 use Rattle.xc_model.specs.Opened.{opened_job}
 use Rattle.xc_model.specs.Progress.{following_of, progress_of}
-use Rattle.xc_model.proofs.StartedCalls.{started_same}
+use Rattle.xc_model.proofs.Laws.{started_same}
 use Rattle.xc_turns.proofs.Grown.{started_idle}
 use Rattle.xc_turns.proofs.HandledLasts.{lasts_whole}
 use Rattle.xc_turns.proofs.HandledMade.{MadeAt, grown_times, made_at, made_grown, made_set, no_mades, opened_made, opened_times}

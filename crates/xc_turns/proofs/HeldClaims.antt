@@ -10,9 +10,8 @@ use Rattle.xc_data.specs.declared.claim.Mode.{Mode}
 use Rattle.xc_data.specs.declared.claim.Mode.TheVariants.{Shared, Exclusive}
 use Rattle.xc_data.specs.declared.claim.Claim.{Claim}
 use Rattle.xc_data.specs.Claims.{is_object, objects, compatible, stronger, merged, holding_one, holding, AreOnceAtMost}
-use Rattle.xc_world.proofs.Bodies.{objects_append}
-use Rattle.xc_world.proofs.Holding.{has}
-use Rattle.xc_data.proofs.Objects.{same_object}
+use Rattle.xc_world.proofs.Laws.{objects_append, has}
+use Rattle.xc_data.proofs.Laws.{same_object}
 use Rattle.xc_turns.proofs.Lists.{contains_first, contains_later, contains_cons, contains_map}
 
 -- ---- modes

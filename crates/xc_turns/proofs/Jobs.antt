@@ -11,7 +11,7 @@ use Rattle.xc_model.specs.Movers.{IsActiveAt}
 use Rattle.xc_model.specs.Entering.{behind_abort}
 use Rattle.xc_model.specs.Opened.{opened_job}
 use Rattle.xc_turns.proofs.Lists.{contains_picked, not_both}
-use Rattle.xc_data.proofs.Lists.{get_set_same, get_set_other}
+use Rattle.xc_data.proofs.Laws.{get_set_same, get_set_other}
 
 -- ---- one place of the jobs is set
 module _ (jobs : List JobView) (at : ℕ) (job : JobView) (stands : slice_get jobs at ≡ Some job) where

@@ -56,3 +56,4 @@ pub mod WordRows
 pub mod WordStates
 pub mod WordTurns
 pub mod WordTx
+pub mod Laws

@@ -18,7 +18,7 @@ use Rattle.xc_model.specs.Moment.{entering, unmarked}
 use Rattle.xc_model.specs.Movers.{IsActiveAt}
 use Rattle.xc_model.specs.Alone.{AreAlone, IsFullAt, MeetsNobody}
 use Rattle.xc_turns.proofs.Lists.{get_cases}
-use Rattle.xc_data.proofs.Lists.{get_set_other, get_set_same}
+use Rattle.xc_data.proofs.Laws.{get_set_other, get_set_same}
 use Rattle.xc_turns.proofs.Grown.{AreIdle, grown_active}
 use Rattle.xc_turns.proofs.Jobs.{active_is, active_before}
 

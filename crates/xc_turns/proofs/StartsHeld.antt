@@ -20,8 +20,8 @@ use Rattle.xc_data.specs.Claims.{claim, compatible, holding, owned}
 use Rattle.xc_data.specs.Private.{place_of}
 use Rattle.xc_world.specs.Late.{kept_call}
 use Rattle.xc_world.specs.Modes.{claims_of}
-use Rattle.xc_world.proofs.Objects.{found}
-use Rattle.xc_data.proofs.Objects.{same_object}
+use Rattle.xc_world.proofs.Laws.{found}
+use Rattle.xc_data.proofs.Laws.{same_object}
 use Rattle.xc_model.specs.Holding.{AreApart}
 use Rattle.xc_model.specs.Movers.{IsActiveAt}
 use Rattle.xc_model.specs.Moment.{TxView, JobView}

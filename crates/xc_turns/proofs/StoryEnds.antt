@@ -22,7 +22,7 @@ use Rattle.xc_model.specs.Moment.{TxView, JobView, Active, Idle, active_of}
 use Rattle.xc_model.specs.Entering.{attempts_with, behind_abort, behind_commit, entry_of, started_job}
 use Rattle.xc_model.specs.Stories.{AreAttempts, IsCommitting, IsDoing, IsInPhase, StoryHolds, IsUnderway, active_begin, begins_of, entry_begin}
 use Rattle.xc_turns.proofs.Grown.{AreIdle, grown_actives}
-use Rattle.xc_data.proofs.Lists.{get_set_same, get_set_other}
+use Rattle.xc_data.proofs.Laws.{get_set_same, get_set_other}
 use Rattle.xc_turns.proofs.Progressing.{progress-more, true-more}
 use Rattle.xc_turns.proofs.StoryBegins.{begins_count, begins_entered, begins_moved}
 use Rattle.xc_turns.proofs.StoryJobs.{JobStoriesHold, StoriesHoldBut, begun_in, told_append, told_in_place}

@@ -35,7 +35,7 @@ use Rattle.xc_model.specs.Stories.{HasRecordsIn, IsCommitting, IsInPhase, IsUndo
 use Rattle.xc_model.specs.Played.{HoldsFor, IsPlayedSoFar, RecordsFor, ran_behind}
 use Rattle.xc_model.specs.Started.{HasStarts}
 use Rattle.xc_model.specs.Starts.{AreStarts}
-use Rattle.xc_model.proofs.StartedCalls.{started_same}
+use Rattle.xc_model.proofs.Laws.{started_same}
 use Rattle.xc_turns.proofs.LateCounts.{as_many, left_none, take_all}
 
 -- ---- the entry of the job in one place

@@ -18,7 +18,7 @@ use Rattle.xc_model.specs.Ending.{IsEnd}
 use Rattle.xc_model.specs.Moment.{TxView, JobView, Doing, Idle, Active, Starved, Ended, active_of, actives}
 use Rattle.xc_model.specs.Stories.{StoriesHold, AreBegins, IsDoing, StoryHolds, active_begin, begins_of, entry_begin, reading, scene_at}
 use Rattle.xc_turns.proofs.Lists.{get_beside}
-use Rattle.xc_data.proofs.Lists.{get_set_same, get_set_other}
+use Rattle.xc_data.proofs.Laws.{get_set_same, get_set_other}
 use Rattle.xc_turns.proofs.StoryBegins.{begins_begun, begins_count, begins_moved, begins_stay, begins_with, count_stays}
 
 -- each job goes on with its story

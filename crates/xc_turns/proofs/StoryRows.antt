@@ -37,7 +37,7 @@ use Rattle.xc_model.specs.RunningRows.{Calls, values_at}
 use Rattle.xc_model.specs.Recorded.{Recorded, no_records, all_records, records_with, HasRecords, IsStuckIn, block_records, saved_records}
 use Rattle.xc_turns.proofs.BlockRecords.{records-more, faults-more, no_faults, records_now, records_saved, open_alike}
 use Rattle.xc_turns.proofs.BlockRecords.{counted_block, of_block, few_in_block, none_blocks, IsInFront, save_in_front}
-use Rattle.xc_world.proofs.RecordsLeft.{as_many, front_records, more_records}
+use Rattle.xc_world.proofs.Laws.{as_many, front_records, more_records}
 use Rattle.xc_host.specs.Contents.{world_of}
 use Rattle.xc_data.specs.declared.entry.Mark.{Mark}
 use Rattle.xc_model.specs.declared.phase.Attempts.{Attempts}

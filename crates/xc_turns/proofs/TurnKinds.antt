@@ -17,7 +17,7 @@ use Rattle.xc_data.specs.declared.entry.Turn.TheVariants as turn
 use Rattle.xc_data.specs.declared.undo.Undo.{Undo}
 use Rattle.xc_script.specs.declared.ask.Ask.{Ask}
 use Rattle.xc_script.specs.declared.ask.Ask.TheVariants as ask
-use Rattle.xc_txmem.proofs.Overlays.{overlay_count}
+use Rattle.xc_txmem.proofs.Laws.{overlay_count}
 use Rattle.xc_host.specs.Contents.{Contents}
 use Rattle.xc_data.specs.declared.entry.Mark.{Mark}
 use Rattle.xc_model.specs.declared.phase.Phase.{Phase}

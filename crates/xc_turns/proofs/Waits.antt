@@ -46,7 +46,7 @@ use Rattle.xc_model.specs.Entering.{started_jobs}
 use Rattle.xc_model.specs.Movers.{mover}
 use Rattle.xc_turns.proofs.LateEnds.{next_ends}
 use Rattle.xc_turns.proofs.Lists.{get_front, get_inside}
-use Rattle.xc_data.proofs.Lists.{get_set_same, get_set_other}
+use Rattle.xc_data.proofs.Laws.{get_set_same, get_set_other}
 
 module _ (s : Setting) (at : ℕ) (old new : Moment) (job : JobView) (stands : slice_get old.jobs at ≡ Some job) where
   -- ---- the row of an answer Busy

@@ -17,10 +17,8 @@ use Rattle.xc_data.specs.declared.private.Private.{Private}
 use Rattle.xc_data.specs.Claims.{is_object, claim, is_exclusive, exclusive, compatible, objects, owned, stronger, merged, holding_one, holding}
 use Rattle.xc_world.specs.Modes.{mode_of, claims_of}
 use Rattle.xc_world.specs.Own.{Sees, Owns}
-use Rattle.xc_world.proofs.Bodies.{objects_append, owned_append}
-use Rattle.xc_world.proofs.Holding.{has}
-use Rattle.xc_world.proofs.Objects.{found}
-use Rattle.xc_data.proofs.Objects.{same_object}
+use Rattle.xc_world.proofs.Laws.{objects_append, owned_append, has, found}
+use Rattle.xc_data.proofs.Laws.{same_object}
 use Rattle.xc_model.specs.Moment.{TxView, JobView}
 use Rattle.xc_model.specs.Movers.{IsActiveAt}
 use Rattle.xc_model.specs.Rivals.{HasNoRival}

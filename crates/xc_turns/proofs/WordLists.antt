@@ -8,7 +8,7 @@ use Rattle.xc_data.specs.declared.call.Call.{Call}
 use Rattle.xc_data.specs.declared.call.Call.TheVariants.{Load, Store}
 use Rattle.xc_data.specs.declared.call.Reply.TheVariants.{Number, Done, BadWord}
 use Rattle.xc_txmem.specs.Overlay.{overlaid, AreWithin}
-use Rattle.xc_txmem.proofs.Overlays.{overlay_adds, overlay_count}
+use Rattle.xc_txmem.proofs.Laws.{overlay_adds, overlay_count}
 use Rattle.xc_model.specs.WordCalls.{word_reply, words_after}
 use Rattle.xc_model.specs.PlainSteps.{stored_by}
 use Rattle.xc_model.specs.Words.{speaks_of, stores_to}

@@ -9,7 +9,7 @@ use Rattle.xc_data.specs.declared.call.LateEnd.{LateEnd}
 use Rattle.xc_data.specs.declared.object.Object.TheVariants as object
 use Rattle.xc_txmem.specs.Overlay.{overlaid, AreWithin}
 use Rattle.xc_world.specs.Own.{Owns}
-use Rattle.xc_world.proofs.Objects.{decide}
+use Rattle.xc_world.proofs.Laws.{decide}
 use Rattle.xc_model.specs.declared.phase.Phase.TheVariants.{Running, Committing}
 use Rattle.xc_model.specs.WordCalls.{words_behind}
 use Rattle.xc_model.specs.Moment.{TxView, JobView, active_of}

@@ -10,7 +10,7 @@ use Rattle.atomic_table.specs.Table.{Me, takes, gives, keeps, rest, opening, All
 use Rattle.atomic_table.proofs.Lists.{at_set, set_here, set_else}
 use Rattle.xc_data.specs.declared.entry.Entry.{Entry}
 use Rattle.xc_turnstile.specs.declared.view.View.{View}
-use Rattle.xc_turnstile.specs.declared.view.Origin.{Origin}
+use Rattle.xc_model.specs.declared.origin.Origin.{Origin}
 use Rattle.xc_turnstile.specs.Meanings.{Meaning}
 use Rattle.xc_turnstile.specs.Views.{BeginsWith, AreAtPlaces, PlacesRise, HasPlace, added, entered_view, lost_view, left_view, first_view}
 use Rattle.xc_turnstile.specs.Rules.{IsTrueView, AreTrueViews, IsOpen, IsTaken, IsRuled, IsEntering, IsLeaving}

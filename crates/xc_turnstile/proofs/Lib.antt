@@ -3,3 +3,4 @@ pub mod Entering
 pub mod Sharing
 pub mod Passes
 pub mod Pairs
+pub mod Laws

@@ -10,7 +10,7 @@ use Rattle.atomic_table.proofs.Lists.{at_set, at_snoc, at_longer, set_else, set_
 use Rattle.xc_data.specs.declared.entry.Entry.{Entry}
 use Rattle.xc_turnstile.specs.declared.view.View.{View}
 use Rattle.xc_turnstile.specs.Views.{BeginsWith, PlacesRise, HasPlace, kept_half, given_half, both, spent}
-use Rattle.xc_turnstile.specs.declared.view.Origin.{Origin}
+use Rattle.xc_model.specs.declared.origin.Origin.{Origin}
 use Rattle.xc_turnstile.specs.Meanings.{Meaning}
 use Rattle.xc_turnstile.specs.Rules.{IsTrueView, AreTrueViews, IsOpen, IsTaken, IsRuled}
 use Rattle.xc_turnstile.proofs.Fronts.{starts_shorter, all_placed_has, all_placed_stands, all_placed_rises, longer_is, shorter_is, total_set}

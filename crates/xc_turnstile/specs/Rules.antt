@@ -5,7 +5,7 @@ use lib.ListN.{get_elem?}
 use Rattle.std.specs.List.{sum_by}
 use Rattle.atomic_table.specs.Table.{State, Me, Step}
 use Rattle.xc_data.specs.declared.entry.Entry.{Entry}
-use Rattle.xc_turnstile.specs.declared.view.Origin.{Origin}
+use Rattle.xc_model.specs.declared.origin.Origin.{Origin}
 use Rattle.xc_turnstile.specs.declared.view.View.{View}
 use Rattle.xc_turnstile.specs.Meanings.{Meaning}
 use Rattle.xc_turnstile.specs.Views.{BeginsWith, AreAtPlaces, PlacesRise, HasPlace, entered_view, lost_view, left_view}

@@ -10,4 +10,4 @@ mod view;
 pub use chronicle::Chronicle;
 pub use pair::enter_two;
 pub use turnstile::{Entered, Hold, Pass, Turnstile};
-pub use view::{Origin, View};
+pub use view::View;

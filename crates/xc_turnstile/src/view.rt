@@ -1,17 +1,6 @@
 use std::collections::LinkedList;
 use xc_data::{Entry, Event};
-use xc_model::Rules;
-use xc_text::Script;
-
-/// What a value was started with. Contracts alone name it.
-/// No value of it is ever made.
-#[derive(Drop)]
-pub struct Origin {
-    pub script: Script,
-    /// The host's count of faults then.
-    pub faults: u64,
-    pub rules: Rules,
-}
+use xc_model::Origin;
 
 /// What a pass knows. Contracts alone name it.
 pub struct View {

@@ -1,2 +1,3 @@
 pub mod Overlays
 pub mod Saved
+pub mod Laws

@@ -66,6 +66,7 @@ module _ (tx : ℕ) (Fit : BodyResult → CallWithAnswer → Type 0) (P : BodyRe
   Holds None now = Unit {0}
   Holds (Some s) now = P s × Led tx Fit s now
 
+  -- P is true of what is now, and of the save of an open block, which such calls led to what is now
   pub record State (b : BlockState) : Type 0 where
     pub now : P b.now
     pub saved : Holds b.saved b.now

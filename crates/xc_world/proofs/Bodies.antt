@@ -192,11 +192,13 @@ pub record CopiesAlike (P : Object → Type 0) (tx : ℕ) (starts : World × Wor
   pub right : (o : Object) → Owns tx copies.1.touched o → Owns tx now.1.touched o
 
 module _ (P : Object → Type 0) (tx : ℕ) (starts : World × World) where
+  -- the saves of two bodies are alike, or neither has one
   abbrev pub SavedAlike : Option BodyResult → Option BodyResult → BodyResult → BodyResult → Type 0
   SavedAlike None None r q = Unit {0}
   SavedAlike (Some s) (Some t) r q = CopiesAlike P tx starts (s, t) (r, q)
   SavedAlike _ _ r q = ⊥
 
+  -- two bodies are alike, and so are their saves
   pub record StateAlike (b d : BlockState) : Type 0 where
     pub now : Alike P tx starts b.now d.now
     pub saved : SavedAlike b.saved d.saved b.now d.now

@@ -8,8 +8,7 @@ use Rattle.xc_data.specs.declared.undo.Undo.TheVariants.{Bytes, Tail, Made, Move
 use Rattle.xc_data.specs.declared.undo.UndoEnd.TheVariants.{Undone, Failed, Blocked}
 use Rattle.xc_data.specs.Remaining.{stopped_at}
 use Rattle.xc_maps.specs.Keys.{num_cmp}
-use Rattle.xc_maps.proofs.Maps.{num_total, num_exact}
-use Rattle.xc_maps.proofs.Laws.{get-insert_cases}
+use Rattle.xc_maps.proofs.Laws.{get-insert_cases, num_total, num_exact}
 use Rattle.xc_world.specs.World.{World, file_of, with_file, empty_pipe, empty_pair}
 use Rattle.xc_world.specs.Trail.{move_name, with_effect}
 use Rattle.xc_world.specs.Ends.{Ending, remains, with_remains}

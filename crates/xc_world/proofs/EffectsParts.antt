@@ -6,8 +6,7 @@ use Rattle.xc_data.specs.declared.undo.Undo.{Undo}
 use Rattle.xc_data.specs.declared.undo.Undo.TheVariants.{Bytes, Tail, Made, Moved, NewPipe, NewPair}
 use Rattle.std.specs.FinMap as finite
 use Rattle.xc_maps.specs.Keys.{num_cmp}
-use Rattle.xc_maps.proofs.Maps.{num_total, num_exact}
-use Rattle.xc_maps.proofs.Laws.{get-insert_cases, get-insert_same}
+use Rattle.xc_maps.proofs.Laws.{get-insert_cases, get-insert_same, num_total, num_exact}
 use Rattle.xc_world.specs.World.{World}
 use Rattle.xc_world.specs.Trail.{move_name, with_effect}
 use Rattle.xc_world.specs.Ends.{with_remains}

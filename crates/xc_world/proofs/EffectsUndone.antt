@@ -14,8 +14,8 @@ use Rattle.xc_data.specs.declared.undo.Undo.TheVariants.{Bytes, Tail, Made, Move
 use Rattle.xc_data.specs.declared.undo.UndoEnd.{UndoEnd}
 use Rattle.xc_data.specs.declared.undo.UndoEnd.TheVariants.{Undone, Failed, Blocked}
 use Rattle.xc_data.specs.Remaining.{stopped_at}
-use Rattle.xc_maps.proofs.Maps.{num_total, num_exact, undone as removed_again}
-use Rattle.xc_maps.proofs.Laws.{alike, get-insert_same, get-insert_other, insert-insert_same, insert-get_same, insert-remove_same}
+use Rattle.xc_maps.proofs.Laws.{alike, get-insert_same, get-insert_other, insert-insert_same, insert-get_same, insert-remove_same, num_total, num_exact}
+use Rattle.xc_maps.proofs.Laws.{undone as removed_again}
 use Rattle.xc_world.specs.World.{World, file_of, with_file, empty_pipe, empty_pair}
 use Rattle.xc_world.specs.Act.Files.{overwritten}
 use Rattle.xc_world.specs.Trail.{move_name, with_effect, undone}

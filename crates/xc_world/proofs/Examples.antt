@@ -15,8 +15,7 @@ use Rattle.xc_data.specs.declared.private.Place.{Place}
 use Rattle.xc_data.specs.declared.private.Place.TheVariants as place
 use Rattle.xc_data.specs.declared.private.Private.{Private}
 use Rattle.xc_maps.specs.Keys.{num_cmp, name_cmp}
-use Rattle.xc_maps.proofs.Maps.{num_total, num_exact}
-use Rattle.xc_maps.proofs.Laws.{get-insert_same}
+use Rattle.xc_maps.proofs.Laws.{get-insert_same, num_total, num_exact}
 use Rattle.xc_world.specs.World.{World, Pipe, Pair, with_file, with_pipe, with_pair}
 use Rattle.xc_world.specs.Act.{act}
 use Rattle.xc_world.specs.Act.Step.{step_to}

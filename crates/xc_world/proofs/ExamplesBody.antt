@@ -18,8 +18,7 @@ use Rattle.xc_data.specs.declared.claim.Mode.TheVariants.{Exclusive}
 use Rattle.xc_data.specs.declared.entry.KeptItem.TheVariants.{Message}
 use Rattle.xc_data.specs.Claims.{claim, held_of}
 use Rattle.xc_maps.specs.Keys.{num_cmp, name_cmp}
-use Rattle.xc_maps.proofs.Maps.{num_total, num_exact}
-use Rattle.xc_maps.proofs.Laws.{get-insert_same, get-insert_other}
+use Rattle.xc_maps.proofs.Laws.{get-insert_same, get-insert_other, num_total, num_exact}
 use Rattle.xc_world.specs.World.{World, Pair}
 use Rattle.xc_world.specs.Run.{body}
 

@@ -4,8 +4,7 @@ use Rattle.std.specs.Prelude.{All, unwrap_or, ◌++◌}
 use Rattle.std.specs.FinMap as map
 use Rattle.std.specs.Ordering.{eq_by_cmp}
 use Rattle.std.proofs.lemmas.List.Elements.{All-head, All-tail}
-use Rattle.xc_maps.proofs.Maps.{num_total, num_exact}
-use Rattle.xc_maps.proofs.Laws.{tied, get-insert_other}
+use Rattle.xc_maps.proofs.Laws.{tied, get-insert_other, num_total, num_exact}
 use Rattle.xc_maps.specs.Keys.{num_cmp}
 use Rattle.xc_data.specs.declared.object.Num.{Num}
 use Rattle.xc_data.specs.declared.object.Object.{Object}

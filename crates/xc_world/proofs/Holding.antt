@@ -13,7 +13,7 @@ use Rattle.xc_data.specs.declared.claim.Mode.TheVariants.{Shared, Exclusive}
 use Rattle.xc_data.specs.declared.claim.Claim.{Claim}
 use Rattle.xc_data.specs.Claims.{is_exclusive, exclusive, objects, owned, stronger, merged, holding_one, holding, held_of, AreOnceAtMost}
 use Rattle.xc_world.proofs.Objects.{found}
-use Rattle.xc_data.proofs.Objects.{same_object}
+use Rattle.xc_data.proofs.Laws.{same_object}
 use Rattle.xc_world.proofs.Bodies.{objects_append, owned_append}
 
 -- whether an object is in a list

@@ -44,3 +44,5 @@ pub mod Trails
 pub mod UndoingBody
 pub mod UndoingCalls
 pub mod UndoingParts
+pub mod Legal
+pub mod Laws

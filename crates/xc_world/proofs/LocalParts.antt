@@ -13,8 +13,7 @@ use Rattle.std.proofs.lemmas.List.Elements.{All-weaker}
 use Rattle.xc_data.specs.declared.object.Num.{Num}
 use Rattle.xc_data.specs.declared.object.Object.{Object}
 use Rattle.xc_data.specs.declared.object.Object.TheVariants as object
-use Rattle.xc_maps.proofs.Maps.{num_total, num_exact}
-use Rattle.xc_maps.proofs.Laws.{get-insert_other, get-remove_other}
+use Rattle.xc_maps.proofs.Laws.{get-insert_other, get-remove_other, num_total, num_exact}
 use Rattle.xc_world.specs.World.{World, Pipe, Pair, with_file, with_pipe, with_pair}
 use Rattle.xc_world.specs.Act.Names.{with_new_file, with_moved}
 use Rattle.xc_world.specs.Laws.{AgreeAt, ChangesOnly, GoAlike}

@@ -9,11 +9,11 @@ use Rattle.std.proofs.lemmas.Map.Views.{Contains-from_any}
 use Rattle.std.proofs.lemmas.List.Folds.{list_any_at}
 use Rattle.xc_data.specs.declared.object.Object.{Object}
 use Rattle.xc_data.specs.declared.object.Object.TheVariants as object
-use Rattle.xc_maps.proofs.Maps.{num_total, num_exact}
+use Rattle.xc_maps.proofs.Laws.{num_total, num_exact}
 use Rattle.xc_world.specs.World.{World}
 use Rattle.xc_data.specs.Claims.{is_object}
 use Rattle.xc_world.specs.Laws.{AgreeAt}
-use Rattle.xc_data.proofs.Objects.{same_object, itself}
+use Rattle.xc_data.proofs.Laws.{same_object, itself}
 
 true_not_false : true ≡ false → ⊥
 true_not_false e = cc

@@ -17,8 +17,7 @@ use Rattle.xc_data.specs.declared.undo.Undo.TheVariants.{Bytes, Tail, Made, Move
 use Rattle.xc_data.specs.declared.undo.UndoEnd.{UndoEnd}
 use Rattle.xc_data.specs.declared.undo.UndoEnd.TheVariants.{Undone, Failed, Blocked}
 use Rattle.xc_data.specs.Remaining.{objects_of}
-use Rattle.xc_maps.proofs.Maps.{num_total, num_exact}
-use Rattle.xc_maps.proofs.Laws.{get-remove_other}
+use Rattle.xc_maps.proofs.Laws.{get-remove_other, num_total, num_exact}
 use Rattle.xc_world.specs.World.{World, file_of, empty_pipe, empty_pair}
 use Rattle.xc_world.specs.Act.Files.{overwritten}
 use Rattle.xc_world.specs.Trail.{move_name, with_effect, undone}

@@ -67,8 +67,8 @@ late_within w call (late_answer.Fault n) fit = grind arith
 late_within w call (late_answer.NoMemory n) fit = grind arith
 
 -- ---- all of them
-abbrev pub Within : (Object → Type 0) → (Object → Type 0) → LateCall × LateAnswer → Type 0
-Within sees own c = LooksWithin sees own c.0
+abbrev pub LateWithin : (Object → Type 0) → (Object → Type 0) → LateCall × LateAnswer → Type 0
+LateWithin sees own c = LooksWithin sees own c.0
 
 -- late calls that end the same in two worlds, that leave both agreeing on what is seen, and that the same answers fit
 pub record EndAlike (sees own : Object → Type 0) (w v : World) (asked : List (LateCall × LateAnswer)) : Type 0 where
@@ -77,37 +77,37 @@ pub record EndAlike (sees own : Object → Type 0) (w v : World) (asked : List (
   pub fits : lates_fit w asked ≡ lates_fit v asked
 
 -- late calls keep all but their own objects
-pub lates_keep : (sees own : Object → Type 0) (w : World) (asked : List (LateCall × LateAnswer)) → All (Within sees own) asked
+pub lates_keep : (sees own : Object → Type 0) (w : World) (asked : List (LateCall × LateAnswer)) → All (LateWithin sees own) asked
     → KeepsBut own w (lates w asked).world
 lates_keep sees own w [] within = keeps_itself own w
 lates_keep sees own w ((c, a) ∷ asked) within =
     let e = late w c a in
-    keeps_on own w e.world (lates e.world asked).world (late_keeps own w c a (All-head (Within sees own) (c, a) asked within).changes)
-    (lates_keep sees own e.world asked (All-tail (Within sees own) (c, a) asked within))
+    keeps_on own w e.world (lates e.world asked).world (late_keeps own w c a (All-head (LateWithin sees own) (c, a) asked within).changes)
+    (lates_keep sees own e.world asked (All-tail (LateWithin sees own) (c, a) asked within))
 
 -- late calls end alike in worlds that agree on what they look at
 pub lates_alike : (sees own : Object → Type 0) (w v : World) (asked : List (LateCall × LateAnswer)) → w.blocks ≡ v.blocks → AgreeOn sees w v
-    → All (Within sees own) asked → EndAlike sees own w v asked
+    → All (LateWithin sees own) asked → EndAlike sees own w v asked
 lates_alike sees own w v [] blocks agree within = record { ends = refl; agree = agree; fits = refl }
 lates_alike sees own w v ((c, a) ∷ asked) blocks agree within =
     let e = late w c a in
     let f = late v c a in
-    let one = All-head (Within sees own) (c, a) asked within in
+    let one = All-head (LateWithin sees own) (c, a) asked within in
     let both = agreed sees w v (late_objects c) agree (λ o at. All-contains sees (late_objects c) o one.looks at) in
     let ended = late_alike w v c a blocks both in
     let rest = lates_alike sees own e.world f.world asked (ended.worlds.left.blocks ∙ blocks ∙ sym ended.worlds.right.blocks)
-    (still_agree sees w v e.world f.world (late_objects c) ended.worlds agree) (All-tail (Within sees own) (c, a) asked within) in
+    (still_agree sees w v e.world f.world (late_objects c) ended.worlds agree) (All-tail (LateWithin sees own) (c, a) asked within) in
     record { ends = ap₂ (λ x xs. x ∷ xs) ended.end rest.ends; agree = rest.agree; fits = ap₂ (λ x y. x && y) (late_fits_alike w v c a both) rest.fits }
 
 -- the late calls with their answers
 asked_within : (sees own : Object → Type 0) (calls : List LateCall) (ends : List LateEnd) → All (LooksWithin sees own) calls
-    → All (Within sees own) (late_asked_of calls ends)
-asked_within sees own [] ends within = All-nil (Within sees own)
+    → All (LateWithin sees own) (late_asked_of calls ends)
+asked_within sees own [] ends within = All-nil (LateWithin sees own)
 asked_within sees own (c ∷ calls) [] within =
-    All-cons (Within sees own) (c, late_answer.Fine) (late_asked_of calls []) (All-head (LooksWithin sees own) c calls within)
+    All-cons (LateWithin sees own) (c, late_answer.Fine) (late_asked_of calls []) (All-head (LooksWithin sees own) c calls within)
     (asked_within sees own calls [] (All-tail (LooksWithin sees own) c calls within))
 asked_within sees own (c ∷ calls) (e ∷ ends) within =
-    All-cons (Within sees own) (c, late_answer_of e) (late_asked_of calls ends) (All-head (LooksWithin sees own) c calls within)
+    All-cons (LateWithin sees own) (c, late_answer_of e) (late_asked_of calls ends) (All-head (LooksWithin sees own) c calls within)
     (asked_within sees own calls ends (All-tail (LooksWithin sees own) c calls within))
 
 -- ---- the run

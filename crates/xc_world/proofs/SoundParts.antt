@@ -10,8 +10,7 @@ use Rattle.xc_data.specs.declared.object.Num.{Num}
 use Rattle.xc_data.specs.declared.private.Place.{Place}
 use Rattle.xc_data.specs.declared.private.Place.TheVariants as place
 use Rattle.xc_maps.specs.Keys.{num_cmp, name_cmp}
-use Rattle.xc_maps.proofs.Maps.{num_total, num_exact}
-use Rattle.xc_maps.proofs.Laws.{get-insert_cases, get-insert_same}
+use Rattle.xc_maps.proofs.Laws.{get-insert_cases, get-insert_same, num_total, num_exact}
 use Rattle.xc_world.specs.World.{World, Pipe, Pair, with_file, with_pipe, with_pair, empty_pair}
 use Rattle.xc_world.specs.Sound.{HoldsShort, IsFit, IsFree, IsKnown}
 use Rattle.xc_world.specs.Act.Names.{with_moved}

@@ -17,8 +17,7 @@ use Rattle.xc_data.specs.declared.private.Place.{Place}
 use Rattle.xc_data.specs.declared.private.Place.TheVariants as place
 use Rattle.xc_data.specs.declared.private.Private.{Private}
 use Rattle.xc_data.specs.Private.{place_of}
-use Rattle.xc_maps.proofs.Maps.{num_total, num_exact}
-use Rattle.xc_maps.proofs.Laws.{get-insert_same, insert-get_same, insert-insert_same}
+use Rattle.xc_maps.proofs.Laws.{get-insert_same, insert-get_same, insert-insert_same, num_total, num_exact}
 use Rattle.xc_world.specs.World.{World, Pipe, Pair, pipe_of, pair_of, empty_pipe, empty_pair, with_pipe, with_pair, waiting, with_waiting}
 use Rattle.xc_world.specs.Act.{act, done}
 use Rattle.xc_world.specs.Act.Step.{Stepped, step_to}

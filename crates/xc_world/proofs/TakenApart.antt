@@ -18,8 +18,7 @@ use Rattle.xc_data.specs.declared.private.Place.{Place}
 use Rattle.xc_data.specs.declared.private.Place.TheVariants as place
 use Rattle.xc_data.specs.declared.private.Private.{Private}
 use Rattle.xc_data.specs.Private.{place_of}
-use Rattle.xc_maps.proofs.Maps.{num_total, num_exact}
-use Rattle.xc_maps.proofs.Laws.{get-insert_other, insert-insert_other}
+use Rattle.xc_maps.proofs.Laws.{get-insert_other, insert-insert_other, num_total, num_exact}
 use Rattle.xc_world.specs.World.{World, Pipe, Pair, pipe_of, pair_of, empty_pipe, empty_pair, with_pipe, with_pair, waiting, with_waiting}
 use Rattle.xc_world.specs.Act.{act}
 use Rattle.xc_world.specs.Act.Names.{next_num}

@@ -17,8 +17,7 @@ use Rattle.xc_data.specs.declared.private.Place.TheVariants.{Vacant, File, Pipe,
 use Rattle.xc_data.specs.declared.private.Private.{Private}
 use Rattle.xc_data.specs.Private.{with_place, lowest_vacant}
 use Rattle.xc_maps.specs.Keys.{name_cmp}
-use Rattle.xc_maps.proofs.Maps.{num_total, num_exact, undone as removed_again}
-use Rattle.xc_maps.proofs.Laws.{get-insert_same, insert-remove_same}
+use Rattle.xc_maps.proofs.Laws.{get-insert_same, insert-remove_same, num_total, num_exact, undone as removed_again}
 use Rattle.xc_world.specs.World.{World, Pair as PairOf, file_of, with_file, pipe_of, empty_pipe, pair_of, empty_pair, waiting, with_waiting}
 use Rattle.xc_world.specs.Sound.{IsKnown, IsFree}
 use Rattle.xc_world.specs.Act.Step.{Stepped}

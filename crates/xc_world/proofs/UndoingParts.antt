@@ -8,8 +8,7 @@ use Rattle.std.proofs.lemmas.List.{take-append-drop, take-take, drop-drop, lengt
 use Rattle.std.proofs.Math.Seq.{take-append_seam, drop-append_seam}
 use Rattle.xc_data.specs.declared.object.Num.{Num}
 use Rattle.xc_maps.specs.Keys.{num_cmp}
-use Rattle.xc_maps.proofs.Maps.{num_total, num_exact}
-use Rattle.xc_maps.proofs.Laws.{get-insert_same, insert-insert_same, insert-get_same, tied}
+use Rattle.xc_maps.proofs.Laws.{get-insert_same, insert-insert_same, insert-get_same, tied, num_total, num_exact}
 use Rattle.xc_world.specs.World.{World, Pipe, Pair, file_of, with_file, pipe_of, with_pipe, empty_pipe, pair_of, with_pair, empty_pair}
 use Rattle.xc_world.specs.Act.Files.{overwritten}
 use Rattle.xc_world.specs.Undoing.{IsRest, IsPipeRest, IsPairRest, BothOrNone, BroughtBack}

@@ -20,3 +20,4 @@ pub mod Joined
 pub mod Own
 pub mod Inner
 pub mod Beside
+pub mod Remains

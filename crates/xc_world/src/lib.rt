@@ -6,11 +6,13 @@ pub mod beside;
 pub mod checks;
 pub mod effects;
 mod handles;
-pub mod laws;
+pub mod law;
+mod remaining;
 mod touch;
 pub mod undoing;
 pub mod whole;
 
 pub use handles::opening_private;
+pub use remaining::{a_report_remains_exactly_where_an_effect_stands, remaining_from};
 pub use touch::push_claims;
 pub use xc_data::NoMemory;

@@ -4,7 +4,8 @@ ghost use Rattle.xc_turnstile.specs.Views.{BeginsWith};
 
 use std::alloc::Global;
 use xc_data::{CallList, Entry, Event, HeldList, Items, LateList, NoMemory, Outcome, ReplyList};
-use xc_turnstile::{Chronicle, Origin};
+use xc_model::Origin;
+use xc_turnstile::Chronicle;
 
 /// A journal to which entries are added, one for each event.
 #[derive(Drop)]

@@ -1,12 +1,12 @@
 ghost use Rattle.std.specs.Prelude.{◌≡◌, ◌<◌, ◌^◌, length};
-ghost use Rattle.xc_wordlocks.specs.Table.{Holds, KeepsOthers};
+ghost use Rattle.xc_locks.specs.Table.{Holds, KeepsOthers};
 
 use std::marker::Brand;
 use std::sync::ledger::{Blank, Ledger};
 use std::test::Fail;
 use xc_data::{Claim, HeldList, Mode, NoMemory, Object};
+use xc_locks::{Holding, Steps};
 use xc_sentinel::{Sentinels, Verdict};
-use xc_wordlocks::{Holding, Steps};
 
 fn word(at: u32) -> [Claim; 1] {
     [Claim {

@@ -4,8 +4,8 @@ use super::notes::Notes;
 use std::alloc::Global;
 use std::test::Fail;
 use xc_data::Chunk;
-use xc_model::Rules;
-use xc_turnstile::{Entered, Origin, Pass, Turnstile, enter_two};
+use xc_model::{Origin, Rules};
+use xc_turnstile::{Entered, Pass, Turnstile, enter_two};
 
 fn new_notes(alloc: Global) -> Result<Notes, Fail> {
     let text = Chunk::new(alloc, b"job a\ntx\ncommit\nend\n")?;

@@ -1,6 +1,6 @@
 use Rattle.std.proofs.Common.{refl, sym, subst}
 use Rattle.std.specs.Prelude.{IfSome, map, string_bytes}
-use Rattle.xc_turns.proofs.Orders.{alone_opened}
+use Rattle.xc_turns.proofs.Laws.{alone_opened}
 use Rattle.xc_app.specs.Followed.{IsFollowed}
 use Rattle.xc_app.proofs.Finishing.{finished}
 use Rattle.xc_app.proofs.Following.{followed}

@@ -6,7 +6,7 @@ use Rattle.xc_data.specs.declared.call.Call.TheVariants as call
 use Rattle.xc_data.specs.declared.call.Reply.{Reply}
 use Rattle.xc_data.specs.Calls.{is_late}
 use Rattle.xc_script.specs.Slots.{goes_back, kept_behind}
-use Rattle.xc_script.proofs.SlotEnds.{kept_ahead}
+use Rattle.xc_script.proofs.Laws.{kept_ahead}
 use Rattle.xc_asked.proofs.kept.kept_count.Goals as goal
 
 -- no more calls are kept than are made

@@ -1,5 +1,5 @@
 use Rattle.std.proofs.Common.{drop, ◌∙◌, subst}
-use Rattle.xc_script.proofs.Backs.{drop_there}
+use Rattle.xc_script.proofs.Laws.{drop_there}
 use Rattle.xc_asked.specs.Walking.{walk_there}
 use Rattle.xc_asked.proofs.Following.{IsFollowing, ended_by, step_on}
 use Rattle.xc_asked.proofs.walk.follow.Goals as goal

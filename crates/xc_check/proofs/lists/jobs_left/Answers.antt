@@ -3,10 +3,10 @@ use Rattle.std.specs.List.{AllZip}
 use Rattle.std.specs.Prelude.{slice_get}
 use Rattle.std.specs.declared.option.Option.TheVariants.{Some}
 use Rattle.std.proofs.lemmas.Option.{slice_get_read}
-use Rattle.xc_data.proofs.Lists.{get_map}
+use Rattle.xc_data.proofs.Laws.{get_map}
 use Rattle.xc_tail.specs.Tails.{IsToldOf}
 use Rattle.xc_tail.specs.declared.job_left.JobLeft.{JobLeft}
-use Rattle.xc_turns.proofs.Halves.{script_job_in, standing_in}
+use Rattle.xc_turns.proofs.Laws.{script_job_in, standing_in}
 use Rattle.xc_check.proofs.Places.{IsJobAt, job_at, told_more_at}
 use Rattle.xc_check.proofs.lists.jobs_left.Goals as goal
 

@@ -2,7 +2,7 @@ use Rattle.std.proofs.Common.{◌≡◌, List, map, take}
 use Rattle.std.specs.List.{AllZip}
 use Rattle.xc_model.specs.Progress.{Following}
 use Rattle.xc_tail.specs.Tails.{IsToldOf}
-use Rattle.xc_turns.proofs.Halves.{script_job_in, standing_in}
+use Rattle.xc_turns.proofs.Laws.{script_job_in, standing_in}
 use Rattle.xc_check.proofs.lists.jobs_left.Given as goal
 
 -- those of the jobs so far

@@ -4,7 +4,7 @@ use Rattle.std.proofs.lemmas.List.{length-map}
 use Rattle.xc_model.specs.Course.{Course}
 use Rattle.xc_model.specs.Progress.{progress_of}
 use Rattle.xc_tail.specs.Tails.{IsToldOf}
-use Rattle.xc_turns.proofs.Halves.{script_job_in, standing_in}
+use Rattle.xc_turns.proofs.Laws.{script_job_in, standing_in}
 use Rattle.xc_check.specs.TrueTexts.{telling}
 use Rattle.xc_check.proofs.Led.{course_is, jobs_are}
 use Rattle.xc_check.proofs.Verdicts.{false_tail, true_in}

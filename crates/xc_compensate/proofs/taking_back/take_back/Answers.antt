@@ -1,6 +1,6 @@
 use Rattle.std.proofs.Common.{sym, ◌∙◌, rules}
 use Rattle.xc_host.specs.Uses.{back_kind}
-use Rattle.xc_host.proofs.Called.{used_again, rises_sum}
+use Rattle.xc_host.proofs.Laws.{used_again, rises_sum}
 use Rattle.xc_compensate.proofs.Calling.{taken_back, failed_try}
 use Rattle.xc_compensate.proofs.taking_back.take_back.Goals as goal
 

@@ -1,4 +1,4 @@
-use Rattle.xc_turnstile.proofs.Fronts.{starts_trans}
+use Rattle.xc_turnstile.proofs.Laws.{starts_trans}
 use Rattle.xc_coop.proofs.Meeting.{met_seen}
 use Rattle.xc_coop.proofs.turns.poll_all.Goals as goal
 

@@ -1,6 +1,6 @@
 use Rattle.std.proofs.Common.{sym, subst}
 use Rattle.xc_host.specs.Kept.{KeepsData}
-use Rattle.xc_host.proofs.DataKept.{keeps_shut}
+use Rattle.xc_host.proofs.Laws.{keeps_shut}
 use Rattle.xc_deferred.proofs.doing.shut.Goals as goal
 
 pub returns-in-Ok-clause-keeps : goal.returns-in-Ok-clause-keeps

@@ -5,7 +5,7 @@ use Rattle.xc_host.specs.Contents.{Contents}
 use Rattle.xc_host.specs.Kept.{KeepsData}
 use Rattle.xc_host.specs.Pairs.{sent_from}
 use Rattle.xc_host.specs.declared.pipes.HostState.{HostState}
-use Rattle.xc_host.proofs.DataKept.{keeps_sent}
+use Rattle.xc_host.proofs.Laws.{keeps_sent}
 use Rattle.xc_deferred.proofs.Lifted.{nothing_done}
 use Rattle.xc_deferred.proofs.Sends.{failed_then, full_sent, looks_and_sends, looks_only, message_sent, shut_sent, told_full}
 use Rattle.xc_deferred.proofs.sending.send.Goals as goal

@@ -1,6 +1,6 @@
 use Rattle.std.proofs.Common.{rules, ◌∙◌, ◌+◌, ◌-◌, ◌≤◌, length, take, drop, arith, length-take, length-drop}
 use Rattle.xc_data.specs.declared.script.Kind.TheVariants.{Append}
-use Rattle.xc_host.proofs.Called.{moves_more}
+use Rattle.xc_host.proofs.Laws.{moves_more}
 use Rattle.xc_file.proofs.Appends.{append_more, append_grows}
 use Rattle.xc_file.proofs.FileUses.{append_stops}
 use Rattle.xc_file.proofs.appending.append_whole.Goals as goal

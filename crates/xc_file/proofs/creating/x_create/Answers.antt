@@ -5,10 +5,9 @@ use Rattle.xc_data.specs.Private.{lowest_vacant}
 use Rattle.xc_data.specs.declared.call.Call.TheVariants.{XCreate}
 use Rattle.xc_world.specs.Checks.{has_made_all}
 use Rattle.xc_world.specs.Trail.{create_record}
-use Rattle.xc_world.proofs.RecordsLeft.{create_of}
-use Rattle.xc_file.proofs.FileCalls.{refused_call, passed_call, told_grow}
-use Rattle.xc_file.proofs.Refusals.{by_much}
-use Rattle.xc_file.proofs.NameCalls.{much_none, created_acts, create_me}
+use Rattle.xc_world.proofs.Laws.{create_of}
+use Rattle.xc_calls.proofs.Laws.{refused_call, passed_call, told_grow, by_much, much_none}
+use Rattle.xc_file.proofs.NameCalls.{created_acts, create_me}
 use Rattle.xc_file.proofs.creating.x_create.Goals as goal
 
 pub returns-then-me-ge-MOST_MADE-clause-call : goal.returns-then-me-ge-MOST_MADE-clause-call

@@ -1,7 +1,8 @@
 use Rattle.std.proofs.Common.{refl, ap, sym, ◌∙◌}
 use Rattle.std.specs.Prelude.{is_some, Ok}
 use Rattle.xc_data.specs.declared.call.Call.TheVariants.{XLen}
-use Rattle.xc_file.proofs.FileCalls.{refused_call, replied_call, none_grow, at_handle}
+use Rattle.xc_calls.proofs.Laws.{refused_call, replied_call, none_grow}
+use Rattle.xc_file.proofs.FileCalls.{at_handle}
 use Rattle.xc_file.proofs.Refusals.{by_kind}
 use Rattle.xc_file.proofs.handles.x_len.Goals as goal
 

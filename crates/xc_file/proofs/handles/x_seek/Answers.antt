@@ -1,7 +1,7 @@
 use Rattle.std.proofs.Common.{ap, arith, sym, refl, ◌∙◌}
 use Rattle.std.specs.Prelude.{is_some}
 use Rattle.xc_data.specs.Private.{place_of}
-use Rattle.xc_file.proofs.FileCalls.{refused_call}
+use Rattle.xc_calls.proofs.Laws.{refused_call}
 use Rattle.xc_file.proofs.Refusals.{by_kind}
 use Rattle.xc_file.proofs.SeekCalls.{far_seek, near_seek}
 use Rattle.xc_file.proofs.handles.x_seek.Goals as goal

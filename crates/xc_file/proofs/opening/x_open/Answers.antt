@@ -1,7 +1,6 @@
 use Rattle.std.proofs.Common.{refl, ap, sym, ◌∙◌}
 use Rattle.std.specs.Prelude.{is_none}
-use Rattle.xc_file.proofs.FileCalls.{refused_call, passed_call, none_grow, always_err}
-use Rattle.xc_file.proofs.Refusals.{by_much}
+use Rattle.xc_calls.proofs.Laws.{refused_call, passed_call, none_grow, always_err, by_much}
 use Rattle.xc_file.proofs.opening.x_open.Goals as goal
 
 pub returns-in_default-clause-call : goal.returns-in_default-clause-call

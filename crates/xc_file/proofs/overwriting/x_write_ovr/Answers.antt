@@ -5,7 +5,8 @@ use Rattle.xc_data.specs.declared.private.Place.TheVariants.{File}
 use Rattle.xc_world.specs.Trail.{overwrite_record, done_of}
 use Rattle.xc_host.specs.Contents.{world_of}
 use Rattle.xc_file.specs.Checks.{refusal_at}
-use Rattle.xc_file.proofs.FileCalls.{refused_call, passed_call, some_grow, at_handle}
+use Rattle.xc_calls.proofs.Laws.{refused_call, passed_call}
+use Rattle.xc_file.proofs.FileCalls.{some_grow, at_handle}
 use Rattle.xc_file.proofs.Refusals.{refused_overwrite}
 use Rattle.xc_file.proofs.overwriting.x_write_ovr.Goals as goal
 

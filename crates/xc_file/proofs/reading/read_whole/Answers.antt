@@ -1,7 +1,7 @@
 use Rattle.std.proofs.Common.{◌+◌, ◌-◌, length, ◌∙◌, arith}
 use Rattle.xc_data.specs.declared.script.Kind.TheVariants.{ReadAt}
-use Rattle.xc_host.proofs.Called.{moves_more}
-use Rattle.xc_file.proofs.FileCalls.{always_err}
+use Rattle.xc_host.proofs.Laws.{moves_more}
+use Rattle.xc_calls.proofs.Laws.{always_err}
 use Rattle.xc_file.proofs.FileUses.{reads_end, reads_fail}
 use Rattle.xc_file.proofs.ReadFronts.{read_more_told}
 use Rattle.xc_file.proofs.reading.read_whole.Goals as goal

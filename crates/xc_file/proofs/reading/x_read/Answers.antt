@@ -1,6 +1,7 @@
 use Rattle.std.proofs.Common.{refl}
 use Rattle.xc_data.specs.declared.call.Call.TheVariants.{XRead}
-use Rattle.xc_file.proofs.FileCalls.{refused_call, passed_call, none_grow, at_handle, always_err}
+use Rattle.xc_calls.proofs.Laws.{refused_call, passed_call, none_grow, always_err}
+use Rattle.xc_file.proofs.FileCalls.{at_handle}
 use Rattle.xc_file.proofs.reading.x_read.Goals as goal
 
 pub returns-in-Err-clause-call : goal.returns-in-Err-clause-call

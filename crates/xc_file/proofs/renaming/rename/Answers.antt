@@ -1,6 +1,6 @@
 use Rattle.std.proofs.Common.{[], ◌∷◌, inl, inr, refl}
 use Rattle.xc_data.specs.declared.script.Kind.TheVariants.{Lookup}
-use Rattle.xc_host.proofs.Called.{used_then}
+use Rattle.xc_host.proofs.Laws.{used_then}
 use Rattle.xc_file.proofs.FileUses.{renames}
 use Rattle.xc_file.proofs.renaming.rename.Goals as goal
 

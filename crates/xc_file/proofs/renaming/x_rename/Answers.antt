@@ -2,10 +2,10 @@ use Rattle.std.proofs.Common.{◌≡◌, true, refl}
 use Rattle.xc_data.specs.declared.call.Call.TheVariants.{XRename}
 use Rattle.xc_world.specs.Replies.{may_reply}
 use Rattle.xc_world.specs.Trail.{rename_record}
-use Rattle.xc_world.proofs.RecordsLeft.{rename_of}
-use Rattle.xc_file.specs.Calls.{ActsAsPlain, IsMePassed, IsPassedReply}
+use Rattle.xc_world.proofs.Laws.{rename_of}
+use Rattle.xc_calls.specs.Calls.{ActsAsPlain, IsMePassed, IsPassedReply}
 use Rattle.xc_file.specs.Naming.{Renames}
-use Rattle.xc_file.proofs.FileCalls.{call_view_at, passed_call, told_grow, ok_more, always_err}
+use Rattle.xc_calls.proofs.Laws.{call_view_at, passed_call, told_grow, ok_more, always_err}
 use Rattle.xc_file.proofs.NameCalls.{rename_acts, rename_me}
 use Rattle.xc_file.proofs.renaming.x_rename.Goals as goal
 

@@ -1,6 +1,6 @@
 use Rattle.std.proofs.Common.{◌≡◌, ◌-◌, ◌∷◌, ◌∙◌, ap, length, take, drop, get_or, arith, rules}
 use Rattle.xc_tokens.specs.Quoted.{literal_of, then_rest}
-use Rattle.xc_tokens.proofs.Quotes.{read_on, whole}
+use Rattle.xc_tokens.proofs.Laws.{read_on, whole}
 use Rattle.xc_lines.proofs.quoted.past_literal.Goals as goal
 
 pub loop-rest-preserved : goal.loop-rest-preserved

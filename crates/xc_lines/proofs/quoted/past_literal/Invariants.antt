@@ -1,6 +1,6 @@
 use Rattle.std.proofs.Common.{◌≡◌, ◌≤◌, length}
 use Rattle.xc_tokens.specs.Quoted.{literal_of}
-use Rattle.xc_tokens.proofs.Quotes.{behind_bytes}
+use Rattle.xc_tokens.proofs.Laws.{behind_bytes}
 use Rattle.xc_lines.proofs.quoted.past_literal.Given as goal
 
 -- what the literal means so far, and the rest

@@ -1,6 +1,6 @@
 use Rattle.std.proofs.Common.{arith}
 use Rattle.std.proofs.KnownBytes.{Keeps-trans}
-use Rattle.xc_edge.proofs.Pieces.{wrote_more}
+use Rattle.xc_edge.proofs.Laws.{wrote_more}
 use Rattle.xc_links.proofs.duplex.send_whole.Goals as goal
 
 pub loop-done-preserved : goal.loop-done-preserved

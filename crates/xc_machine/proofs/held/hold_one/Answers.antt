@@ -1,5 +1,5 @@
 use Rattle.std.proofs.Common.{true, false, ◌++◌, ◌∷◌, [], ap, sym, ◌∙◌}
-use Rattle.xc_world.proofs.Holding.{held_tested}
+use Rattle.xc_world.proofs.Laws.{held_tested}
 use Rattle.xc_machine.proofs.held.hold_one.Goals as goal
 
 pub returns-then-holds : goal.returns-then-holds

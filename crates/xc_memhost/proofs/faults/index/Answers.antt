@@ -2,7 +2,7 @@ use Rattle.std.proofs.Common.{[], ap, ◌∙◌, arith}
 use Rattle.std.proofs.lemmas.Option.{unwrap_or-slice_get}
 use Rattle.xc_data.specs.Kinds.{place_of}
 use Rattle.xc_memhost.specs.Faults.{any_within}
-use Rattle.xc_host.proofs.Places.{place_bound}
+use Rattle.xc_host.proofs.Laws.{place_bound}
 use Rattle.xc_memhost.proofs.Listed.{of_place}
 use Rattle.xc_memhost.proofs.faults.index.Goals as goal
 

@@ -3,8 +3,8 @@ use Rattle.std.specs.Prelude.{Option}
 use Rattle.xc_world.specs.Run.{given_back}
 use Rattle.xc_buffers.specs.Changes.{FindsBytes}
 use Rattle.xc_buffers.specs.Views.{KeptView}
-use Rattle.xc_file.proofs.FileCalls.{always_err}
-use Rattle.xc_pipe.specs.Reading.{back}
+use Rattle.xc_calls.proofs.Laws.{always_err}
+use Rattle.xc_calls.specs.Taking.{back}
 use Rattle.xc_buffers.specs.Items.{kept_bytes}
 use Rattle.xc_pipe.proofs.Takings.{none_taken, taken_joined}
 use Rattle.xc_pipe.proofs.holding.take_kept.Goals as goal

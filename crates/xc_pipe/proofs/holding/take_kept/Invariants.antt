@@ -2,7 +2,7 @@ use Rattle.std.proofs.Common.{◌≡◌, ◌-◌, ◌≤◌, length}
 use Rattle.xc_buffers.specs.Items.{AreKept}
 use Rattle.xc_world.specs.Run.{given_back}
 use Rattle.xc_world.specs.World.{World}
-use Rattle.xc_pipe.specs.Reading.{back}
+use Rattle.xc_calls.specs.Taking.{back}
 use Rattle.xc_pipe.proofs.holding.take_kept.Given as goal
 
 -- a front was taken so far, and no room was lost

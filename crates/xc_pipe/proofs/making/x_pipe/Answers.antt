@@ -5,13 +5,11 @@ use Rattle.xc_data.specs.Private.{lowest_vacant}
 use Rattle.xc_data.specs.declared.call.Call.TheVariants.{XPipe}
 use Rattle.xc_world.specs.Act.Names.{next_num}
 use Rattle.xc_world.specs.Checks.{has_made_all}
-use Rattle.xc_deferred.proofs.Lifted.{uses_fronted}
-use Rattle.xc_file.proofs.FileCalls.{refused_call, passed_call, told_grow}
-use Rattle.xc_file.proofs.NameCalls.{much_none}
-use Rattle.xc_file.proofs.Refusals.{by_much}
+use Rattle.xc_deferred.proofs.Laws.{uses_fronted}
+use Rattle.xc_calls.proofs.Laws.{refused_call, passed_call, told_grow, much_none, by_much, before_fronted}
 use Rattle.xc_host.specs.Fronted.{before, fronted}
 use Rattle.xc_pipe.specs.Making.{made_record}
-use Rattle.xc_pipe.proofs.Made.{before_fronted, made_acts, made_me, made_kind, made_recorded, made_reply}
+use Rattle.xc_pipe.proofs.Made.{made_acts, made_me, made_kind, made_recorded, made_reply}
 use Rattle.xc_pipe.proofs.making.x_pipe.Goals as goal
 
 pub returns-then-me-ge-MOST_MADE-clause-call : goal.returns-then-me-ge-MOST_MADE-clause-call

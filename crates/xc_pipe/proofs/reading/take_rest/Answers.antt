@@ -10,10 +10,12 @@ use Rattle.xc_host.specs.declared.pipes.Took.{Took}
 use Rattle.xc_host.specs.declared.pipes.Took.TheVariants.{Empty, End}
 use Rattle.xc_host.specs.declared.pipes.Took.TheVariants as took
 use Rattle.xc_world.specs.Run.{given_back}
-use Rattle.xc_pipe.specs.Reading.{Leads, TakesUntil, back}
+use Rattle.xc_pipe.specs.Reading.{Leads, TakesUntil}
+use Rattle.xc_calls.specs.Taking.{back}
 use Rattle.xc_pipe.specs.Taking.{TakesAfter}
-use Rattle.xc_host.proofs.DataKept.{keeps_then}
-use Rattle.xc_pipe.proofs.KeptData.{keeps_same, keeps_take}
+use Rattle.xc_host.proofs.Laws.{keeps_then}
+use Rattle.xc_calls.proofs.Laws.{keeps_same}
+use Rattle.xc_pipe.proofs.KeptData.{keeps_take}
 use Rattle.xc_pipe.proofs.Takings.{fails_back, rest_joined, taken_there}
 use Rattle.xc_pipe.proofs.TakeRuns.{takes_end, takes_fail, takes_more}
 use Rattle.xc_pipe.proofs.Behind.{GoesOn, back_after, found_after, goes_further}

@@ -5,7 +5,7 @@ use Rattle.xc_data.specs.declared.entry.Entry.{Entry}
 use Rattle.xc_turnstile.specs.declared.view.View.{View}
 use Rattle.xc_turnstile.specs.Known.{Known}
 use Rattle.xc_turnstile.specs.Views.{BeginsWith}
-use Rattle.xc_turnstile.proofs.Fronts.{starts_trans}
+use Rattle.xc_turnstile.proofs.Laws.{starts_trans}
 use Rattle.xc_poll.specs.Crews.{shares_of}
 use Rattle.xc_poll.specs.Tasks.{Task}
 use Rattle.xc_poll.proofs.Gathers.{events_further, longer_begins}

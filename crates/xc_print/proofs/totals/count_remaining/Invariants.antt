@@ -1,5 +1,5 @@
 use Rattle.std.proofs.Common.{◌≡◌, ◌+◌, ◌≤◌, drop, count_by}
-use Rattle.xc_failure.specs.Effects.{effect_remains}
+use Rattle.xc_world.specs.Remains.{effect_remains}
 use Rattle.xc_print.proofs.totals.count_remaining.Given as goal
 
 -- what is counted and what is left are all

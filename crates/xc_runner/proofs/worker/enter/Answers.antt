@@ -1,5 +1,5 @@
 use Rattle.std.proofs.Common.{arith, refl}
-use Rattle.xc_turnstile.proofs.Passes.{outside_further}
+use Rattle.xc_turnstile.proofs.Laws.{outside_further}
 use Rattle.xc_runner.proofs.worker.enter.Goals as goal
 
 pub loop-init : goal.loop-init

@@ -1,6 +1,6 @@
 use Rattle.std.proofs.Common.{ap}
 use Rattle.xc_runner.specs.Walks.{over, picked, turning}
-use Rattle.xc_turnstile.proofs.Passes.{goes_further}
+use Rattle.xc_turnstile.proofs.Laws.{goes_further}
 use Rattle.xc_runner.proofs.Stories.{finds_none, leads_further, leads_pick}
 use Rattle.xc_runner.proofs.worker.work.Goals as goal
 

@@ -1,5 +1,5 @@
 use Rattle.std.proofs.Common.{true, false, sym, ◌∙◌}
-use Rattle.xc_turnstile.proofs.Passes.{goes_further}
+use Rattle.xc_turnstile.proofs.Laws.{goes_further}
 use Rattle.xc_runner.proofs.Stories.{leads_further, leads_turn}
 use Rattle.xc_runner.proofs.worker.work_job.Goals as goal
 

@@ -1,7 +1,7 @@
 use Rattle.xc_model.specs.Progress.{opening_progress}
 use Rattle.xc_serial.proofs.Finals.{all_are_done}
 use Rattle.xc_serial.proofs.Remains.{nothing_remains}
-use Rattle.xc_turns.proofs.Ways.{joint_of_parts}
+use Rattle.xc_turns.proofs.Laws.{joint_of_parts}
 use Rattle.xc_serial.proofs.runs.an_undisturbed_run_is_done.Goals as goal
 
 pub returns-clause-done : goal.returns-clause-done

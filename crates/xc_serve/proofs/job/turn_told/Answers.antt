@@ -3,13 +3,13 @@ use Rattle.std.specs.declared.option.Option.TheVariants.{Some}
 use Rattle.xc_data.specs.declared.entry.Event.TheVariants.{Turned}
 use Rattle.xc_station.specs.Events.{IsEvent, meaning_of}
 use Rattle.xc_station.specs.Stations.{StationView}
-use Rattle.xc_turnstile.specs.declared.view.Origin.{Origin}
+use Rattle.xc_model.specs.declared.origin.Origin.{Origin}
 use Rattle.xc_turnstile.specs.declared.view.View.{View}
 use Rattle.xc_turnstile.specs.Views.{added}
 use Rattle.xc_serve.specs.Gains.{TellsTurn}
 use Rattle.xc_serve.proofs.Blocks.{own_known}
 use Rattle.xc_serve.proofs.Gained.{event_next, unboxed}
-use Rattle.xc_turnstile.proofs.Passes.{gains_at}
+use Rattle.xc_turnstile.proofs.Laws.{gains_at}
 use Rattle.xc_serve.proofs.job.turn_told.Goals as goal
 
 pub returns : goal.returns

@@ -1,11 +1,9 @@
 use Rattle.std.proofs.Common.{refl, ap}
 use Rattle.xc_data.specs.declared.call.Call.TheVariants.{XPair}
 use Rattle.xc_world.specs.Act.Names.{next_num}
-use Rattle.xc_deferred.proofs.Lifted.{uses_fronted}
-use Rattle.xc_file.proofs.FileCalls.{refused_call, passed_call, told_grow}
-use Rattle.xc_file.proofs.Refusals.{by_much}
+use Rattle.xc_deferred.proofs.Laws.{uses_fronted}
+use Rattle.xc_calls.proofs.Laws.{refused_call, passed_call, told_grow, by_much, before_fronted}
 use Rattle.xc_host.specs.Fronted.{before, fronted}
-use Rattle.xc_pipe.proofs.Made.{before_fronted}
 use Rattle.xc_socket.specs.Making.{made_record}
 use Rattle.xc_socket.proofs.Made.{all_made, made_acts, made_me, made_kind, made_recorded, made_reply, room_for_pair, too_few}
 use Rattle.xc_socket.proofs.making.x_pair.Goals as goal

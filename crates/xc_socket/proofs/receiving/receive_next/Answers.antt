@@ -1,7 +1,7 @@
 use Rattle.std.proofs.Common.{subst}
 use Rattle.std.specs.Prelude.{Ok}
 use Rattle.xc_host.specs.declared.pipes.Took.{Took}
-use Rattle.xc_pipe.specs.Taking.{TakesMessageKept}
+use Rattle.xc_socket.specs.Receiving.{TakesMessageKept}
 use Rattle.xc_socket.proofs.Behind.{given_message}
 use Rattle.xc_socket.proofs.receiving.receive_next.Goals as goal
 

@@ -1,8 +1,7 @@
 use Rattle.std.proofs.Common.{refl}
 use Rattle.xc_data.specs.declared.call.Call.TheVariants.{XRecvmsg}
-use Rattle.xc_file.proofs.FileCalls.{refused_call, passed_call, none_grow}
+use Rattle.xc_calls.proofs.Laws.{refused_call, passed_call, none_grow, err_before, err_logical}
 use Rattle.xc_host.specs.Fronted.{before, fronted}
-use Rattle.xc_pipe.proofs.ReadCalls.{err_before, err_logical}
 use Rattle.xc_socket.proofs.receiving.x_recvmsg.Goals as goal
 
 pub returns-in-Err-clause-call : goal.returns-in-Err-clause-call
@@ -19,12 +18,12 @@ returns-in-Ok-clause-call g c =
     c.receive_open.result c.in-Ok.ensures.checks (next.passes c.args.h number undo c.in-Ok.ensures.open c.in-Ok.ensures.checks)
     (none_grow (fronted model) (XRecvmsg c.args.h) _ _ c.receive_open.result refl (λ r. refl) (λ r w. refl))
     (err_before model (record { host = c.args.host.now; items = c.args.kept.now.items; me = c.args.me.now })
-    (record { host = c.receive_open.new.host; items = c.receive_open.new.kept.items; me = c.receive_open.new.me }) c.in-Ok.at.pair undo c.receive_open.result
+    (record { host = c.receive_open.new.host; items = c.receive_open.new.kept.items; me = c.receive_open.new.me }) undo c.receive_open.result
     next.err)
 
 pub returns-in-Ok-clause-err : goal.returns-in-Ok-clause-err
 returns-in-Ok-clause-err g c =
     let model = g.H.Host.model in
     λ t. err_logical model (record { host = c.args.host.now; items = c.args.kept.now.items; me = c.args.me.now })
-    (record { host = c.receive_open.new.host; items = c.receive_open.new.kept.items; me = c.receive_open.new.me }) c.in-Ok.at.pair c.receive_open.result
+    (record { host = c.receive_open.new.host; items = c.receive_open.new.kept.items; me = c.receive_open.new.me }) c.receive_open.result
     (c.receive_open.ensures.err t)

@@ -1,6 +1,6 @@
 use Rattle.std.proofs.Common.{◌≡◌, [], None, false, arith, ap, refl, subst, sym, ◌∙◌, Ok, IsTrue}
 use Rattle.xc_data.specs.declared.call.Call.TheVariants as call
-use Rattle.xc_file.specs.Calls.{IsFileCall}
+use Rattle.xc_calls.specs.Calls.{IsHostCall}
 use Rattle.xc_buffers.specs.Items.{keeps_pair, kept_bytes}
 use Rattle.xc_world.specs.Act.Names.{next_num}
 use Rattle.xc_station.specs.Acting.{IsFreeFor, IsLentFor, IsSourceIn, acting}
@@ -76,7 +76,7 @@ returns-in-XLen-clause-acted g c =
     let old = acting c.args.host.now c.args.buffers.now.kept c.args.words.now c.args.tx.now in
     let new = record old { host = c.x_len.new.host } in
     file_acted g.H.Host.model _ _ old new _ c.in-XLen.is refl refl refl refl refl
-    (subst (λ (m : Private). IsFileCall g.H.Host.model (call.XLen c.in-XLen.h) (record (calling old) { me = m }) (record (calling new) { me = m })
+    (subst (λ (m : Private). IsHostCall g.H.Host.model (call.XLen c.in-XLen.h) (record (calling old) { me = m }) (record (calling new) { me = m })
     (Ok c.x_len.result)) c.deref.ensures (e.call c.args.tx.now.number c.args.tx.now.undo)) refl
     c.requires.may.stored e.now
 

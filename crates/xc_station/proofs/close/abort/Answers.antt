@@ -1,6 +1,6 @@
 use Rattle.std.proofs.Common.{◌≡◌, sym, ap, ◌∙◌, subst, ◌⊎◌, length, arith}
 use Rattle.xc_model.specs.Moment.{TxView, Idle, active_in}
-use Rattle.xc_wordlocks.specs.Table.{Holds}
+use Rattle.xc_locks.specs.Table.{Holds}
 use Rattle.xc_station.specs.Jobs.{job_view, tx_view}
 use Rattle.xc_station.specs.Moments.{Frees}
 use Rattle.xc_station.proofs.Closed.{its_active, same_cause, abort_behind, abort_entry}

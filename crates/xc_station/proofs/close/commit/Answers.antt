@@ -7,7 +7,7 @@ use Rattle.xc_model.specs.declared.phase.Phase.TheVariants.{Committing}
 use Rattle.xc_station.specs.declared.tx.Tx.{Tx}
 use Rattle.xc_station.specs.Jobs.{begun_of, outcome_in, job_view, tx_view}
 use Rattle.xc_model.specs.Entering.{entry_of}
-use Rattle.xc_wordlocks.specs.Table.{Holds}
+use Rattle.xc_locks.specs.Table.{Holds}
 use Rattle.xc_station.specs.Moments.{Frees}
 use Rattle.xc_station.proofs.Closed.{its_active, same_active, commit_entry, commit_behind}
 use Rattle.xc_station.proofs.close.commit.Goals as goal

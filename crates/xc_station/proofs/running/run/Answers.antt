@@ -1,7 +1,7 @@
 use Rattle.std.proofs.Common.{◌≡◌, ℕ, true, Some, refl, subst, sym, ap, ◌∙◌}
 use Rattle.std.specs.Prelude.{option_copied}
 use Rattle.xc_sentinel.specs.Seating.{seat_in}
-use Rattle.xc_wordlocks.specs.Table.{Holds}
+use Rattle.xc_locks.specs.Table.{Holds}
 use Rattle.xc_model.specs.Setting.{setting}
 use Rattle.xc_model.specs.Moment.{TxView, JobView}
 use Rattle.xc_model.specs.Movers.{with_tx, mover}

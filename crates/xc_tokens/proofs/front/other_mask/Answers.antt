@@ -2,7 +2,7 @@ use Rattle.std.proofs.Common.{not, refl}
 use Rattle.std.proofs.lemmas.Simd.{zip2_of_maps, zip2_splat, length-chunk}
 use lib.Lanes.{chunk}
 use Rattle.xc_tokens.specs.Tokens.{is_blank}
-use Rattle.xc_lanes.proofs.Lanes.{mask_of}
+use Rattle.xc_lanes.proofs.Laws.{mask_of}
 use Rattle.xc_tokens.proofs.front.other_mask.Goals as goal
 
 pub returns : goal.returns

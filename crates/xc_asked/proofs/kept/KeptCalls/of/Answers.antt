@@ -1,5 +1,5 @@
 use Rattle.std.proofs.Common.{sym}
-use Rattle.xc_script.proofs.SlotEnds.{kept_ahead}
+use Rattle.xc_script.proofs.Laws.{kept_ahead}
 use Rattle.xc_asked.proofs.kept.KeptCalls.of.Goals as goal
 
 pub returns : goal.returns

@@ -7,7 +7,7 @@ use Rattle.xc_world.specs.Ends.{Ending, remains, with_remains}
 use Rattle.xc_world.specs.Run.{asked_of}
 use Rattle.xc_world.specs.Sound.{IsSound}
 use Rattle.xc_world.specs.World.{World, beginning, no_handles}
-use Rattle.xc_machine.proofs.MachineRemain.{remains_words}
+use Rattle.xc_machine.proofs.Laws.{remains_words}
 use Rattle.xc_model.specs.Course.{Course, Standing, after_course, standing_abort}
 use Rattle.xc_model.specs.Progress.{private_of}
 use Rattle.xc_judge.specs.Judged.{IsNumbered}

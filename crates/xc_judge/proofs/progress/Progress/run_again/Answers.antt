@@ -6,7 +6,7 @@ use Rattle.xc_world.specs.Sound.{IsReady, IsSound}
 use Rattle.xc_world.specs.World.{State, World}
 use Rattle.xc_machine.specs.Replay.{AreReplayed}
 use Rattle.xc_machine.specs.declared.traced.Traced.{Traced}
-use Rattle.xc_machine.proofs.MachineReplay.{if_some}
+use Rattle.xc_machine.proofs.Laws.{if_some}
 use Rattle.xc_model.specs.Course.{Course}
 use Rattle.xc_model.specs.Machine.{HasReplies}
 use Rattle.xc_model.specs.Progress.{body_of, private_of}

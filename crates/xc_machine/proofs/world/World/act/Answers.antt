@@ -1,7 +1,7 @@
 use Rattle.std.proofs.Common.{subst}
 use Rattle.xc_world.specs.Act.Step.{Stepped}
 use Rattle.xc_world.specs.Sound.{IsSound}
-use Rattle.xc_world.proofs.Sound.{act_sound}
+use Rattle.xc_world.proofs.Laws.{act_sound}
 use Rattle.xc_machine.proofs.world.World.act.Goals as goal
 
 pub returns-clause-sound : goal.returns-clause-sound

@@ -1,7 +1,7 @@
 use Rattle.std.proofs.Common.{subst}
 use Rattle.xc_world.specs.Late.{Ended}
 use Rattle.xc_world.specs.Sound.{IsSound}
-use Rattle.xc_world.proofs.SoundLate.{late_sound}
+use Rattle.xc_world.proofs.Laws.{late_sound}
 use Rattle.xc_machine.proofs.world.World.late.Goals as goal
 
 pub returns-clause-sound : goal.returns-clause-sound

@@ -2,7 +2,7 @@ use Rattle.std.proofs.Common.{◌≤◌, length, subst, sym}
 use Rattle.xc_world.specs.World.{World, beginning}
 use Rattle.xc_world.specs.Sound.{IsSound}
 use Rattle.xc_world.specs.Opening.{bare, opening_handles}
-use Rattle.xc_world.proofs.SoundOpening.{opening_words, opening_sound}
+use Rattle.xc_world.proofs.Laws.{opening_words, opening_sound}
 use Rattle.xc_machine.proofs.world.World.of.Goals as goal
 
 pub returns-clause-sound : goal.returns-clause-sound

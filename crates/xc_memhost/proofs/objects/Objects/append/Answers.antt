@@ -2,7 +2,7 @@ use Rattle.std.proofs.Common.{ap, sym, ◌∙◌, ◌++◌, is_some}
 use Rattle.std.specs.FinMap as map
 use Rattle.std.proofs.lemmas.Result.{on_ok_weaker, on_err_weaker}
 use Rattle.xc_host.specs.Contents.{appended}
-use Rattle.xc_world.proofs.SoundParts.{there_put}
+use Rattle.xc_world.proofs.Laws.{there_put}
 use Rattle.xc_memhost.proofs.Bodies.{changed_back, same_back}
 use Rattle.xc_memhost.proofs.objects.Objects.append.Goals as goal
 

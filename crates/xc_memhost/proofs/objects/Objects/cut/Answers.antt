@@ -1,7 +1,7 @@
 use Rattle.std.proofs.Common.{ap, sym, ◌∙◌, is_some, take}
 use Rattle.std.specs.FinMap as map
 use Rattle.xc_host.specs.Contents.{shortened}
-use Rattle.xc_world.proofs.SoundParts.{there_put}
+use Rattle.xc_world.proofs.Laws.{there_put}
 use Rattle.xc_memhost.proofs.Bodies.{changed_back}
 use Rattle.xc_memhost.proofs.objects.Objects.cut.Goals as goal
 

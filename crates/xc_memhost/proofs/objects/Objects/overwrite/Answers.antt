@@ -2,7 +2,7 @@ use Rattle.std.proofs.Common.{ap, sym, ◌∙◌, is_some}
 use Rattle.std.specs.FinMap as map
 use Rattle.xc_host.specs.Contents.{wrote}
 use Rattle.xc_world.specs.Act.Files.{overwritten}
-use Rattle.xc_world.proofs.SoundParts.{there_put}
+use Rattle.xc_world.proofs.Laws.{there_put}
 use Rattle.xc_memhost.proofs.Bodies.{changed_back}
 use Rattle.xc_memhost.proofs.objects.Objects.overwrite.Goals as goal
 

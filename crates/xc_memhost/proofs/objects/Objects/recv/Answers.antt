@@ -3,7 +3,7 @@ use Rattle.std.specs.FinMap as map
 use Rattle.std.specs.Prelude.{unwrap_or}
 use Rattle.xc_host.specs.Pairs.{after_receipt, pair_in}
 use Rattle.xc_world.specs.World.{empty_pair}
-use Rattle.xc_world.proofs.SoundParts.{there_put}
+use Rattle.xc_world.proofs.Laws.{there_put}
 use Rattle.xc_memhost.specs.Pairs.{received_of}
 use Rattle.xc_memhost.proofs.Bodies.{pair_received, received_is}
 use Rattle.xc_memhost.proofs.objects.Objects.recv.Goals as goal

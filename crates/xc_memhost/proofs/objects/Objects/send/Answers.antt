@@ -4,7 +4,7 @@ use Rattle.std.specs.FinMap as map
 use Rattle.xc_host.specs.Pairs.{sent_from}
 use Rattle.xc_world.specs.Late.{sent_to}
 use Rattle.xc_world.specs.World.{other_side}
-use Rattle.xc_world.proofs.SoundParts.{there_put}
+use Rattle.xc_world.proofs.Laws.{there_put}
 use Rattle.xc_memhost.proofs.Bodies.{pair_changed, pair_same}
 use Rattle.xc_memhost.proofs.objects.Objects.send.Goals as goal
 

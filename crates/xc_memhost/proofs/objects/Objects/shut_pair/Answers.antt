@@ -2,7 +2,7 @@ use Rattle.std.proofs.Common.{ap, sym, ◌∙◌, true, is_some}
 use Rattle.std.specs.FinMap as map
 use Rattle.xc_data.specs.declared.object.Object.TheVariants.{Pair}
 use Rattle.xc_host.specs.Pipes.{shut_in}
-use Rattle.xc_world.proofs.SoundParts.{there_put}
+use Rattle.xc_world.proofs.Laws.{there_put}
 use Rattle.xc_memhost.proofs.Bodies.{pair_changed}
 use Rattle.xc_memhost.proofs.objects.Objects.shut_pair.Goals as goal
 

@@ -4,7 +4,7 @@ use Rattle.std.specs.FinMap as map
 use Rattle.std.specs.Prelude.{unwrap_or}
 use Rattle.xc_host.specs.Pipes.{pipe_in, taken_from}
 use Rattle.xc_world.specs.World.{empty_pipe}
-use Rattle.xc_world.proofs.SoundParts.{there_put}
+use Rattle.xc_world.proofs.Laws.{there_put}
 use Rattle.xc_memhost.proofs.Bodies.{pipe_changed, pipe_same}
 use Rattle.xc_memhost.proofs.objects.Objects.take.Goals as goal
 

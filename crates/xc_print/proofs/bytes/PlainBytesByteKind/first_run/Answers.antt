@@ -2,7 +2,7 @@ use Rattle.std.proofs.Common.{ℕ, cond, ltb, refl, ◌∙◌}
 use Rattle.std.proofs.lemmas.Simd.{zip2_of_maps, zip2_splat, zip2_splat_left, length-chunk}
 use lib.Lanes.{chunk}
 use Rattle.xc_print.specs.Bytes.{is_plain}
-use Rattle.xc_lanes.proofs.Lanes.{run_of}
+use Rattle.xc_lanes.proofs.Laws.{run_of}
 use Rattle.xc_print.proofs.bytes.PlainBytesByteKind.first_run.Goals as goal
 
 pub returns : goal.returns

@@ -1,7 +1,7 @@
 use Rattle.std.proofs.Common.{ap, sym, ◌∙◌}
 use Rattle.std.proofs.lemmas.Cmp.{nat_cmp_total}
 use Rattle.std.specs.FinMap as map
-use Rattle.xc_maps.proofs.Maps.{get-lookup}
+use Rattle.xc_maps.proofs.Laws.{get-lookup}
 use Rattle.xc_sentinel.proofs.key_tree.KeyTree.get.Goals as goal
 
 pub returns : goal.returns

@@ -2,7 +2,7 @@ use Rattle.std.proofs.Common.{ap, ◌∙◌}
 use Rattle.std.proofs.lemmas.Cmp.{nat_cmp_total}
 use Rattle.std.proofs.lemmas.Map.Lookups.{exact_unsigned}
 use Rattle.std.specs.FinMap as map
-use Rattle.xc_maps.proofs.Maps.{inserted}
+use Rattle.xc_maps.proofs.Laws.{inserted}
 use Rattle.xc_sentinel.proofs.key_tree.KeyTree.insert.Goals as goal
 
 pub returns-clause-ok : goal.returns-clause-ok

@@ -2,7 +2,7 @@ use Rattle.std.proofs.Common.{ap, sym, ◌∙◌}
 use Rattle.std.proofs.lemmas.Cmp.{nat_cmp_total}
 use Rattle.std.proofs.lemmas.Map.Lookups.{exact_unsigned}
 use Rattle.std.specs.FinMap as map
-use Rattle.xc_maps.proofs.Maps.{get-lookup, removed}
+use Rattle.xc_maps.proofs.Laws.{get-lookup, removed}
 use Rattle.xc_sentinel.proofs.key_tree.KeyTree.remove.Goals as goal
 
 pub returns-clause-value : goal.returns-clause-value

@@ -1,6 +1,6 @@
 use Rattle.std.proofs.Common.{sym, subst}
-use Rattle.xc_wordlocks.specs.Met.{IsCause, IsFirstMet}
-use Rattle.xc_wordlocks.specs.Table.{Table}
+use Rattle.xc_locks.specs.Met.{IsCause, IsFirstMet}
+use Rattle.xc_locks.specs.Table.{Table}
 use Rattle.xc_sentinel.specs.Asking.{IsAnswer}
 use Rattle.xc_sentinel.proofs.sentinels.Sentinels.ask.Goals as goal
 

@@ -4,10 +4,10 @@ use Rattle.xc_buffers.specs.Items.{AreKept}
 use Rattle.xc_compensate.specs.Records.{Records}
 use Rattle.xc_data.specs.declared.call.Call.TheVariants.{XRecvmsg}
 use Rattle.xc_data.specs.declared.entry.KeptItem.{KeptItem}
-use Rattle.xc_file.specs.Calls.{IsFileCall}
-use Rattle.xc_file.proofs.FileCalls.{always_err}
+use Rattle.xc_calls.specs.Calls.{IsHostCall}
+use Rattle.xc_calls.proofs.Laws.{always_err}
 use Rattle.xc_host.specs.Fronted.{before, fronted}
-use Rattle.xc_pipe.specs.Taking.{HasTaken}
+use Rattle.xc_calls.specs.Taking.{HasTaken}
 use Rattle.xc_station.specs.Lent.{IsBacked, Lent}
 use Rattle.xc_station.proofs.TakenAgain.{err_taken, none_taken_for}
 use Rattle.xc_station.proofs.Takings.{taking_keeps, taking_stops}
@@ -36,7 +36,7 @@ returns-in_err-reply-clause-backs g c =
 pub returns-clause-call : goal.returns-clause-call
 returns-clause-call g c =
     let items : c.make_room.new.kept.items ≡ c.args.self.now.kept = c.make_room.ensures.items ∙ ap (λ (l : Lent). l.kept) c.self.view_is in
-    λ number undo. subst (λ (ks : List KeptItem). IsFileCall (fronted g.H.Host.model) (XRecvmsg c.args.h)
+    λ number undo. subst (λ (ks : List KeptItem). IsHostCall (fronted g.H.Host.model) (XRecvmsg c.args.h)
     (record { host = before c.args.host.now ks; number = number; me = c.args.me.now; undo = undo })
     (record { host = before c.x_recvmsg.new.host c.x_recvmsg.new.kept.items; number = number; me = c.x_recvmsg.new.me; undo = undo })
     (Ok c.in_ok-reply.reply)) items (c.in_ok-reply.ensures.call number undo)

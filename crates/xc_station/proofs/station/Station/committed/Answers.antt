@@ -8,7 +8,7 @@ use Rattle.xc_model.specs.Setting.{setting}
 use Rattle.xc_model.specs.Started.{started_by}
 use Rattle.xc_model.specs.Rows.{IsTurn}
 use Rattle.xc_model.specs.Entering.{behind_commit, started_jobs}
-use Rattle.xc_turns.proofs.Grown.{AreIdle, started_idle}
+use Rattle.xc_turns.proofs.Laws.{AreIdle, started_idle}
 use Rattle.xc_data.specs.declared.entry.Turn.TheVariants as turn
 use Rattle.xc_station.specs.declared.job.Job.{Job}
 use Rattle.xc_station.specs.declared.job.Stage.TheVariants as PlainStage
@@ -18,7 +18,7 @@ use Rattle.xc_station.specs.Stations.{HasRooms, IsSteady, moment, now_of, room_o
 use Rattle.xc_station.proofs.Ahead.{ahead_kept}
 use Rattle.xc_station.proofs.BacksKept.{backs_joined, backs_made, backs_set, safe_without}
 use Rattle.xc_station.proofs.Joined.{backed_joined, children_joined, children_within, rooms_joined}
-use Rattle.xc_data.proofs.Lists.{get_map, length_set}
+use Rattle.xc_data.proofs.Laws.{get_map, length_set}
 use Rattle.xc_station.proofs.Ready.{fits_next, has_room}
 use Rattle.xc_station.proofs.RoomsKept.{rooms_entered}
 use Rattle.xc_station.proofs.Stages.{IsCommitted, IsThere, lent, committed_stage}

@@ -12,7 +12,7 @@ use Rattle.xc_station.specs.Moments.{marks_of}
 use Rattle.xc_station.specs.Stations.{moment, now_of, room_of, setting_of}
 use Rattle.xc_station.proofs.Ahead.{ahead_kept, taken_kept}
 use Rattle.xc_station.proofs.BacksKept.{backs_set, safe_idle}
-use Rattle.xc_data.proofs.Lists.{get_map}
+use Rattle.xc_data.proofs.Laws.{get_map}
 use Rattle.xc_station.proofs.Ready.{next_unseated}
 use Rattle.xc_station.proofs.RoomsKept.{rooms_idle_went, rooms_idle_halted, idle_untaken}
 use Rattle.xc_station.proofs.Stages.{IsThere, lent, idle_stage}

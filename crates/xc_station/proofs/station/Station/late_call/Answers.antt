@@ -23,7 +23,7 @@ use Rattle.xc_station.proofs.Waiting.{hosted_same, starts_set}
 use Rattle.xc_station.proofs.station.Station.late_call.Goals as goal
 use Rattle.xc_station.specs.Lent.{IsBacked}
 use Rattle.xc_station.proofs.Notes.{backed_jobs, still_backed}
-use Rattle.xc_data.proofs.Lists.{get_map}
+use Rattle.xc_data.proofs.Laws.{get_map}
 use Rattle.std.specs.declared.option.Option.TheVariants.{None, Some}
 
 pub end_late-requires : goal.end_late-requires

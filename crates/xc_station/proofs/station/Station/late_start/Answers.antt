@@ -20,7 +20,7 @@ use Rattle.xc_station.proofs.Ahead.{ahead_kept, taken_kept}
 use Rattle.xc_station.proofs.BacksKept.{backs_set, safe_ending}
 use Rattle.xc_station.proofs.Children.{lent_children, lent_seen, set_behind}
 use Rattle.xc_station.proofs.Notes.{backed_jobs, keeps_itself}
-use Rattle.xc_data.proofs.Lists.{get_map}
+use Rattle.xc_data.proofs.Laws.{get_map}
 use Rattle.xc_station.proofs.Rooms.{rooms_relined}
 use Rattle.xc_station.proofs.RoomsKept.{rooms_going}
 use Rattle.xc_station.proofs.Stages.{IsLating, IsThere, committing_stage}

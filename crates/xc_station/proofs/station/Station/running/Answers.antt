@@ -18,7 +18,7 @@ use Rattle.xc_station.proofs.station.Station.running.Goals as goal
 use Rattle.xc_station.specs.Lent.{IsBacked, notes_in}
 use Rattle.xc_model.specs.Moment.{TxView, active_in}
 use Rattle.xc_station.proofs.Notes.{backed_jobs, still_backed}
-use Rattle.xc_data.proofs.Lists.{get_map}
+use Rattle.xc_data.proofs.Laws.{get_map}
 use Rattle.std.specs.declared.option.Option.TheVariants.{Some}
 
 pub run-requires-clause-running : goal.run-requires-clause-running

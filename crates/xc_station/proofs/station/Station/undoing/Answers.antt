@@ -20,7 +20,7 @@ use Rattle.xc_station.proofs.station.Station.undoing.Goals as goal
 use Rattle.xc_station.proofs.Backed.{backed_undone}
 use Rattle.xc_station.specs.Lent.{AreBacked}
 use Rattle.xc_model.specs.Moment.{TxView, active_in}
-use Rattle.xc_data.proofs.Lists.{get_map}
+use Rattle.xc_data.proofs.Laws.{get_map}
 use Rattle.std.specs.declared.option.Option.TheVariants.{Some}
 
 pub undo-requires-clause-undoing : goal.undo-requires-clause-undoing

@@ -9,7 +9,7 @@ use Rattle.xc_station.specs.Jobs.{IsStage, doing_of, goes_on, job_view, job_view
 use Rattle.xc_station.specs.Stations.{moment, now_of, room_of, setting_of}
 use Rattle.xc_station.proofs.Ahead.{ahead_kept, taken_kept}
 use Rattle.xc_station.proofs.BacksKept.{backs_set, safe_without}
-use Rattle.xc_data.proofs.Lists.{get_map}
+use Rattle.xc_data.proofs.Laws.{get_map}
 use Rattle.xc_station.proofs.Ready.{fits_next, fits_failures, has_room}
 use Rattle.xc_station.proofs.RoomsKept.{rooms_entered, back_none}
 use Rattle.xc_station.proofs.Stages.{IsThere, IsUndone, lent, undone_stage}

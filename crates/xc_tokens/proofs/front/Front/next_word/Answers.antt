@@ -4,7 +4,7 @@ use Rattle.std.proofs.lemmas.List.Sums.{prefix_len-le-length}
 use Rattle.std.specs.List.{prefix_len}
 use Rattle.xc_tokens.specs.Front.{InText, is_mark, line_in}
 use Rattle.xc_tokens.specs.Tokens.{Word, is_blank, past_blanks, token_at}
-use Rattle.xc_lanes.proofs.BitRuns.{reaches}
+use Rattle.xc_lanes.proofs.Laws.{reaches}
 use Rattle.xc_tokens.proofs.FrontWords.{shorter, starts, word_before_blank, word_at_end}
 use Rattle.xc_tokens.proofs.Windows.{run_twice}
 use Rattle.xc_tokens.proofs.front.Front.next_word.Goals as goal

@@ -2,7 +2,7 @@ use Rattle.std.proofs.Common.{refl, ◌∙◌}
 use Rattle.std.proofs.lemmas.Simd.{zip2_of_maps, zip2_splat, length-chunk}
 use lib.Lanes.{chunk}
 use Rattle.xc_tokens.specs.Quoted.{is_itself}
-use Rattle.xc_lanes.proofs.Lanes.{run_of}
+use Rattle.xc_lanes.proofs.Laws.{run_of}
 use Rattle.xc_tokens.proofs.token.PlainBytesByteKind.first_run.Goals as goal
 
 pub returns : goal.returns

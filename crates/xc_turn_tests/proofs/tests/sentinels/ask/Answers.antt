@@ -1,8 +1,8 @@
 use Rattle.std.proofs.Common.{◌≡◌, ℕ, List, ap, sym, ◌∙◌}
 use Rattle.xc_data.specs.declared.claim.Claim.{Claim}
 use Rattle.xc_data.specs.Step.{Step}
-use Rattle.xc_wordlocks.specs.Table.{Holds, Table, claimed, held_mode, mode_in}
-use Rattle.xc_wordlocks.proofs.Held.{claimed-holding}
+use Rattle.xc_locks.specs.Table.{Holds, Table, claimed, held_mode, mode_in}
+use Rattle.xc_locks.proofs.Laws.{claimed-holding}
 use Rattle.xc_sentinel.specs.Asking.{Claiming, IsAnswer, held_after}
 use Rattle.xc_sentinel.specs.declared.seat.Verdict.{Verdict}
 use Rattle.xc_sentinel.specs.declared.seat.Verdict.TheVariants as verdict

@@ -1,5 +1,0 @@
-use Rattle.xc_buffers.proofs.Held.{pipe_gone}
-use Rattle.xc_buffers.proofs.laws.a_pipe_of_which_nothing_is_kept_may_go.Goals as goal
-
-pub returns : goal.returns
-returns c = pipe_gone

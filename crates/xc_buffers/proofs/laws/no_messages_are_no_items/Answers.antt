@@ -1,5 +1,0 @@
-use Rattle.xc_buffers.proofs.Held.{no_message_items}
-use Rattle.xc_buffers.proofs.laws.no_messages_are_no_items.Goals as goal
-
-pub returns : goal.returns
-returns c = no_message_items

@@ -1,0 +1,4 @@
+pub mod Fronted
+pub mod HostCalls
+pub mod Refusals
+pub mod Laws

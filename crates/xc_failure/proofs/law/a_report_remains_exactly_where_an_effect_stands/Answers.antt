@@ -1,5 +1,0 @@
-use Rattle.xc_failure.proofs.Legal.{something_left}
-use Rattle.xc_failure.proofs.law.a_report_remains_exactly_where_an_effect_stands.Goals as goal
-
-pub returns : goal.returns
-returns c = something_left

@@ -1,5 +1,0 @@
-use Rattle.xc_host.proofs.Writes.{keeps_length}
-use Rattle.xc_host.proofs.laws.a_write_keeps_the_length.Goals as goal
-
-pub returns : goal.returns
-returns c = keeps_length

@@ -1,0 +1,13 @@
+pub mod Orders
+pub mod Modes
+pub mod Rows
+pub mod ByWord
+pub mod ByRow
+pub mod Once
+pub mod Claimed
+pub mod Places
+pub mod Whole
+pub mod Held
+pub mod Released
+pub mod Free
+pub mod Laws

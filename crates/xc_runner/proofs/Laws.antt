@@ -1,0 +1,6 @@
+-- What other crates cite of this one's proofs: they import no other file of them.
+-- ---- Steps: Steps that don't wait, and those that wait for one that enters.
+-- one that lost now and then goes on
+pub use Rattle.xc_runner.proofs.Steps.{outside_goes}
+-- a pass that lost once more
+pub use Rattle.xc_runner.proofs.Steps.{held_outside}

@@ -1,5 +1,0 @@
-use Rattle.xc_wordlocks.proofs.claims.Claims.claim.Given as goal
-
--- the ledger is that of the blank
-abbrev pub ghosts-hold_all : goal.ghosts-hold_all
-ghosts-hold_all a = record { name = a.blank.name; parts = a.blank.parts }

@@ -1,5 +1,0 @@
-use Rattle.xc_wordlocks.proofs.claims.Claims.release_all.Given as goal
-
--- the ledger is that of the blank
-abbrev pub ghosts-release_uncounted : goal.ghosts-release_uncounted
-ghosts-release_uncounted a = record { name = a.blank.name; parts = a.blank.parts }

@@ -1,5 +1,0 @@
-use Rattle.xc_wordlocks.proofs.Held.{claimed-holding}
-use Rattle.xc_wordlocks.proofs.law.a_row_follows_the_held_list.Goals as goal
-
-pub returns : goal.returns
-returns c = claimed-holding

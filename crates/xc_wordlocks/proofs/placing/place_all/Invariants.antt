@@ -1,7 +1,0 @@
-use Rattle.std.proofs.Common.{take}
-use Rattle.xc_wordlocks.specs.Placing.{Placed}
-use Rattle.xc_wordlocks.proofs.placing.place_all.Given as goal
-
--- the claims so far have their places
-abbrev pub invariant-loop-claim : goal.invariant-loop-claim
-invariant-loop-claim g l = Placed l.tx (take l.claim-index l.claims) l.fn.holders l.holders l.added.items

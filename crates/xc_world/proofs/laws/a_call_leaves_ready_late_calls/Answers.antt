@@ -1,5 +1,0 @@
-use Rattle.xc_world.proofs.SoundReady.{act_leaves_ready}
-use Rattle.xc_world.proofs.laws.a_call_leaves_ready_late_calls.Goals as goal
-
-pub returns : goal.returns
-returns c = act_leaves_ready

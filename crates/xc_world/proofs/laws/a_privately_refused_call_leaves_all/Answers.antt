@@ -1,5 +1,0 @@
-use Rattle.xc_world.proofs.Refused.{act_refused_whole}
-use Rattle.xc_world.proofs.laws.a_privately_refused_call_leaves_all.Goals as goal
-
-pub returns : goal.returns
-returns c = act_refused_whole

@@ -1,5 +1,0 @@
-use Rattle.xc_world.proofs.Refused.{act_refused}
-use Rattle.xc_world.proofs.laws.a_refused_call_changes_nothing.Goals as goal
-
-pub returns : goal.returns
-returns c = act_refused

@@ -1,5 +1,0 @@
-use Rattle.xc_world.proofs.SoundOpening.{opening_sound}
-use Rattle.xc_world.proofs.laws.the_opening_is_sound.Goals as goal
-
-pub returns : goal.returns
-returns c = opening_sound

@@ -1,5 +1,0 @@
-use Rattle.xc_world.proofs.Runs.{late_within}
-use Rattle.xc_world.proofs.laws.what_fits_a_late_call_is_within_it.Goals as goal
-
-pub returns : goal.returns
-returns c = late_within
