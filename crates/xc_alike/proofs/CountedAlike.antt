@@ -12,7 +12,7 @@ use Rattle.xc_data.specs.declared.entry.Outcome.TheVariants.{Committed, Aborted}
 use Rattle.xc_data.specs.declared.undo.Undo.{Undo}
 use Rattle.xc_data.specs.declared.undo.UndoEnd.{UndoEnd}
 use Rattle.xc_world.specs.Remains.{effect_remains}
-use Rattle.xc_lines.specs.declared.shown.Standing.{Standing}
+use Rattle.xc_lines.specs.declared.shown.EffectShown.{EffectShown}
 use Rattle.xc_lines.specs.declared.shown.UndoKind.{UndoKind}
 use Rattle.xc_print.specs.Totals.{is_committed, is_aborted, outcome_remains, entry_remains, totals_of}
 use Rattle.xc_print.specs.declared.totals.Totals.{Totals}
@@ -29,7 +29,7 @@ faults_by (Committed late) records = count_by is_fault_end late
 faults_by (Aborted report) records = sum_by shown_faults records
 
 -- how many effects are shown
-abbrev remains_by : Outcome → List Standing → ℕ
+abbrev remains_by : Outcome → List EffectShown → ℕ
 remains_by (Committed late) effects = 0
 remains_by (Aborted report) effects = length effects
 

@@ -7,7 +7,7 @@ use Rattle.xc_data.specs.declared.entry.Entry.{Entry}
 use Rattle.xc_data.specs.declared.entry.Outcome.{Outcome}
 use Rattle.xc_data.specs.declared.entry.Outcome.TheVariants.{Committed, Aborted}
 use Rattle.xc_data.specs.declared.call.Call.{Call}
-use Rattle.xc_lines.specs.declared.shown.Standing.{Standing}
+use Rattle.xc_lines.specs.declared.shown.EffectShown.{EffectShown}
 use Rattle.xc_model.specs.Asked.{ScriptJob, StartsJobs, IsAskedEntry, jobs_outcome, script_job_of, jobs_behind, after_jobs}
 use Rattle.xc_model.specs.Course.{Course, Standing as Job, course_commit, course_outcome, course_standing, standing_abort, standing_of, after_course}
 use Rattle.xc_model.specs.EntryEnds.{cause_in}
@@ -30,7 +30,7 @@ by_bare of without e f alike = without e ∙ ap of (bare_alike e f alike) ∙ sy
 
 -- ---- the course
 -- what an outcome leads to, by the effects that are shown
-abbrev course_shown : Course → Job → Entry → List Standing → Outcome → Course
+abbrev course_shown : Course → Job → Entry → List EffectShown → Outcome → Course
 course_shown c f e effects (Committed late) = course_commit c f e late
 course_shown c f e effects (Aborted report) =
     record {
@@ -41,7 +41,7 @@ course_shown c f e effects (Aborted report) =
     }
 
 -- the same where the job is started
-abbrev course_where : Course → Entry → List Standing → Option Job → Course
+abbrev course_where : Course → Entry → List EffectShown → Option Job → Course
 course_where c e effects None = c
 course_where c e effects (Some f) = course_shown c f e effects e.outcome
 

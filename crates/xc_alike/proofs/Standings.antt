@@ -6,8 +6,8 @@ use Rattle.xc_data.specs.declared.undo.Undo.{Undo}
 use Rattle.xc_data.specs.declared.undo.Undo.TheVariants.{Bytes, Tail, Made, Moved, NewPipe, NewPair}
 use Rattle.xc_data.specs.declared.undo.UndoEnd.{UndoEnd}
 use Rattle.xc_data.specs.declared.undo.UndoEnd.TheVariants.{Undone, Failed, Blocked}
-use Rattle.xc_lines.specs.declared.shown.Standing.{Standing}
-use Rattle.xc_lines.specs.declared.shown.Standing.TheVariants as standing
+use Rattle.xc_lines.specs.declared.shown.EffectShown.{EffectShown}
+use Rattle.xc_lines.specs.declared.shown.EffectShown.TheVariants as standing
 use Rattle.xc_sheet.specs.Ends.{effect_shown}
 use Rattle.xc_shown.specs.Shown.{effects_shown}
 use Rattle.xc_world.specs.Act.Files.{overwritten}
@@ -17,7 +17,7 @@ use Rattle.xc_world.specs.Trail.{move_name, with_effect}
 use Rattle.xc_world.specs.World.{World, file_of, with_file, with_pipe, with_pair, empty_pipe, empty_pair}
 
 -- the world with an effect that a text shows
-abbrev pub with_standing : World → Standing → World
+abbrev pub with_standing : World → EffectShown → World
 with_standing w (standing.Bytes file at bytes) = with_file w file (overwritten at bytes (file_of w file))
 with_standing w (standing.Tail file from bytes) = with_file w file (file_of w file ++ bytes)
 with_standing w (standing.Made name num) = with_new_file w name num
@@ -26,7 +26,7 @@ with_standing w (standing.Pipe num) = with_pipe w num empty_pipe
 with_standing w (standing.Pair num) = with_pair w num empty_pair
 
 -- the same with several
-abbrev pub with_all_standing : World → List Standing → World
+abbrev pub with_all_standing : World → List EffectShown → World
 with_all_standing w [] = w
 with_all_standing w (effect ∷ effects) = with_all_standing (with_standing w effect) effects
 

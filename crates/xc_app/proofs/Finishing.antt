@@ -16,7 +16,7 @@ use Rattle.xc_outcome.specs.Runs.{IsSerialRun}
 use Rattle.xc_outcome.specs.Said.{Edges, IsDueWithEnd}
 use Rattle.xc_settings.specs.declared.chosen.Chosen.{Chosen}
 use Rattle.xc_settings.specs.Options.{settings_of}
-use Rattle.xc_station.specs.declared.start.End.{End}
+use Rattle.xc_station.specs.declared.run_result.End.{End}
 use Rattle.xc_station.specs.Stations.{StationView, KeepsOrigin, RanAlone}
 use Rattle.xc_app.specs.declared.start.Started.{Started}
 use Rattle.xc_app.specs.Headline.{IsFinished, IsRunOver, IsSaidAlone, RunsAlone, choice_in, choice_of, needs_threads}

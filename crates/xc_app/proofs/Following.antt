@@ -7,7 +7,7 @@ use Rattle.xc_data.specs.Step.{Step}
 use Rattle.xc_edge.specs.View.{StreamView}
 use Rattle.xc_host.specs.Model.{HostModel}
 use Rattle.xc_outcome.specs.Outcomes.{IsEndOf}
-use Rattle.xc_station.specs.declared.start.End.{End}
+use Rattle.xc_station.specs.declared.run_result.End.{End}
 use Rattle.xc_station.specs.Stations.{StationView}
 use Rattle.xc_app.specs.declared.start.Started.{Started}
 use Rattle.xc_app.specs.Followed.{IsFollowed}

@@ -8,7 +8,7 @@ use Rattle.xc_outcome.specs.Outcomes.{IsEndOf, IsStartOf}
 use Rattle.xc_outcome.specs.Runs.{IsInput}
 use Rattle.xc_settings.specs.declared.chosen.Chosen.{Chosen}
 use Rattle.xc_settings.specs.Options.{settings_of, KeepsBounds}
-use Rattle.xc_station.specs.declared.start.End.{End}
+use Rattle.xc_station.specs.declared.run_result.End.{End}
 use Rattle.xc_station.specs.Stations.{StationView}
 use Rattle.xc_app.specs.Parts.{TakeListed}
 

@@ -12,7 +12,7 @@ use Rattle.xc_outcome.specs.Runs.{IsEndOver, IsInput, IsSerialRun, chosen_seed}
 use Rattle.xc_outcome.specs.Said.{Edges, IsAnswered, IsFullRun, IsOneOf, IsSaidPlainly, IsUndisturbed}
 use Rattle.xc_settings.specs.declared.chosen.Chosen.{Chosen}
 use Rattle.xc_settings.specs.Options.{settings_of, KeepsBounds}
-use Rattle.xc_station.specs.declared.start.End.{End}
+use Rattle.xc_station.specs.declared.run_result.End.{End}
 use Rattle.xc_text.specs.Scripts.{parse_of}
 use Rattle.xc_app.specs.Lines.{usage_line}
 
@@ -50,14 +50,14 @@ module _ {H : Type 0} (model : HostModel H) where
     pub alone : RunsAlone chosen → IsSerialRun model end
 
   -- the bytes are a script, and this is the end of its run
-  abbrev pub IsRunOf : List ℕ → Chosen → H → End H → Type 0
-  IsRunOf bytes chosen host end = (parse_of bytes ≡ Ok end.opening.script) × IsRunOver chosen host end
+  abbrev pub IsChosenRunOf : List ℕ → Chosen → H → End H → Type 0
+  IsChosenRunOf bytes chosen host end = (parse_of bytes ≡ Ok end.opening.script) × IsRunOver chosen host end
 
   -- the words chose something, bytes were read from the source or generated, and this is the end of their run
-  abbrev pub IsRun : List (List ℕ) → Step StreamView → H → End H → Type 0
-  IsRun words source host end =
+  abbrev pub IsChosenRun : List (List ℕ) → Step StreamView → H → End H → Type 0
+  IsChosenRun words source host end =
       (chosen : Chosen) × (settings_of words ≡ Some chosen) × (bytes : List ℕ) × IsInput chosen.seed source bytes
-      × IsRunOf bytes chosen host end
+      × IsChosenRunOf bytes chosen host end
 
 -- with one worker and neither a schedule nor a seed, the run's text was written; and, where no fault is recorded, its lines but those on
 -- kept data are the text of the script alone
@@ -69,7 +69,7 @@ IsSaidAlone words old new end = (chosen : Chosen) → settings_of words ≡ Some
 pub record IsFinished {H : Type 0} (model : HostModel H) (words : List (List ℕ)) (edges : Edges) (handed : H) (finish : Finish H)
     : Type 0 where
   pub answered : IsAnswered (choice_of words) usage_line model.takes_scripts edges finish
-  pub run : IfSome finish.end (IsRun model words edges.source handed)
+  pub run : IfSome finish.end (IsChosenRun model words edges.source handed)
   pub complete : IfSome finish.end (λ end. IsUndisturbed end → IsFullRun finish.status end)
   pub plain : IsTrue model.tells → finish.status ≢ status.NoMemory → finish.status ≢ status.WriteFault
       → IfSome finish.end (IsSaidAlone words edges.sink.old edges.sink.new)

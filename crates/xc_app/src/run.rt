@@ -1,7 +1,7 @@
 ghost use Rattle.std.specs.Prelude.{◌≡◌, ◌≢◌, None, map, string_bytes, true};
 ghost use Rattle.std.specs.Prelude.{IfSome, IsSome, IsTrue};
 ghost use Rattle.xc_app.specs.Followed.{IsFollowed};
-ghost use Rattle.xc_app.specs.Headline.{IsFinished, IsRun, IsSaidAlone, choice_of, needs_threads as needs_threads_with, seed_of};
+ghost use Rattle.xc_app.specs.Headline.{IsFinished, IsChosenRun, IsSaidAlone, choice_of, needs_threads as needs_threads_with, seed_of};
 ghost use Rattle.xc_app.specs.Lines.{usage_line};
 ghost use Rattle.xc_app.specs.Parts.{IfFinished, IfStarted, IsStarted};
 ghost use Rattle.xc_outcome.specs.Said.{IsAnswered, IsFullRun, IsOneOf, IsUndisturbed};
@@ -95,7 +95,7 @@ pub fn xcalls_run<
     // later readers in front of its pipes and pairs, and the jobs' ends; aborted ones change only what their reports say
     // remains, and each conflict names a holder.
     ensures run { IfSome result.end (
-        IsRun H.model (map string_bytes words.now) (record { old = S.told source.old; new = S.told source.new }) host) }
+        IsChosenRun H.model (map string_bytes words.now) (record { old = S.told source.old; new = S.told source.new }) host) }
 
     // Where no attempt met another, no fault is recorded and no job found the journal full, each transaction is done with: it
     // committed, unless it aborted itself. Only memory or the sink can have been wanting.

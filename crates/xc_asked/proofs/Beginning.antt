@@ -75,6 +75,6 @@ few_next script job next read left same =
     omega (arith, less, few, same)
 
 -- ---- results
-pub on_ok : {A E : Type 0} (r : Result A E) (x : A) (P : Type 0) → r ≡ Ok x → OnOk r P → P
-on_ok (Ok y) x P is holds = holds
-on_ok (Err e) x P is holds = absurd (let no : Err e ≡ Ok x = is in cc)
+pub from_ok : {A E : Type 0} (r : Result A E) (x : A) (P : Type 0) → r ≡ Ok x → OnOk r P → P
+from_ok (Ok y) x P is holds = holds
+from_ok (Err e) x P is holds = absurd (let no : Err e ≡ Ok x = is in cc)

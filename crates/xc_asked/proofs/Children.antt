@@ -11,9 +11,9 @@ still_there (y ∷ xs) more zero x is = is
 still_there (y ∷ xs) more (suc at) x is = still_there xs more at x is
 
 -- with one more
-pub one_more : {A B : Type 0} (f : B → A) (front now new : List A) (bs : List B) (i : ℕ) (b : B) → i < length bs → b ≡ get_or bs i b
+pub mapped_one_more : {A B : Type 0} (f : B → A) (front now new : List A) (bs : List B) (i : ℕ) (b : B) → i < length bs → b ≡ get_or bs i b
     → now ≡ front ++ map f (take i bs) → new ≡ now ++ f b ∷ [] → new ≡ front ++ map f (take (i + 1) bs)
-one_more f front now new bs i b within there so went =
+mapped_one_more f front now new bs i b within there so went =
     let taken : take (i + 1) bs ≡ take i bs ++ b ∷ [] = take_more bs i b within ∙ ap (λ x. take i bs ++ x ∷ []) (sym there) in
     went ∙ ap (λ xs. xs ++ f b ∷ []) so ∙ append_assoc front (map f (take i bs)) (f b ∷ [])
     ∙ ap (λ xs. front ++ xs) (sym (map-append f (take i bs) (b ∷ []))) ∙ ap (λ xs. front ++ map f xs) (sym taken)

@@ -10,7 +10,7 @@ use Rattle.xc_data.proofs.Laws.{get_set_same}
 use Rattle.xc_text.specs.declared.script.Script.{Script}
 use Rattle.xc_script.specs.declared.ask.Ask.{Ask}
 use Rattle.xc_model.specs.Asked.{IsAskedBy, IsAskedEntry, ScriptJob, StartsJobs, after_jobs, jobs_behind, jobs_outcome, script_job_of}
-use Rattle.xc_asked.specs.Walking.{children, entered, job_outcome}
+use Rattle.xc_asked.specs.Walking.{children, job_entered, job_outcome}
 
 -- something stands at each place within
 there : {A : Type 0} (xs : List A) (at : ℕ) → at < length xs → (x : A) × (slice_get xs at ≡ Some x)
@@ -34,11 +34,11 @@ module _ (script : Script) (jobs : List ScriptJob) (e : Entry) (at : ℕ) (place
   started j is = sym (ap (slice_get jobs) place) ∙ is
 
   -- what it leads to
-  pub leads_to : (mid new : List ScriptJob) → ((j : ScriptJob) → slice_get jobs at ≡ Some j → mid ≡ slice_set jobs at (entered script j e))
+  pub leads_to : (mid new : List ScriptJob) → ((j : ScriptJob) → slice_get jobs at ≡ Some j → mid ≡ slice_set jobs at (job_entered script j e))
       → ((j : ScriptJob) → slice_get mid at ≡ Some j → new ≡ mid ++ children script j.job e e.outcome) → new ≡ after_jobs script jobs e
   leads_to mid new went joined =
       let j : ScriptJob = its.0 in
-      let after : ScriptJob = entered script j e in
+      let after : ScriptJob = job_entered script j e in
       let set : mid ≡ slice_set jobs at after = went j its.1 in
       let stands : slice_get mid at ≡ Some after = ap (λ (js : List ScriptJob). slice_get js at) set ∙ get_set_same jobs at j after its.1 in
       joined after stands

@@ -16,9 +16,9 @@ use Rattle.xc_model.specs.Asked.{AsksEach}
 use Rattle.xc_asked.specs.Walking.{IsAskedAt}
 
 -- the first call
-abbrev first_of : List Call → Option Call
-first_of [] = None
-first_of (call ∷ calls) = Some call
+abbrev first_call : List Call → Option Call
+first_call [] = None
+first_call (call ∷ calls) = Some call
 
 -- the calls behind it
 abbrev behind_first : List Call → List Call
@@ -44,7 +44,7 @@ at_there : (calls : List Call) (at : ℕ) (call : Call) (rest : List Call) → d
     → (slice_get calls at ≡ Some call) × (rest ≡ drop (suc at) calls)
 at_there [] zero call rest is = absurd (let none : [] ≡ call ∷ rest = is in cc)
 at_there [] (suc at) call rest is = absurd (let none : [] ≡ call ∷ rest = is in cc)
-at_there (c ∷ calls) zero call rest is = (ap first_of is, sym (ap behind_first is))
+at_there (c ∷ calls) zero call rest is = (ap first_call is, sym (ap behind_first is))
 at_there (c ∷ calls) (suc at) call rest is = at_there calls at call rest is
 
 -- where each of these calls is asked, the first one is

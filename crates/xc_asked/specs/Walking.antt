@@ -24,7 +24,7 @@ abbrev pub IsAskedAt : BlockWalk → List Call → ℕ → Type 0
 IsAskedAt b calls at = (call : Call) × (slice_get calls at ≡ Some call) × (asks b.walk ≡ ask.Call call)
 
 -- its transaction has gone on after these replies, and what the variables held at the start is kept
-pub record IsFollowed (script : Script) (job : Job) (replies : List Reply) (place : Position) : Type 0 where
+pub record IsBehindReplies (script : Script) (job : Job) (replies : List Reply) (place : Position) : Type 0 where
   pub block : place.block ≡ job.block
   pub next : place.next ≡ job.next
   pub begun : place.begun ≡ job.variables
@@ -36,12 +36,12 @@ job_outcome script job e (Committed late) = committed_job script job e.calls e.r
 job_outcome script job e (Aborted report) = job_abort job report.cause
 
 -- a job of the opening, of the block of this name
-abbrev pub opened_job : Script → List ℕ → ScriptJob
-opened_job script name = record { block = name; job = fresh_job script (block_place script name) }
+abbrev pub opened_script_job : Script → List ℕ → ScriptJob
+opened_script_job script name = record { block = name; job = fresh_job script (block_place script name) }
 
 -- a job after an entry of its
-abbrev pub entered : Script → ScriptJob → Entry → ScriptJob
-entered script j e = record j { job = job_outcome script j.job e e.outcome }
+abbrev pub job_entered : Script → ScriptJob → Entry → ScriptJob
+job_entered script j e = record j { job = job_outcome script j.job e e.outcome }
 
 -- the jobs that an entry with this outcome started, whose job stands so behind it
 abbrev pub children : Script → Job → Entry → Outcome → List ScriptJob

@@ -1,6 +1,6 @@
 ghost use Rattle.std.specs.Prelude.{◌≡◌, [], ◌∷◌, ◌++◌, length, IfOk, OnOk, MatchOption};
 ghost use Rattle.std.specs.Option.{option_copied};
-ghost use Rattle.xc_model.specs.Progress.{started_blocks, started_by};
+ghost use Rattle.xc_model.specs.Progress.{started_blocks, started_by_call};
 ghost use Rattle.xc_script.specs.Blocks.{kept_calls};
 
 use std::alloc::Global;
@@ -74,7 +74,7 @@ pub fn kept_count(calls: &[Call], replies: &[Reply]) -> usize
 
 // The block that a kept call with this end started.
 fn started_by(call: &Call, end: LateEnd) -> Option<Ident>
-    ensures { MatchOption result (started_by call.now end ≡ []) (λ block. started_by call.now end ≡ block ∷ []) }
+    ensures { MatchOption result (started_by_call call.now end ≡ []) (λ block. started_by_call call.now end ≡ block ∷ []) }
 {
     match (call, end) {
         (Call::XThreadCreate { body, .. }, LateEnd::Done) => Some(*body.value()),
@@ -85,7 +85,7 @@ fn started_by(call: &Call, end: LateEnd) -> Option<Ident>
 
 // The block that a kept call with this end started, where it did, comes behind others.
 fn push_started(blocks: &mut IdentList, call: &Call, end: LateEnd) -> Result<(), NoMemory>
-    ensures { OnOk result (blocks.new ≡ blocks.old ++ started_by call.now end) }
+    ensures { OnOk result (blocks.new ≡ blocks.old ++ started_by_call call.now end) }
 {
     match started_by(call, end) {
         Some(block) => blocks.push(block),

@@ -1,6 +1,6 @@
 ghost use Rattle.std.specs.Bool.{Decides};
 ghost use Rattle.std.specs.Prelude.{◌≡◌, ◌+◌, ◌<◌, ◌^◌, if◌then◌else◌, IfOk, IsSome, OnOk, is_some, true};
-ghost use Rattle.xc_asked.specs.Walking.{IsFollowed, job_outcome};
+ghost use Rattle.xc_asked.specs.Walking.{IsBehindReplies, job_outcome};
 ghost use Rattle.xc_model.specs.Asked.{AsksEach, IsAskedBy, asked_after, job_abort, script_started};
 ghost use Rattle.xc_script.specs.Ask.{Job, block_place, fresh_job, next_body};
 ghost use Rattle.xc_script.specs.Blocks.{block_from};
@@ -53,7 +53,7 @@ fn walk(place: &mut JobState, script: &Script, entry: &Entry) -> Result<Followed
     ensures last { IfOk result (λ f. f.last ≡ asked_after script.now (job_of place.old) entry.now.replies) }
     ensures asked { IfOk result (λ f. Decides f.is_asked
         (AsksEach (block_from script.now (job_of place.old)) entry.now.calls entry.now.replies)) }
-    ensures behind { OnOk result (IsFollowed script.now (job_of place.old) entry.now.replies place.new) }
+    ensures behind { OnOk result (IsBehindReplies script.now (job_of place.old) entry.now.replies place.new) }
 {
     place.begin()?;
     let is_asked = follow(
@@ -79,7 +79,7 @@ fn is_end(cause: &Cause) -> bool
 // Goes to the next begin, after an entry that was followed.
 fn end(place: &mut JobState, entry: &Entry)
     requires { place.old.next < 2 ^ 32 }
-    ensures { (script : PlainScript) (job : Job) → IsFollowed script job entry.now.replies place.old
+    ensures { (script : PlainScript) (job : Job) → IsBehindReplies script job entry.now.replies place.old
         → place.new ≡ at_begin (job_outcome script job entry.now entry.now.outcome) }
 {
     match &entry.outcome {

@@ -1,7 +1,7 @@
 ghost use Rattle.std.specs.Bool.{Decides};
 ghost use Rattle.std.specs.Prelude.{◌≡◌, ◌<◌, [], ◌∷◌, ◌++◌, List, ℕ, IfOk, OnOk, is_some, length, map, slice_get, slice_set, true};
 ghost use Rattle.std.specs.declared.option.Option.TheVariants.{Some};
-ghost use Rattle.xc_asked.specs.Walking.{children, entered, opened_job};
+ghost use Rattle.xc_asked.specs.Walking.{children, job_entered, opened_script_job};
 ghost use Rattle.xc_model.specs.Asked.{IsAskedBy, IsAskedEntry, ScriptJob as PlainJob, StartsJobs, after_jobs, asked_after, last_asked};
 ghost use Rattle.xc_model.specs.Asked.{opening_jobs, script_job_of, script_started};
 ghost use Rattle.xc_script.specs.Ask.{next_body};
@@ -34,7 +34,7 @@ impl Model for ScriptJobs {
 // The jobs of the opening, of the blocks of these names.
 fn opened_jobs(alloc: Global, script: &Script, blocks: &[Ident]) -> Result<Vec<ScriptJob>, NoMemory>
     requires { IsScript script.now }
-    ensures { IfOk result (λ jobs. jobs.items ≡ map (opened_job script.now) blocks.now) }
+    ensures { IfOk result (λ jobs. jobs.items ≡ map (opened_script_job script.now) blocks.now) }
 {
     let mut jobs = Vec::new(alloc);
     for block in blocks {
@@ -92,7 +92,7 @@ fn follow_at(
     ensures followed { (j : PlainJob) → slice_get jobs.old.items at ≡ Some j
         → IfOk result (λ f. (f.last ≡ asked_after script.now j.job entry.now.replies)
         × Decides f.is_asked (IsAskedBy script.now j.job f.last entry.now)
-        × (f.is_asked ≡ true → jobs.new.items ≡ slice_set jobs.old.items at (entered script.now j entry.now))) }
+        × (f.is_asked ≡ true → jobs.new.items ≡ slice_set jobs.old.items at (job_entered script.now j entry.now))) }
 {
     jobs[at].follow(script, entry)
 }

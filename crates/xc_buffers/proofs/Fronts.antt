@@ -1,6 +1,5 @@
 -- What is given back in a world goes together with changes elsewhere, and with changes after it.
-use Rattle.std.proofs.Common.{◌≡◌, ℕ, ◌<◌, ◌==◌, Bool, true, false, Option, Some, unwrap_or, List, [], ◌∷◌, ◌++◌, refl, ap, sym, ◌∙◌}
-use Rattle.std.proofs.Common.{arith}
+use Rattle.std.proofs.Common.{◌≡◌, ℕ, ◌<◌, ◌==◌, Bool, true, false, Option, Some, unwrap_or, List, [], ◌∷◌, refl, ap, sym, ◌∙◌, arith}
 use Rattle.std.specs.Prelude.{All, if◌then◌else◌}
 use Rattle.std.specs.Ordering.{nat_cmp, ordering_then, is_eq, eq_by_cmp}
 use Rattle.std.specs.declared.cmp.Ordering.{Ordering}
@@ -20,30 +19,27 @@ use Rattle.xc_buffers.specs.Worlds.{with_front}
 use Rattle.xc_buffers.proofs.Turns.{change, change_apart}
 
 -- ---- lists of items
--- of two lists the first stands in front
-pub given_append : (w : World) (first second : List KeptItem) → given_back w (first ++ second) ≡ given_back (given_back w second) first
-given_append w [] second = refl
-given_append w (t ∷ first) second = ap (λ x. gives x t) (given_append w first second)
 
 -- an item may be given back before or after a change
-abbrev pub Passes : (World → World) → KeptItem → Type 0
-Passes change t = (x : World) → gives (change x) t ≡ change (gives x t)
+abbrev pub Commutes : (World → World) → KeptItem → Type 0
+Commutes change t = (x : World) → gives (change x) t ≡ change (gives x t)
 
 -- so may a list of such items
-pub given_passes : (change : World → World) (items : List KeptItem) → All (Passes change) items → (w : World)
+pub given_passes : (change : World → World) (items : List KeptItem) → All (Commutes change) items → (w : World)
     → given_back (change w) items ≡ change (given_back w items)
 given_passes change [] all w = refl
 given_passes change (t ∷ items) all w =
-    ap (λ x. gives x t) (given_passes change items (All-tail (Passes change) t items all) w) ∙ All-head (Passes change) t items all (given_back w items)
+    ap (λ x. gives x t) (given_passes change items (All-tail (Commutes change) t items all) w) ∙ All-head (Commutes change) t items all (given_back w items)
 
 -- ---- changes of one pipe
 -- with bytes in front
-abbrev pub fronted : List ℕ → Option Pipe → Pipe
-fronted bytes found = with_front bytes (unwrap_or found empty_pipe)
+abbrev pub pipe_fronted : List ℕ → Option Pipe → Pipe
+pipe_fronted bytes found = with_front bytes (unwrap_or found empty_pipe)
 
 -- an item of this pipe may be given back before or after a change of it
 abbrev pub PipeAlike : Num → (Option Pipe → Pipe) → KeptItem → Type 0
-PipeAlike num f (Bytes pipe bytes) = eq_by_cmp num_cmp num pipe ≡ true → (found : Option Pipe) → fronted bytes (Some (f found)) ≡ f (Some (fronted bytes found))
+PipeAlike num f (Bytes pipe bytes) =
+    eq_by_cmp num_cmp num pipe ≡ true → (found : Option Pipe) → pipe_fronted bytes (Some (f found)) ≡ f (Some (pipe_fronted bytes found))
 PipeAlike num f (Message pair side bytes) = Unit {0}
 
 -- the world with one pipe changed
@@ -51,18 +47,18 @@ abbrev pub turn_pipe : Num → (Option Pipe → Pipe) → World → World
 turn_pipe num f x = record x { pipes = change x.pipes num f }
 
 -- then so may every item
-pub pipe_passes : (num : Num) (f : Option Pipe → Pipe) (t : KeptItem) → PipeAlike num f t → Passes (turn_pipe num f) t
-pipe_passes num f (Bytes pipe bytes) alike x = ap (λ m. record x { pipes = m }) (change_apart x.pipes num pipe f (fronted bytes) alike)
+pub pipe_passes : (num : Num) (f : Option Pipe → Pipe) (t : KeptItem) → PipeAlike num f t → Commutes (turn_pipe num f) t
+pipe_passes num f (Bytes pipe bytes) alike x = ap (λ m. record x { pipes = m }) (change_apart x.pipes num pipe f (pipe_fronted bytes) alike)
 pipe_passes num f (Message pair side bytes) alike x = refl
 
 -- ---- changes of one pair
 -- the messages for a side become others
-abbrev pub turned : ℕ → (List (List ℕ) → List (List ℕ)) → Pair → Pair
-turned side g pair = with_waiting pair side (g (waiting pair side))
+abbrev pub pair_turned : ℕ → (List (List ℕ) → List (List ℕ)) → Pair → Pair
+pair_turned side g pair = with_waiting pair side (g (waiting pair side))
 
 -- with a message in front
 abbrev pub firsted : ℕ → List ℕ → Option Pair → Pair
-firsted side message found = turned side (λ ms. message ∷ ms) (unwrap_or found empty_pair)
+firsted side message found = pair_turned side (λ ms. message ∷ ms) (unwrap_or found empty_pair)
 
 -- an item of this pair may be given back before or after a change of it
 abbrev pub PairAlike : Num → (Option Pair → Pair) → KeptItem → Type 0
@@ -75,7 +71,7 @@ abbrev pub turn_pair : Num → (Option Pair → Pair) → World → World
 turn_pair num f x = record x { pairs = change x.pairs num f }
 
 -- then so may every item
-pub pair_passes : (num : Num) (f : Option Pair → Pair) (t : KeptItem) → PairAlike num f t → Passes (turn_pair num f) t
+pub pair_passes : (num : Num) (f : Option Pair → Pair) (t : KeptItem) → PairAlike num f t → Commutes (turn_pair num f) t
 pair_passes num f (Message pair side bytes) alike x = ap (λ m. record x { pairs = m }) (change_apart x.pairs num pair f (firsted side bytes) alike)
 pair_passes num f (Bytes pipe bytes) alike x = refl
 
@@ -92,7 +88,7 @@ turns_apart false false g h same q = ap (λ ms. record q { second = ms }) (same 
 
 -- changes of the messages for two sides go in either order, and for one side where they do
 pub turned_apart : (s t : ℕ) (g h : List (List ℕ) → List (List ℕ)) → ((s == 0) ≡ (t == 0) → (ms : List (List ℕ)) → g (h ms) ≡ h (g ms)) → (q : Pair)
-    → turned s g (turned t h q) ≡ turned t h (turned s g q)
+    → pair_turned s g (pair_turned t h q) ≡ pair_turned t h (pair_turned s g q)
 turned_apart s t g h same q = turns_apart (s == 0) (t == 0) g h same q
 
 -- ---- items of other sources
@@ -118,8 +114,8 @@ pub fit_side : (pair : Num) (side : ℕ) (bytes : List ℕ) → is_fit (Message 
 fit_side pair side bytes e = grind arith
 
 -- items of two sources may be given back in either order
-pub items_pass : (t x : KeptItem) → is_fit t ≡ true → is_fit x ≡ true → is_from (source_of t) x ≡ false → Passes (λ w. gives w t) x
-items_pass (Bytes pipe bytes) (Bytes other more) fit fit' apart = pipe_passes pipe (fronted bytes) (Bytes other more) (λ e. absurd (cc (e, apart)))
+pub items_pass : (t x : KeptItem) → is_fit t ≡ true → is_fit x ≡ true → is_from (source_of t) x ≡ false → Commutes (λ w. gives w t) x
+items_pass (Bytes pipe bytes) (Bytes other more) fit fit' apart = pipe_passes pipe (pipe_fronted bytes) (Bytes other more) (λ e. absurd (cc (e, apart)))
 items_pass (Bytes pipe bytes) (Message pair side more) fit fit' apart = λ w. refl
 items_pass (Message pair side bytes) (Bytes other more) fit fit' apart = λ w. refl
 items_pass (Message pair s bytes) (Message other t more) fit fit' apart =

@@ -5,12 +5,12 @@ use Rattle.std.proofs.lemmas.List.Elements.{filter-append}
 use Rattle.xc_data.specs.declared.entry.KeptItem.{KeptItem}
 use Rattle.xc_world.specs.World.{World}
 use Rattle.xc_world.specs.Run.{given_back}
-use Rattle.xc_buffers.specs.declared.source.Source.{Source}
+use Rattle.xc_buffers.specs.declared.source.Endpoint.{Endpoint}
 use Rattle.xc_buffers.specs.Sources.{source_of, is_from}
 use Rattle.xc_buffers.specs.Items.{items_from}
 use Rattle.xc_buffers.specs.Changes.{PutsFront}
-use Rattle.xc_buffers.proofs.Orders.{own, one}
-use Rattle.xc_buffers.proofs.Fronts.{given_append}
+use Rattle.xc_buffers.proofs.Orders.{own_source, one_source}
+use Rattle.xc_world.proofs.Laws.{given_append}
 
 true_false : true ≡ false → ⊥
 true_false e = cc
@@ -30,7 +30,7 @@ filter_apart p q h (x ∷ xs) = by_test (q x) (h x) (filter_apart p q h xs)
     by_test false le e = by_own (p x) refl le e
 
 -- what is kept of each source after an item that was put in front
-pub from_put : (t : KeptItem) (old new : List KeptItem) → PutsFront t old new → (source : Source)
+pub from_put : (t : KeptItem) (old new : List KeptItem) → PutsFront t old new → (source : Endpoint)
     → items_from source new ≡ items_from source (t ∷ []) ++ items_from source old
 from_put t old new put source = by_test (is_from source t) refl
   where
@@ -40,12 +40,12 @@ from_put t old new put source = by_test (is_from source t) refl
         by_own : (b : Bool) → is_from (source_of t) x ≡ b → not b ≡ true
         by_own false f = refl
         by_own true f =
-            let same : source ≡ source_of t = one source (source_of x) e ∙ sym (one (source_of t) (source_of x) f) in
-            absurd (true_false (sym (own (source_of t)) ∙ ap (λ s. is_from s t) (sym same) ∙ apart))
+            let same : source ≡ source_of t = one_source source (source_of x) e ∙ sym (one_source (source_of t) (source_of x) f) in
+            absurd (true_false (sym (own_source (source_of t)) ∙ ap (λ s. is_from s t) (sym same) ∙ apart))
 
     by_test : (b : Bool) → is_from source t ≡ b → items_from source new ≡ cond b (t ∷ []) [] ++ items_from source old
     by_test true e =
-        let same = one source (source_of t) e in
+        let same = one_source source (source_of t) e in
         ap (λ s. items_from s new) same ∙ put.own ∙ ap (λ s. t ∷ items_from s old) (sym same)
     by_test false e =
         let q : KeptItem → Bool = λ x. not (is_from (source_of t) x) in
@@ -53,7 +53,7 @@ from_put t old new put source = by_test (is_from source t) refl
 
 -- some notes are left: given back onto what is kept now they lead to what all lead to, onto what was kept at first
 pub record Pending (notes kept left now : List KeptItem) : Type 0 where
-  pub each : (source : Source) → items_from source left ++ items_from source now ≡ items_from source notes ++ items_from source kept
+  pub each : (source : Endpoint) → items_from source left ++ items_from source now ≡ items_from source notes ++ items_from source kept
   pub world : (w : World) → given_back (given_back w now) left ≡ given_back (given_back w kept) notes
 
 -- one more is given back

@@ -21,12 +21,13 @@ use Rattle.xc_maps.proofs.Laws.{alike, tied, num_total, num_exact}
 use Rattle.xc_world.specs.World.{World, Pipe, Pair, pipe_of, pair_of, with_pipe, with_pair, waiting, with_waiting, empty_pipe, empty_pair}
 use Rattle.xc_world.specs.Late.{with_put, shut_down, sent_to}
 use Rattle.xc_world.specs.Run.{given_back}
-use Rattle.xc_buffers.specs.declared.source.Source.TheVariants.{Pipe as OfPipe, Side as OfSide}
+use Rattle.xc_buffers.specs.declared.source.Endpoint.TheVariants.{Pipe as OfPipe, Side as OfSide}
 use Rattle.xc_buffers.specs.Sources.{is_from}
 use Rattle.xc_buffers.specs.Items.{is_fit, is_of_pair, item_bytes, items_from, keeps_from, keeps_pair, kept_bytes, kept_messages}
-use Rattle.xc_buffers.specs.Worlds.{has_pipe, has_pair, with_front, with_held}
+use Rattle.xc_buffers.specs.Worlds.{world_has_pipe, world_has_pair, with_front, with_held}
 use Rattle.xc_buffers.proofs.Turns.{get-change}
-use Rattle.xc_buffers.proofs.Fronts.{Passes, given_passes, fronted, PipeAlike, turn_pipe, pipe_passes, turned, firsted, turn_pair, pair_passes, turned_apart}
+use Rattle.xc_buffers.proofs.Fronts.{Commutes, given_passes, pipe_fronted, PipeAlike, turn_pipe, pipe_passes, pair_turned, firsted, turn_pair, pair_passes}
+use Rattle.xc_buffers.proofs.Fronts.{turned_apart}
 use Rattle.xc_buffers.proofs.Fronts.{same_side, fit_side, apart_sides}
 
 true_false : true ≡ false → ⊥
@@ -45,7 +46,7 @@ pub pipe_front : (w : World) (items : List KeptItem) (num : Num) → pipe_of (gi
 pipe_front w [] num = refl
 pipe_front w (Message pair side bytes ∷ items) num = pipe_front w items num
 pipe_front w (Bytes pipe bytes ∷ items) num =
-    ap (λ o. unwrap_or o empty_pipe) (get-change (given_back w items).pipes pipe num (fronted bytes))
+    ap (λ o. unwrap_or o empty_pipe) (get-change (given_back w items).pipes pipe num (pipe_fronted bytes))
     ∙ by_test (eq_by_cmp num_cmp num pipe) refl (pipe_front w items num)
   where
     x : World
@@ -55,7 +56,7 @@ pipe_front w (Bytes pipe bytes ∷ items) num =
     rest = items_from (OfPipe num) items
 
     by_test : (b : Bool) → eq_by_cmp num_cmp num pipe ≡ b → pipe_of x num ≡ with_front (flat_map item_bytes rest) (pipe_of w num)
-        → unwrap_or (cond b (Some (fronted bytes (finite.get x.pipes pipe))) (finite.get x.pipes num)) empty_pipe
+        → unwrap_or (cond b (Some (pipe_fronted bytes (finite.get x.pipes pipe))) (finite.get x.pipes num)) empty_pipe
         ≡ with_front (flat_map item_bytes (cond b (Bytes pipe bytes ∷ rest) rest)) (pipe_of w num)
     by_test true e before =
         ap (λ n. with_front bytes (pipe_of x n)) (sym (tied num_total num_exact num pipe e)) ∙ ap (with_front bytes) before
@@ -66,32 +67,32 @@ pipe_front w (Bytes pipe bytes ∷ items) num =
 abbrev wait_at : Bool → Pair → List (List ℕ)
 wait_at b q = cond b q.first q.second
 
-abbrev turn_at : Bool → (List (List ℕ) → List (List ℕ)) → Pair → Pair
-turn_at b g q = cond b (record q { first = g (cond b q.first q.second) }) (record q { second = g (cond b q.first q.second) })
+abbrev cond_turn_at : Bool → (List (List ℕ) → List (List ℕ)) → Pair → Pair
+cond_turn_at b g q = cond b (record q { first = g (cond b q.first q.second) }) (record q { second = g (cond b q.first q.second) })
 
-wait_same : (b : Bool) (g : List (List ℕ) → List (List ℕ)) (q : Pair) → wait_at b (turn_at b g q) ≡ g (wait_at b q)
+wait_same : (b : Bool) (g : List (List ℕ) → List (List ℕ)) (q : Pair) → wait_at b (cond_turn_at b g q) ≡ g (wait_at b q)
 wait_same true g q = refl
 wait_same false g q = refl
 
-wait_other : (b c : Bool) (g : List (List ℕ) → List (List ℕ)) (q : Pair) → (b ≡ c → ⊥) → wait_at b (turn_at c g q) ≡ wait_at b q
+wait_other : (b c : Bool) (g : List (List ℕ) → List (List ℕ)) (q : Pair) → (b ≡ c → ⊥) → wait_at b (cond_turn_at c g q) ≡ wait_at b q
 wait_other true true g q ne = absurd (ne refl)
 wait_other true false g q ne = refl
 wait_other false true g q ne = refl
 wait_other false false g q ne = absurd (ne refl)
 
-mark_stays : (b : Bool) (g : List (List ℕ) → List (List ℕ)) (q : Pair) → (turn_at b g q).shut ≡ q.shut
+mark_stays : (b : Bool) (g : List (List ℕ) → List (List ℕ)) (q : Pair) → (cond_turn_at b g q).shut ≡ q.shut
 mark_stays true g q = refl
 mark_stays false g q = refl
 
 -- the side that a change is for
-waiting_same : (side : ℕ) (g : List (List ℕ) → List (List ℕ)) (q : Pair) → waiting (turned side g q) side ≡ g (waiting q side)
+waiting_same : (side : ℕ) (g : List (List ℕ) → List (List ℕ)) (q : Pair) → waiting (pair_turned side g q) side ≡ g (waiting q side)
 waiting_same side g q = wait_same (side == 0) g q
 
 -- and the other one
-waiting_other : (side s : ℕ) (g : List (List ℕ) → List (List ℕ)) (q : Pair) → ((side == 0) ≡ (s == 0) → ⊥) → waiting (turned s g q) side ≡ waiting q side
+waiting_other : (side s : ℕ) (g : List (List ℕ) → List (List ℕ)) (q : Pair) → ((side == 0) ≡ (s == 0) → ⊥) → waiting (pair_turned s g q) side ≡ waiting q side
 waiting_other side s g q ne = wait_other (side == 0) (s == 0) g q ne
 
-shut_turned : (side : ℕ) (g : List (List ℕ) → List (List ℕ)) (q : Pair) → (turned side g q).shut ≡ q.shut
+shut_turned : (side : ℕ) (g : List (List ℕ) → List (List ℕ)) (q : Pair) → (pair_turned side g q).shut ≡ q.shut
 shut_turned side g q = mark_stays (side == 0) g q
 
 then_apart : (r b : Ordering) → is_eq r ≡ false → is_eq (ordering_then r b) ≡ false
@@ -119,7 +120,7 @@ message_front num pair side s bytes found there lt lt' same true true e f =
     let q = unwrap_or found empty_pair in
     let one : side ≡ s = one_side side s f in
     let now : is_eq (ordering_then (num_cmp num pair) (nat_cmp side s)) ≡ true = then_one (num_cmp num pair) (nat_cmp side s) e ∙ f in
-    ap (λ k. waiting (turned k (λ ms. bytes ∷ ms) q) side) (sym one) ∙ waiting_same side (λ ms. bytes ∷ ms) q
+    ap (λ k. waiting (pair_turned k (λ ms. bytes ∷ ms) q) side) (sym one) ∙ waiting_same side (λ ms. bytes ∷ ms) q
     ∙ ap (λ o. bytes ∷ waiting (unwrap_or o empty_pair) side) (sym (same e))
     ∙ ap (λ d. cond d (bytes ∷ []) [] ++ waiting (unwrap_or there empty_pair) side) (sym now)
 message_front num pair side s bytes found there lt lt' same true false e f =
@@ -178,24 +179,25 @@ there_at true x o more had e = refl
 there_at false x o more had e = e
 
 -- a pipe is there where something is kept of it, or it was
-pub pipe_is_there : (w : World) (items : List KeptItem) (num : Num) → has_pipe (given_back w items) num ≡ (keeps_from (OfPipe num) items || has_pipe w num)
+pub pipe_is_there : (w : World) (items : List KeptItem) (num : Num)
+    → world_has_pipe (given_back w items) num ≡ (keeps_from (OfPipe num) items || world_has_pipe w num)
 pipe_is_there w [] num = refl
 pipe_is_there w (Message pair side bytes ∷ items) num = pipe_is_there w items num
 pipe_is_there w (Bytes pipe bytes ∷ items) num =
     let x = given_back w items in
-    ap is_some (get-change x.pipes pipe num (fronted bytes))
-    ∙ there_at (eq_by_cmp num_cmp num pipe) (fronted bytes (finite.get x.pipes pipe)) (finite.get x.pipes num) (keeps_from (OfPipe num) items)
-    (has_pipe w num) (pipe_is_there w items num)
+    ap is_some (get-change x.pipes pipe num (pipe_fronted bytes))
+    ∙ there_at (eq_by_cmp num_cmp num pipe) (pipe_fronted bytes (finite.get x.pipes pipe)) (finite.get x.pipes num) (keeps_from (OfPipe num) items)
+    (world_has_pipe w num) (pipe_is_there w items num)
 
 -- so is a pair
-pub pair_is_there : (w : World) (items : List KeptItem) (num : Num) → has_pair (given_back w items) num ≡ (keeps_pair num items || has_pair w num)
+pub pair_is_there : (w : World) (items : List KeptItem) (num : Num) → world_has_pair (given_back w items) num ≡ (keeps_pair num items || world_has_pair w num)
 pair_is_there w [] num = refl
 pair_is_there w (Bytes pipe bytes ∷ items) num = pair_is_there w items num
 pair_is_there w (Message pair side bytes ∷ items) num =
     let x = given_back w items in
     ap is_some (get-change x.pairs pair num (firsted side bytes))
     ∙ there_at (eq_by_cmp num_cmp num pair) (firsted side bytes (finite.get x.pairs pair)) (finite.get x.pairs num) (keeps_pair num items)
-    (has_pair w num) (pair_is_there w items num)
+    (world_has_pair w num) (pair_is_there w items num)
 
 -- ---- where nothing is kept
 both_empty : {X : Type 0} (xs ys : List X) → xs ++ ys ≡ [] → (xs ≡ []) × (ys ≡ [])
@@ -270,7 +272,7 @@ no_message_items (t ∷ items) num side none = by_test (is_from (OfSide num side
 pub held_alone : (rest w : World) (items : List KeptItem) → given_back (with_held rest w) items ≡ with_held rest (given_back w items)
 held_alone rest w items = given_passes (with_held rest) items (each passes items) w
   where
-    passes : (t : KeptItem) → Passes (with_held rest) t
+    passes : (t : KeptItem) → Commutes (with_held rest) t
     passes (Bytes pipe bytes) x = refl
     passes (Message pair side bytes) x = refl
 
@@ -288,7 +290,7 @@ put_stays w items num bytes = given_passes (turn_pipe num (put_behind bytes)) it
         ap (λ held. record p { held = held }) (sym (append_assoc more p.held bytes))
     alike (Message pair side more) = tt
 
-    passes : (t : KeptItem) → Passes (turn_pipe num (put_behind bytes)) t
+    passes : (t : KeptItem) → Commutes (turn_pipe num (put_behind bytes)) t
     passes t = pipe_passes num (put_behind bytes) t (alike t)
 
 -- a message after those for a side
@@ -298,9 +300,9 @@ pub sent_stays : (w : World) (items : List KeptItem) (num : Num) (side : ℕ) (b
 sent_stays w items num side bytes = given_passes (turn_pair num sent) items (each passes items) w
   where
     sent : Option Pair → Pair
-    sent found = turned side (λ ms. ms ++ bytes ∷ []) (unwrap_or found empty_pair)
+    sent found = pair_turned side (λ ms. ms ++ bytes ∷ []) (unwrap_or found empty_pair)
 
-    passes : (t : KeptItem) → Passes (turn_pair num sent) t
+    passes : (t : KeptItem) → Commutes (turn_pair num sent) t
     passes (Bytes pipe more) = pair_passes num sent (Bytes pipe more) tt
     passes (Message pair s more) = pair_passes num sent (Message pair s more) (λ e found.
         turned_apart s side (λ ms. more ∷ ms) (λ ms. ms ++ bytes ∷ []) (λ same ms. refl) (unwrap_or found empty_pair))
@@ -323,7 +325,7 @@ shut_stays w items (object.Pipe num) = given_passes (turn_pipe num shut) items (
     shut : Option Pipe → Pipe
     shut found = record (unwrap_or found empty_pipe) { shut = true }
 
-    passes : (t : KeptItem) → Passes (turn_pipe num shut) t
+    passes : (t : KeptItem) → Commutes (turn_pipe num shut) t
     passes (Bytes pipe bytes) = pipe_passes num shut (Bytes pipe bytes) (λ e found. refl)
     passes (Message pair side bytes) = pipe_passes num shut (Message pair side bytes) tt
 shut_stays w items (object.Pair num) = given_passes (turn_pair num shut) items (each passes items) w
@@ -331,7 +333,7 @@ shut_stays w items (object.Pair num) = given_passes (turn_pair num shut) items (
     shut : Option Pair → Pair
     shut found = record (unwrap_or found empty_pair) { shut = true }
 
-    passes : (t : KeptItem) → Passes (turn_pair num shut) t
+    passes : (t : KeptItem) → Commutes (turn_pair num shut) t
     passes (Bytes pipe bytes) = pair_passes num shut (Bytes pipe bytes) tt
     passes (Message pair side bytes) = pair_passes num shut (Message pair side bytes) (λ e found. shut_side (side == 0) (unwrap_or found empty_pair) bytes)
 
@@ -341,7 +343,7 @@ pub pipe_put : (w : World) (items : List KeptItem) (num : Num) (pipe : Pipe) →
 pipe_put w items num pipe none =
     given_passes (turn_pipe num (λ found. pipe)) items (λ k d lt. passes _ (bytes_none items num none k d lt)) w
   where
-    passes : (t : KeptItem) → NoBytes num t → Passes (turn_pipe num (λ found. pipe)) t
+    passes : (t : KeptItem) → NoBytes num t → Commutes (turn_pipe num (λ found. pipe)) t
     passes (Bytes other bytes) none = pipe_passes num (λ found. pipe) (Bytes other bytes) (λ e found. ap (λ front. with_front front pipe) (none e))
     passes (Message pair side bytes) none = pipe_passes num (λ found. pipe) (Message pair side bytes) tt
 
@@ -351,7 +353,7 @@ pub pair_put : (w : World) (items : List KeptItem) (num : Num) (pair : Pair) →
 pair_put w items num pair none =
     given_passes (turn_pair num (λ found. pair)) items (λ k d lt. passes _ (none_any (is_of_pair num) items none k d lt)) w
   where
-    passes : (t : KeptItem) → is_of_pair num t ≡ false → Passes (turn_pair num (λ found. pair)) t
+    passes : (t : KeptItem) → is_of_pair num t ≡ false → Commutes (turn_pair num (λ found. pair)) t
     passes (Bytes pipe bytes) apart = pair_passes num (λ found. pair) (Bytes pipe bytes) tt
     passes (Message p side bytes) apart = pair_passes num (λ found. pair) (Message p side bytes) (λ e found. absurd (true_false (sym e ∙ apart)))
 
@@ -364,9 +366,9 @@ side_put w items num side messages fit lt none =
     given_passes (turn_pair num put) items (λ k d within. passes _ (fit k d within) (none_any (is_from (OfSide num side)) items none k d within)) w
   where
     put : Option Pair → Pair
-    put found = turned side (λ ms. messages) (unwrap_or found empty_pair)
+    put found = pair_turned side (λ ms. messages) (unwrap_or found empty_pair)
 
-    passes : (t : KeptItem) → is_fit t ≡ true → is_from (OfSide num side) t ≡ false → Passes (turn_pair num put) t
+    passes : (t : KeptItem) → is_fit t ≡ true → is_from (OfSide num side) t ≡ false → Commutes (turn_pair num put) t
     passes (Bytes pipe bytes) fit apart = pair_passes num put (Bytes pipe bytes) tt
     passes (Message pair s bytes) fit apart = pair_passes num put (Message pair s bytes) (λ e found.
         turned_apart s side (λ ms. bytes ∷ ms) (λ ms. messages)

@@ -1,9 +1,9 @@
 -- What other crates cite of this one's proofs: they import no other file of them.
 -- ---- Orders: The order of sources is total, and a source in it is one.
 -- a source is its own
-pub use Rattle.xc_buffers.proofs.Orders.{own}
+pub use Rattle.xc_buffers.proofs.Orders.{own_source}
 -- sources that tie are one
-pub use Rattle.xc_buffers.proofs.Orders.{one}
+pub use Rattle.xc_buffers.proofs.Orders.{one_source}
 -- no source stands before itself
 pub use Rattle.xc_buffers.proofs.Orders.{before_itself}
 -- of two sources of which none stands before the other both are one
@@ -29,11 +29,11 @@ pub use Rattle.xc_buffers.proofs.Ordered.{rises_from}
 pub use Rattle.xc_buffers.proofs.Ordered.{order_from}
 -- ---- Fronts: What is given back in a world goes together with changes elsewhere, and with changes after it.
 -- an item may be given back before or after a change
-pub use Rattle.xc_buffers.proofs.Fronts.{Passes}
+pub use Rattle.xc_buffers.proofs.Fronts.{Commutes}
 -- so may a list of such items
 pub use Rattle.xc_buffers.proofs.Fronts.{given_passes}
 -- with bytes in front
-pub use Rattle.xc_buffers.proofs.Fronts.{fronted}
+pub use Rattle.xc_buffers.proofs.Fronts.{pipe_fronted}
 -- the world with one pipe changed
 pub use Rattle.xc_buffers.proofs.Fronts.{turn_pipe}
 -- then so may every item
@@ -83,6 +83,6 @@ pub use Rattle.xc_buffers.proofs.Puts.{first_left}
 -- what is given back leaves what is there
 pub use Rattle.xc_buffers.proofs.Puts.{has_front}
 -- so does it a pair
-pub use Rattle.xc_buffers.proofs.Puts.{has_first}
+pub use Rattle.xc_buffers.proofs.Puts.{has_pair_kept}
 -- two pieces that are given back are one
 pub use Rattle.xc_buffers.proofs.Puts.{gives_joined}

@@ -8,11 +8,11 @@ use Rattle.std.proofs.lemmas.List.{length-reverse}
 use Rattle.std.proofs.lemmas.List.Elements.{All-head, All-tail}
 use Rattle.std.proofs.lemmas.List.Kept.{AllPairs-cons}
 use Rattle.xc_data.specs.declared.entry.KeptItem.{KeptItem}
-use Rattle.xc_buffers.specs.declared.source.Source.{Source}
+use Rattle.xc_buffers.specs.declared.source.Endpoint.{Endpoint}
 use Rattle.xc_buffers.specs.Sources.{source_of, is_before, is_from}
 use Rattle.xc_buffers.specs.Items.{IsInOrder}
-use Rattle.xc_buffers.specs.Places.{IsPlace, IsStart}
-use Rattle.xc_buffers.proofs.Orders.{before_itself, before_not, neither, not_before, one}
+use Rattle.xc_buffers.specs.Places.{IsPlace, IsSourceStart}
+use Rattle.xc_buffers.proofs.Orders.{before_itself, before_not, neither, not_before, one_source}
 use Rattle.xc_buffers.proofs.Splits.{All-between, All-without, All-of, reversed_at}
 
 -- the first item's source doesn't stand before the second one's
@@ -97,20 +97,20 @@ false_not true e = cc
 false_not false e = refl
 
 -- a list in the reverse order is parted where a source's place is
-pub parted_at : (source : Source) (stored : List KeptItem) → IsInOrder (reverse stored)
+pub parted_at : (source : Endpoint) (stored : List KeptItem) → IsInOrder (reverse stored)
     → IsPartitionedBy (λ t. not (is_before (source_of t) source)) stored
 parted_at source stored order i j d le within passes =
     false_not _ (not_before (source_of (get_or stored i d)) (source_of (get_or stored j d)) source (falls_from stored order i j d le within)
     (not_true _ passes))
 
 -- as the place is said
-pub place_from : (source : Source) (stored : List KeptItem) (at : ℕ)
+pub place_from : (source : Endpoint) (stored : List KeptItem) (at : ℕ)
     → IsPartitionPoint (λ t. not (is_before (source_of t) source) ≡ true) (λ t. not (is_before (source_of t) source) ≡ false) stored at
     → IsPlace source stored at
 place_from source stored at point = ((λ k d le lt. not_true _ (point.0 k d le lt)), λ k d le lt. not_false _ (point.1 k d le lt))
 
 -- and where its start is
-pub parted_start : (source : Source) (stored : List KeptItem) → IsInOrder (reverse stored)
+pub parted_start : (source : Endpoint) (stored : List KeptItem) → IsInOrder (reverse stored)
     → IsPartitionedBy (λ t. is_before source (source_of t)) stored
 parted_start source stored order i j d le within passes = by_test (is_before source (source_of (get_or stored i d))) refl
   where
@@ -120,7 +120,7 @@ parted_start source stored order i j d le within passes = by_test (is_before sou
         let no = not_before source (source_of (get_or stored i d)) (source_of (get_or stored j d)) e (falls_from stored order i j d le within) in
         cc (no, passes)
 
-start_at : (source : Source) (stored : List KeptItem) (from to : ℕ) (d : KeptItem) → from ≤ length stored → IsStart source stored from
+start_at : (source : Endpoint) (stored : List KeptItem) (from to : ℕ) (d : KeptItem) → from ≤ length stored → IsSourceStart source stored from
     → IsPlace source stored to → from ≤ to
 start_at source stored from to d within start place = by_case (cases_lt to from)
   where
@@ -133,18 +133,19 @@ start_at source stored from to d within start place = by_case (cases_lt to from)
         absurd (cc (no, before))
 
 -- the start isn't after the place
-pub start_within : (source : Source) (stored : List KeptItem) (from to : ℕ) → from ≤ length stored → IsStart source stored from
+pub start_within : (source : Endpoint) (stored : List KeptItem) (from to : ℕ) → from ≤ length stored → IsSourceStart source stored from
     → IsPlace source stored to → from ≤ to
 start_within source [] from to within start place = omega (arith, within)
 start_within source (t ∷ stored) from to within start place = start_at source (t ∷ stored) from to t within start place
 
 -- what is from a source stands between them
-pub from_between : (source : Source) (t : KeptItem) → is_before source (source_of t) ≡ false → is_before (source_of t) source ≡ false → is_from source t ≡ true
+pub from_between : (source : Endpoint) (t : KeptItem) → is_before source (source_of t) ≡ false → is_before (source_of t) source ≡ false
+    → is_from source t ≡ true
 from_between source t e f = neither source (source_of t) e f
 
 -- the item in front of the place is the first of its source, unless its source stands after
-pub first_there : (source : Source) (stored : List KeptItem) (at : ℕ) (d : KeptItem) → 0 < at → at ≤ length stored → IsPlace source stored at
+pub first_there : (source : Endpoint) (stored : List KeptItem) (at : ℕ) (d : KeptItem) → 0 < at → at ≤ length stored → IsPlace source stored at
     → is_before source (source_of (get_or stored (at - 1) d)) ≡ false → source_of (get_or stored (at - 1) d) ≡ source
 first_there source stored at d some within place not_behind =
-    sym (one source (source_of (get_or stored (at - 1) d))
+    sym (one_source source (source_of (get_or stored (at - 1) d))
     (neither source (source_of (get_or stored (at - 1) d)) not_behind (place.0 (at - 1) d (omega arith) (omega arith))))

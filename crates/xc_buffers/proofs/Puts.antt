@@ -1,7 +1,6 @@
 -- An item between others, in front of those of its source: what is kept with it and without it.
-use Rattle.std.proofs.Common.{◌≡◌, ℕ, suc, ◌<◌, ◌||◌, Bool, true, false, not, cond, get_or, set, take, ◌==◌, is_some, Option, None, Some, unwrap_or, List}
-use Rattle.std.proofs.Common.{◌∷◌, ◌++◌, length, drop, refl}
-use Rattle.std.proofs.Common.{ap, sym, ◌∙◌, subst, append_assoc, arith}
+use Rattle.std.proofs.Common.{◌≡◌, ℕ, suc, ◌<◌, ◌||◌, Bool, true, false, not, cond, get_or, set, take, ◌==◌, is_some, Option, None, Some, unwrap_or, List, ◌∷◌}
+use Rattle.std.proofs.Common.{◌++◌, length, drop, refl, ap, sym, ◌∙◌, subst, append_assoc, arith}
 use Rattle.std.specs.Prelude.{All, map, reverse, insert, remove}
 use Rattle.std.specs.FinMap as finite
 use Rattle.std.specs.List.{flat_map}
@@ -12,17 +11,18 @@ use Rattle.xc_data.specs.declared.object.Num.{Num}
 use Rattle.xc_maps.proofs.Laws.{get-insert_same, insert-insert_same, insert-get_same, num_total, num_exact}
 use Rattle.xc_world.specs.World.{World, Pipe, Pair, pipe_of, pair_of, with_pipe, with_pair, waiting, with_waiting, empty_pipe, empty_pair}
 use Rattle.xc_world.specs.Run.{gives, given_back}
-use Rattle.xc_buffers.specs.declared.source.Source.TheVariants.{Pipe as OfPipe}
+use Rattle.xc_buffers.specs.declared.source.Endpoint.TheVariants.{Pipe as OfPipe}
 use Rattle.xc_buffers.specs.Sources.{source_of, is_before, is_from}
 use Rattle.xc_buffers.specs.Items.{AreKept, IsInOrder, is_fit, item_bytes, items_from, items_apart, keeps_from, keeps_pair, kept_bytes}
-use Rattle.xc_buffers.specs.Worlds.{has_pipe, has_pair, with_front, without_front, without_first}
+use Rattle.xc_buffers.specs.Worlds.{world_has_pipe, world_has_pair, with_front, without_front, without_first}
 use Rattle.xc_buffers.specs.Changes.{PutsFront, TakesBytes, TakesMessage}
-use Rattle.xc_buffers.proofs.Orders.{own, before_apart}
+use Rattle.xc_buffers.proofs.Orders.{own_source, before_apart}
 use Rattle.xc_buffers.proofs.Ordered.{rises_from, rises_with, rises_without, rises_changed, order_from}
 use Rattle.xc_buffers.proofs.Splits.{All-reverse, All-from, All-below, reverse-cut, reverse-between, All-both, All-between, All-without, All-of, All-first}
 use Rattle.xc_buffers.proofs.Splits.{filter-first, filter-past}
 use Rattle.xc_buffers.specs.Places.{IsPlace, IsFirst}
-use Rattle.xc_buffers.proofs.Fronts.{given_append, given_passes, items_pass, fronted, Passes}
+use Rattle.xc_buffers.proofs.Fronts.{given_passes, items_pass, pipe_fronted, Commutes}
+use Rattle.xc_world.proofs.Laws.{given_append}
 use Rattle.xc_buffers.proofs.Held.{pipe_is_there, pair_is_there}
 use Rattle.xc_buffers.proofs.Turns.{change_same}
 
@@ -44,16 +44,16 @@ module _ (t : KeptItem) (before behind : List KeptItem) (ahead : All (λ x. is_b
   others k d lt = before_apart _ (source_of t) (ahead k d lt)
 
   own_first : items_from (source_of t) (before ++ t ∷ behind) ≡ t ∷ items_from (source_of t) (before ++ behind)
-  own_first = filter-first (is_from (source_of t)) before behind t others (own (source_of t))
+  own_first = filter-first (is_from (source_of t)) before behind t others (own_source (source_of t))
 
   apart_stay : items_apart (source_of t) (before ++ t ∷ behind) ≡ items_apart (source_of t) (before ++ behind)
-  apart_stay = filter-past (λ x. not (is_from (source_of t) x)) before behind t (ap not (own (source_of t)))
+  apart_stay = filter-past (λ x. not (is_from (source_of t) x)) before behind t (ap not (own_source (source_of t)))
 
   in_front : All (λ x. is_fit x ≡ true) (before ++ t ∷ behind) → (w : World) → given_back w (before ++ t ∷ behind) ≡ gives (given_back w (before ++ behind)) t
   in_front fit w =
       let P : KeptItem → Type 0 = λ x. is_fit x ≡ true in
-      let pass : All (Passes (λ x. gives x t)) before =
-      All-both P (λ x. is_from (source_of t) x ≡ false) (Passes (λ x. gives x t)) (λ x f apart. items_pass t x (All-of P before behind t fit) f apart) before
+      let pass : All (Commutes (λ x. gives x t)) before =
+      All-both P (λ x. is_from (source_of t) x ≡ false) (Commutes (λ x. gives x t)) (λ x f apart. items_pass t x (All-of P before behind t fit) f apart) before
       (All-first P before (t ∷ behind) fit) others in
       given_append w before (t ∷ behind) ∙ given_passes (λ x. gives x t) before pass (given_back w behind)
       ∙ ap (λ x. gives x t) (sym (given_append w before behind))
@@ -95,14 +95,14 @@ kept_with t without whole s others fit kept =
     }
 
 -- ---- what a taking leaves
-pipe_there : (w : World) (num : Num) → has_pipe w num ≡ true → finite.get w.pipes num ≡ Some (pipe_of w num)
+pipe_there : (w : World) (num : Num) → world_has_pipe w num ≡ true → finite.get w.pipes num ≡ Some (pipe_of w num)
 pipe_there w num there = by_case (finite.get w.pipes num) there
   where
     by_case : (o : Option Pipe) → is_some o ≡ true → o ≡ Some (unwrap_or o empty_pipe)
     by_case None e = cc
     by_case (Some p) e = refl
 
-pair_there : (w : World) (num : Num) → has_pair w num ≡ true → finite.get w.pairs num ≡ Some (pair_of w num)
+pair_there : (w : World) (num : Num) → world_has_pair w num ≡ true → finite.get w.pairs num ≡ Some (pair_of w num)
 pair_there w num there = by_case (finite.get w.pairs num) there
   where
     by_case : (o : Option Pair) → is_some o ≡ true → o ≡ Some (unwrap_or o empty_pair)
@@ -110,7 +110,7 @@ pair_there w num there = by_case (finite.get w.pairs num) there
     by_case (Some p) e = refl
 
 -- bytes that are given back are taken from the front again
-pub front_left : (w : World) (num : Num) (front : List ℕ) → has_pipe w num ≡ true → w ≡ without_front (gives w (Bytes num front)) num (length front)
+pub front_left : (w : World) (num : Num) (front : List ℕ) → world_has_pipe w num ≡ true → w ≡ without_front (gives w (Bytes num front)) num (length front)
 front_left w num front there =
     let p = pipe_of w num in
     let q = with_front front p in
@@ -127,7 +127,7 @@ side_again true p message = refl
 side_again false p message = refl
 
 -- a message that is given back is the first again
-pub first_left : (w : World) (num : Num) (side : ℕ) (message : List ℕ) → has_pair w num ≡ true
+pub first_left : (w : World) (num : Num) (side : ℕ) (message : List ℕ) → world_has_pair w num ≡ true
     → w ≡ without_first (gives w (Message num side message)) num side
 first_left w num side message there =
     let p = pair_of w num in
@@ -140,12 +140,12 @@ first_left w num side message there =
 
 -- ---- a pipe that is there stays
 -- what is given back leaves what is there
-pub has_front : (w : World) (items : List KeptItem) (num : Num) → has_pipe w num ≡ true → has_pipe (given_back w items) num ≡ true
+pub has_front : (w : World) (items : List KeptItem) (num : Num) → world_has_pipe w num ≡ true → world_has_pipe (given_back w items) num ≡ true
 has_front w items num there = pipe_is_there w items num ∙ ap (λ b. keeps_from (OfPipe num) items || b) there ∙ or_true (keeps_from (OfPipe num) items)
 
 -- so does it a pair
-pub has_first : (w : World) (items : List KeptItem) (num : Num) → has_pair w num ≡ true → has_pair (given_back w items) num ≡ true
-has_first w items num there = pair_is_there w items num ∙ ap (λ b. keeps_pair num items || b) there ∙ or_true (keeps_pair num items)
+pub has_pair_kept : (w : World) (items : List KeptItem) (num : Num) → world_has_pair w num ≡ true → world_has_pair (given_back w items) num ≡ true
+has_pair_kept w items num there = pair_is_there w items num ∙ ap (λ b. keeps_pair num items || b) there ∙ or_true (keeps_pair num items)
 
 takes_front : (pipe : Num) (front : List ℕ) (old new : List KeptItem) → kept_bytes pipe old ≡ front ++ kept_bytes pipe new
     → items_apart (OfPipe pipe) new ≡ items_apart (OfPipe pipe) old
@@ -167,7 +167,7 @@ pub gives_joined : (x : World) (pipe : Num) (front rest : List ℕ) → gives x 
 gives_joined x pipe front rest =
     let p = pipe_of x pipe in
     ap (λ held. with_pipe x pipe (record p { held = held })) (append_assoc front rest p.held)
-    ∙ ap (λ m. record x { pipes = m }) (sym (change_same x.pipes pipe (fronted rest) (fronted front)))
+    ∙ ap (λ m. record x { pipes = m }) (sym (change_same x.pipes pipe (pipe_fronted rest) (pipe_fronted front)))
 
 -- the front of an item was taken, and the rest stays in its place
 pub takes_part : (pipe : Num) (front rest : List ℕ) (without old new : List KeptItem) → PutsFront (Bytes pipe (front ++ rest)) without old
@@ -187,7 +187,7 @@ takes_message pair side message old new put = record {
   apart = sym put.apart;
   back = put.world;
   left = λ w there.
-      first_left (given_back w new) pair side message (has_first w new pair there) ∙ ap (λ x. without_first x pair side) (sym (put.world w));
+      first_left (given_back w new) pair side message (has_pair_kept w new pair there) ∙ ap (λ x. without_first x pair side) (sym (put.world w));
 }
 
 -- ---- in a list in the reverse order

@@ -10,12 +10,12 @@ use Rattle.std.proofs.lemmas.List.Sorted.{IsPermutation-reverse, sum_by-IsPermut
 use Rattle.xc_data.specs.declared.entry.KeptItem.{KeptItem}
 use Rattle.xc_data.specs.declared.entry.KeptItem.TheVariants.{Bytes, Message}
 use Rattle.xc_data.specs.declared.object.Num.{Num}
-use Rattle.xc_buffers.specs.declared.source.Source.{Source}
-use Rattle.xc_buffers.specs.declared.source.Source.TheVariants.{Pipe, Side}
+use Rattle.xc_buffers.specs.declared.source.Endpoint.{Endpoint}
+use Rattle.xc_buffers.specs.declared.source.Endpoint.TheVariants.{Pipe, Side}
 use Rattle.xc_buffers.specs.Sources.{source_of, is_before, is_from}
 use Rattle.xc_buffers.specs.Items.{AreKept, IsInOrder, is_fit, item_bytes, items_from, keeps_from, kept_bytes, kept_messages}
 use Rattle.xc_buffers.specs.Changes.{PutsFront, TakesBytes, TakesMessage}
-use Rattle.xc_buffers.specs.Places.{IsFirst, IsPlace, IsStart}
+use Rattle.xc_buffers.specs.Places.{IsFirst, IsPlace, IsSourceStart}
 use Rattle.xc_buffers.proofs.Held.{any_none, none_any}
 use Rattle.xc_buffers.proofs.Ordered.{falls_from, from_between}
 use Rattle.xc_buffers.proofs.Orders.{before_apart, behind_apart, not_before}
@@ -25,13 +25,13 @@ use Rattle.xc_buffers.proofs.Splits.{All-reverse, filter-none, filter-part, filt
 
 -- ---- where no item of a source is kept
 -- all stand before it
-pub none_first : (source : Source) (stored : List KeptItem) (at : ℕ) → IsPlace source stored at → at ≤ 0 → keeps_from source stored ≡ false
+pub none_first : (source : Endpoint) (stored : List KeptItem) (at : ℕ) → IsPlace source stored at → at ≤ 0 → keeps_from source stored ≡ false
 none_first source stored at place le = any_none (is_from source) stored (λ k d lt. before_apart _ source (place.1 k d (omega arith) lt))
 
 -- the last that doesn't stand before it stands after
-pub none_behind : (source : Source) (stored : List KeptItem) (at : ℕ) (t : KeptItem) → IsInOrder (reverse stored) → IsPlace source stored at
+pub none_from_source : (source : Endpoint) (stored : List KeptItem) (at : ℕ) (t : KeptItem) → IsInOrder (reverse stored) → IsPlace source stored at
     → 0 < at → at ≤ length stored → t ≡ get_or stored (at - 1) t → is_before source (source_of t) ≡ true → keeps_from source stored ≡ false
-none_behind source stored at t order place some within is behind = any_none (is_from source) stored (λ k d lt. apart k d lt (cases_lt k at))
+none_from_source source stored at t order place some within is behind = any_none (is_from source) stored (λ k d lt. apart k d lt (cases_lt k at))
   where
     ahead : (k : ℕ) (d : KeptItem) → k < at → is_before (source_of (get_or stored k d)) (source_of (get_or stored (at - 1) d)) ≡ false
     ahead k d lt = falls_from stored order k (at - 1) d (omega arith) (omega arith)
@@ -51,9 +51,9 @@ none_behind source stored at t order place some within is behind = any_none (is_
     apart k d lt (inr ge) = before_apart (source_of (get_or stored k d)) source (place.1 k d ge lt)
 
 -- ---- the items of a source side by side
-pub part_there : (source : Source) (stored : List KeptItem) (from to : ℕ) → from ≤ to → to ≤ length stored → IsStart source stored from
+pub items_there : (source : Endpoint) (stored : List KeptItem) (from to : ℕ) → from ≤ to → to ≤ length stored → IsSourceStart source stored from
     → IsPlace source stored to → between from to stored ≡ items_from source stored
-part_there source stored from to le within start place =
+items_there source stored from to le within start place =
     sym (filter-part (is_from source) stored from to le within
     (λ k d low lt. behind_apart (source_of (get_or stored k d)) source (start.0 k d low lt))
     (λ k d low lt. from_between source (get_or stored k d) (start.1 k d low (omega arith)) (place.0 k d (omega arith) lt))
@@ -102,12 +102,12 @@ message_of_side pair side (Message p s bytes) e =
 
 module _ (stored : List KeptItem) (at : ℕ) (t : KeptItem) (is : t ≡ get_or stored at t) (kept : AreKept (reverse stored)) where
   -- without its first item
-  pub took_kept : (source : Source) → IsFirst source stored at → AreKept (reverse (remove stored at))
+  pub took_kept : (source : Endpoint) → IsFirst source stored at → AreKept (reverse (remove stored at))
   took_kept source first =
       let e : source_of t ≡ source = ap source_of is ∙ first.from t in
       kept_without t _ _ (stands_there stored at t (subst (λ s. IsFirst s stored at) (sym e) first) is) kept
 
-  put_back : (source : Source) → IsFirst source stored at → PutsFront t (reverse (remove stored at)) (reverse stored)
+  put_back : (source : Endpoint) → IsFirst source stored at → PutsFront t (reverse (remove stored at)) (reverse stored)
   put_back source first =
       let e : source_of t ≡ source = ap source_of is ∙ first.from t in
       puts_front t _ _ (stands_there stored at t (subst (λ s. IsFirst s stored at) (sym e) first) is) kept.fit
@@ -152,7 +152,7 @@ module _ (stored : List KeptItem) (at : ℕ) (t : KeptItem) (is : t ≡ get_or s
 
 -- ---- what is put
 -- at the place of its source
-module _ (stored seen next : List KeptItem) (at : ℕ) (t : KeptItem) (source : Source) (same : seen ≡ stored) (own : source ≡ source_of t)
+module _ (stored seen next : List KeptItem) (at : ℕ) (t : KeptItem) (source : Endpoint) (same : seen ≡ stored) (own : source ≡ source_of t)
     (place : IsPlace source seen at) (did : next ≡ insert stored at t) (fit : is_fit t ≡ true) (kept : AreKept (reverse stored)) where
   here : IsPlace (source_of t) stored at
   here = subst (λ s. IsPlace s stored at) own (subst (λ xs. IsPlace source xs at) same place)
@@ -187,11 +187,11 @@ module _ (stored : List KeptItem) (at : ℕ) (pipe : Num) (n size : ℕ) (t : Ke
       subst (λ b. TakesBytes pipe b (reverse stored) (reverse (set stored at (Bytes pipe rest)))) (sym front_is)
       (subst (λ b. TakesBytes pipe (take n (item_bytes t)) (reverse stored) (reverse (set stored at (Bytes pipe b)))) (sym rest_is) split.0)
 
-  pub part_kept : AreKept (reverse (set stored at (Bytes pipe rest)))
-  part_kept = subst (λ b. AreKept (reverse (set stored at (Bytes pipe b)))) (sym rest_is) split.1
+  pub rest_kept : AreKept (reverse (set stored at (Bytes pipe rest)))
+  rest_kept = subst (λ b. AreKept (reverse (set stored at (Bytes pipe b)))) (sym rest_is) split.1
 
 -- ---- where nothing is kept of a source
-none_from : (source : Source) (stored : List KeptItem) → keeps_from source stored ≡ false → items_from source (reverse stored) ≡ []
+none_from : (source : Endpoint) (stored : List KeptItem) → keeps_from source stored ≡ false → items_from source (reverse stored) ≡ []
 none_from source stored none =
     filter-reverse (is_from source) stored ∙ ap reverse (filter-none (is_from source) stored (none_any (is_from source) stored none))
 

@@ -8,8 +8,8 @@ use Rattle.xc_data.specs.declared.object.Object.{Object}
 use Rattle.xc_data.specs.declared.object.Object.TheVariants as object
 use Rattle.std.specs.Ordering.{eq_by_cmp}
 use Rattle.xc_maps.specs.Keys.{num_cmp}
-use Rattle.xc_buffers.specs.declared.source.Source.{Source}
-use Rattle.xc_buffers.specs.declared.source.Source.TheVariants.{Pipe, Side}
+use Rattle.xc_buffers.specs.declared.source.Endpoint.{Endpoint}
+use Rattle.xc_buffers.specs.declared.source.Endpoint.TheVariants.{Pipe, Side}
 use Rattle.xc_buffers.specs.Sources.{source_of, is_before, is_from}
 
 -- bytes that are some, or a message of at most 1,024 bytes for side 0 or 1
@@ -27,15 +27,15 @@ pub record AreKept (items : List KeptItem) : Type 0 where
   pub fit : All (λ t. is_fit t ≡ true) items
 
 -- the items of a source
-abbrev pub items_from : Source → List KeptItem → List KeptItem
+abbrev pub items_from : Endpoint → List KeptItem → List KeptItem
 items_from source items = filter (is_from source) items
 
 -- the items of all other sources
-abbrev pub items_apart : Source → List KeptItem → List KeptItem
+abbrev pub items_apart : Endpoint → List KeptItem → List KeptItem
 items_apart source items = filter (λ t. not (is_from source t)) items
 
 -- whether an item of the source is kept
-abbrev pub keeps_from : Source → List KeptItem → Bool
+abbrev pub keeps_from : Endpoint → List KeptItem → Bool
 keeps_from source items = list_any (is_from source) items
 
 -- whether an item is of this pair, of either side

@@ -5,12 +5,12 @@ use Rattle.xc_data.specs.declared.object.Num.{Num}
 use Rattle.xc_world.specs.World.{World, Pipe, pipe_of, pair_of, with_pipe, with_pair, waiting, with_waiting}
 
 -- there is such a pipe
-abbrev pub has_pipe : World → Num → Bool
-has_pipe w num = is_some (map.get w.pipes num)
+abbrev pub world_has_pipe : World → Num → Bool
+world_has_pipe w num = is_some (map.get w.pipes num)
 
 -- there is such a pair
-abbrev pub has_pair : World → Num → Bool
-has_pair w num = is_some (map.get w.pairs num)
+abbrev pub world_has_pair : World → Num → Bool
+world_has_pair w num = is_some (map.get w.pairs num)
 
 -- a pipe with bytes in front of those that it holds
 abbrev pub with_front : List ℕ → Pipe → Pipe
@@ -29,9 +29,9 @@ abbrev pub with_held : World → World → World
 with_held rest w = record rest { pipes = w.pipes; pairs = w.pairs }
 
 -- the pipe is gone
-abbrev pub without_pipe : World → Num → World
-without_pipe w num = record w { pipes = map.remove w.pipes num }
+abbrev pub world_without_pipe : World → Num → World
+world_without_pipe w num = record w { pipes = map.remove w.pipes num }
 
 -- the pair is gone
-abbrev pub without_pair : World → Num → World
-without_pair w num = record w { pairs = map.remove w.pairs num }
+abbrev pub world_without_pair : World → Num → World
+world_without_pair w num = record w { pairs = map.remove w.pairs num }

@@ -7,7 +7,7 @@ ghost use Rattle.xc_buffers.specs.Changes.{PutsFront, FindsBytes, FindsMessage};
 ghost use Rattle.xc_buffers.specs.Items.{AreKept, is_fit, kept_count};
 
 use crate::rows::{capped, first_of, part_of, put_front, take_bytes, take_message, total_of};
-use crate::source::Source;
+use crate::source::Endpoint;
 use std::alloc::Global;
 use std::marker::Model;
 use xc_data::{Chunk, Items, KeptItem, KeptList, NoMemory, Num, Object};
@@ -78,7 +78,7 @@ impl Kept {
         if n == 0 {
             return Ok(None);
         }
-        match first_of(&self.items, Source::Pipe(pipe)) {
+        match first_of(&self.items, Endpoint::Pipe(pipe)) {
             Some(at) => Ok(Some(take_bytes(&mut self.items, at, pipe, n as usize)?)),
             None => Ok(None),
         }
@@ -117,7 +117,7 @@ impl Kept {
         ensures spare { self.old.spare ≤ self.new.spare }
         ensures in_order { AreKept self.old.items → AreKept self.new.items }
     {
-        match first_of(&self.items, Source::Side { pair, side }) {
+        match first_of(&self.items, Endpoint::Side { pair, side }) {
             Some(at) => Some(take_message(&mut self.items, at, pair, side)),
             None => None,
         }
@@ -146,9 +146,9 @@ impl Kept {
         ensures kept { AreKept self.now.items }
     {
         match object {
-            Object::Pipe(pipe) => total_of(part_of(&self.items, Source::Pipe(*pipe))),
+            Object::Pipe(pipe) => total_of(part_of(&self.items, Endpoint::Pipe(*pipe))),
             Object::Pair(pair) => {
-                capped(part_of(&self.items, Source::Side { pair: *pair, side }).len())
+                capped(part_of(&self.items, Endpoint::Side { pair: *pair, side }).len())
             }
             Object::Word(_) | Object::Name(_) | Object::File(_) | Object::Jobs => 0,
         }

@@ -9,5 +9,5 @@ mod source;
 mod taken;
 
 pub use kept::Kept;
-pub use source::Source;
+pub use source::Endpoint;
 pub use taken::Taken;

@@ -5,30 +5,30 @@ ghost use Rattle.std.specs.Prelude.{MatchOption, OnErr, IfOk};
 ghost use Rattle.std.specs.List.{sum_by};
 ghost use Rattle.xc_buffers.specs.Changes.{PutsFront, TakesBytes, TakesMessage};
 ghost use Rattle.xc_buffers.specs.Items.{AreKept, IsInOrder, is_fit, item_bytes, items_from, keeps_from};
-ghost use Rattle.xc_buffers.specs.Places.{IsFirst, IsPlace, IsStart};
-ghost use Rattle.xc_buffers.specs.declared.source.Source.TheVariants.{Pipe, Side};
+ghost use Rattle.xc_buffers.specs.Places.{IsFirst, IsPlace, IsSourceStart};
+ghost use Rattle.xc_buffers.specs.declared.source.Endpoint.TheVariants.{Pipe, Side};
 
-use crate::source::Source;
+use crate::source::Endpoint;
 use xc_data::{Chunk, KeptItem, NoMemory, Num};
 
-fn place_of(items: &[KeptItem], source: Source) -> usize
+fn place_of(items: &[KeptItem], source: Endpoint) -> usize
     requires { IsInOrder (reverse items.now) }
     ensures within { result ≤ length items.now }
     ensures place { IsPlace source items.now result }
 {
-    items.partition_point(|item| !Source::of(item).is_before(source))
+    items.partition_point(|item| !Endpoint::of(item).is_before(source))
 }
 
-fn start_of(items: &[KeptItem], source: Source) -> usize
+fn start_of(items: &[KeptItem], source: Endpoint) -> usize
     requires { IsInOrder (reverse items.now) }
     ensures within { result ≤ length items.now }
-    ensures start { IsStart source items.now result }
+    ensures start { IsSourceStart source items.now result }
 {
-    items.partition_point(|item| source.is_before(Source::of(item)))
+    items.partition_point(|item| source.is_before(Endpoint::of(item)))
 }
 
 // The items of a source, which stand side by side.
-pub(crate) fn part_of(items: &[KeptItem], source: Source) -> &[KeptItem]
+pub(crate) fn part_of(items: &[KeptItem], source: Endpoint) -> &[KeptItem]
     requires { IsInOrder (reverse items.now) }
     ensures { result.now ≡ items_from source items.now }
 {
@@ -38,7 +38,7 @@ pub(crate) fn part_of(items: &[KeptItem], source: Source) -> &[KeptItem]
 }
 
 /// The place of the first item of a source, where one is kept.
-pub(crate) fn first_of(items: &[KeptItem], source: Source) -> Option<usize>
+pub(crate) fn first_of(items: &[KeptItem], source: Endpoint) -> Option<usize>
     requires { IsInOrder (reverse items.now) }
     ensures { MatchOption result (keeps_from source items.now ≡ false) (λ at. IsFirst source items.now at) }
 {
@@ -46,7 +46,7 @@ pub(crate) fn first_of(items: &[KeptItem], source: Source) -> Option<usize>
     if behind == 0 {
         return None;
     }
-    if source.is_before(Source::of(&items[behind - 1])) {
+    if source.is_before(Endpoint::of(&items[behind - 1])) {
         return None;
     }
     Some(behind - 1)
@@ -62,7 +62,7 @@ pub(crate) fn put_front(items: &mut Vec<KeptItem>, item: KeptItem)
     ensures len { vec_len items.new ≡ vec_len items.old + 1 }
     ensures capacity { vec_capacity items.new ≡ vec_capacity items.old }
 {
-    let at = place_of(items, Source::of(&item));
+    let at = place_of(items, Endpoint::of(&item));
     match items.insert(at, item) {
         Ok(()) => {}
         Err(_) => unreachable!(),

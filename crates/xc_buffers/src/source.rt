@@ -7,7 +7,7 @@ use xc_data::{KeptItem, Num};
 
 /// Where data was taken: a pipe, or a side of a pair.
 #[derive(Clone, Copy)]
-pub enum Source {
+pub enum Endpoint {
     Pipe(Num),
     Side { pair: Num, side: u8 },
 }
@@ -22,28 +22,28 @@ fn compared(a: Num, b: Num) -> Ordering
     }
 }
 
-impl Source {
+impl Endpoint {
     /// Where an item was taken.
-    pub fn of(item: &KeptItem) -> Source
+    pub fn of(item: &KeptItem) -> Endpoint
         ensures { result ≡ source_of item.now }
     {
         match item {
-            KeptItem::Bytes { pipe, .. } => Source::Pipe(*pipe),
-            KeptItem::Message { pair, side, .. } => Source::Side {
+            KeptItem::Bytes { pipe, .. } => Endpoint::Pipe(*pipe),
+            KeptItem::Message { pair, side, .. } => Endpoint::Side {
                 pair: *pair,
                 side: *side,
             },
         }
     }
 
-    fn compared(self, other: Source) -> Ordering
+    fn compared(self, other: Endpoint) -> Ordering
         ensures { result ≡ source_cmp self other }
     {
         match (self, other) {
-            (Source::Pipe(a), Source::Pipe(b)) => compared(a, b),
-            (Source::Pipe(_), Source::Side { .. }) => Ordering::Less,
-            (Source::Side { .. }, Source::Pipe(_)) => Ordering::Greater,
-            (Source::Side { pair: a, side: s }, Source::Side { pair: b, side: t }) => {
+            (Endpoint::Pipe(a), Endpoint::Pipe(b)) => compared(a, b),
+            (Endpoint::Pipe(_), Endpoint::Side { .. }) => Ordering::Less,
+            (Endpoint::Side { .. }, Endpoint::Pipe(_)) => Ordering::Greater,
+            (Endpoint::Side { pair: a, side: s }, Endpoint::Side { pair: b, side: t }) => {
                 match compared(a, b) {
                     Ordering::Equal => s.cmp(&t),
                     Ordering::Less => Ordering::Less,
@@ -54,7 +54,7 @@ impl Source {
     }
 
     /// Pipes stand before pairs, each by number, and the sides of a pair by number.
-    pub fn is_before(self, other: Source) -> bool
+    pub fn is_before(self, other: Endpoint) -> bool
         ensures { result ≡ is_before self other }
     {
         self.compared(other).is_lt()

@@ -1,7 +1,7 @@
 -- Calls on a host with kept items in front of what it holds.
 use Rattle.std.proofs.Common.{◌≡◌, Ok, Err, IsTrue, List, refl, ap, sym}
 use Rattle.std.specs.Prelude.{OnErr, Result}
-use Rattle.xc_data.specs.declared.script.Kind.{Kind}
+use Rattle.xc_data.specs.declared.script.HostCallKind.{HostCallKind}
 use Rattle.xc_data.specs.declared.call.Reply.{Reply}
 use Rattle.xc_data.specs.declared.entry.KeptItem.{KeptItem}
 use Rattle.xc_data.specs.declared.memory.NoMemory.{NoMemory}
@@ -15,7 +15,7 @@ use Rattle.xc_host.specs.Uses.{Uses}
 use Rattle.xc_calls.specs.Passing.{IsAsBefore}
 use Rattle.std.proofs.Common.{subst}
 use Rattle.xc_host.specs.Kept.{KeepsData}
-use Rattle.xc_host.proofs.Laws.{keeps_itself}
+use Rattle.xc_host.proofs.Laws.{data_keeps_itself}
 use Rattle.xc_calls.specs.Sides.{IsSame, Sides}
 
 -- what a host holds with what is kept
@@ -38,7 +38,7 @@ sides model s = record { contents = model.contents s.host; items = s.items }
 
 module _ {H : Type 0} (model : HostModel H) (old new : ReadState H) where
   -- a host that was used is so with items in front, whatever becomes of these
-  pub uses_both : {IsMade : List Kind → Type 0} → Uses model (record { old = old.host; new = new.host }) IsMade
+  pub uses_both : {IsMade : List HostCallKind → Type 0} → Uses model (record { old = old.host; new = new.host }) IsMade
       → Uses (fronted model) (record { old = before old.host old.items; new = before new.host new.items }) IsMade
   uses_both u = record { made = u.made; named = u.named; used = record { called = u.used.called; plan = u.used.plan } }
 
@@ -70,4 +70,4 @@ before_fronted model items a b u v (Err e) is =
 
 -- where nothing is changed
 pub keeps_same : (c d : Contents) → d ≡ c → KeepsData c d
-keeps_same c d same = subst (KeepsData c) (sym same) (keeps_itself c)
+keeps_same c d same = subst (KeepsData c) (sym same) (data_keeps_itself c)

@@ -14,7 +14,7 @@ use Rattle.xc_data.specs.Faults.{is_fault_reply}
 use Rattle.xc_world.specs.World.{World}
 use Rattle.xc_world.specs.Act.{act}
 use Rattle.xc_world.specs.Act.Step.{step_to}
-use Rattle.xc_world.specs.After.{IsMeAfter, stored_after}
+use Rattle.xc_world.specs.After.{IsMeAfter, stored_with_reply}
 use Rattle.xc_world.specs.Checks.{IsChecked, is_bad_handle, is_too_big, is_too_much, refusal_of}
 use Rattle.xc_world.specs.Ends.{Ending}
 use Rattle.xc_world.specs.Fits.{fits, answer_of}
@@ -61,7 +61,7 @@ refused_me call me tx r e =
     record {
       places = plain.places tx call me;
       made = sym (plain.made call me.made);
-      stored = ap (λ o. stored_after o call r me.stored) (sym e);
+      stored = ap (λ o. stored_with_reply o call r me.stored) (sym e);
     }
 
 -- a call that a check refuses, and that leaves no record then
@@ -99,7 +99,7 @@ free_me : (call : Call) (me next : Private) (tx : ℕ) (r : Reply) → refusal_o
 free_me call me next tx r e after = record {
   places = after.places;
   made = after.made;
-  stored = after.stored ∙ ap (λ o. stored_after o call r me.stored) (sym e);
+  stored = after.stored ∙ ap (λ o. stored_with_reply o call r me.stored) (sym e);
 }
 
 free_uses : {H : Type 0} (model : HostModel H) (step : Step H) (call : Call) (me : Private) (r : Reply) → refusal_of call me ≡ None
@@ -107,7 +107,7 @@ free_uses : {H : Type 0} (model : HostModel H) (step : Step H) (call : Call) (me
 free_uses model step call me r e uses = subst (λ o. Uses model step (CallsOf o call r)) (sym e) uses
 
 -- the records that a call with this reply leaves: one at most, and those of the plain machine where the host tells
-pub record Grows {H : Type 0} (model : HostModel H) (call : Call) (old new : CallState H) (r : Reply) : Type 0 where
+pub record RecordsGrow {H : Type 0} (model : HostModel H) (call : Call) (old new : CallState H) (r : Reply) : Type 0 where
   pub made : List Undo
   pub one : length made ≤ 1
   pub kinds : AreRecordsOf (left_by call r) made
@@ -116,7 +116,7 @@ pub record Grows {H : Type 0} (model : HostModel H) (call : Call) (old new : Cal
 
 -- a call that is passed, and replies
 pub replied_call : {H : Type 0} (model : HostModel H) (call : Call) (old new : CallState H) (r : Reply)
-    → refusal_of call old.me ≡ None → Passes model call (record { old = old; new = new }) (Ok r) → Grows model call old new r
+    → refusal_of call old.me ≡ None → Passes model call (record { old = old; new = new }) (Ok r) → RecordsGrow model call old new r
     → IsHostCall model call old new (Ok r)
 replied_call model call old new r free passes grows =
     record {
@@ -158,7 +158,7 @@ starved_call model call old new e free passes before =
 -- a call that is passed
 pub passed_call : {H : Type 0} (model : HostModel H) (call : Call) (old new : CallState H) (result : Result Reply NoMemory)
     → refusal_of call old.me ≡ None → Passes model call (record { old = old; new = new }) result
-    → IfOk result (Grows model call old new) → OnErr result (IsAsBefore model (at_host (record { old = old; new = new })))
+    → IfOk result (RecordsGrow model call old new) → OnErr result (IsAsBefore model (at_host (record { old = old; new = new })))
     → IsHostCall model call old new result
 passed_call model call old new (Ok r) free passes grows before = replied_call model call old new r free passes grows
 passed_call model call old new (Err e) free passes grows before = starved_call model call old new e free passes before
@@ -166,7 +166,7 @@ passed_call model call old new (Err e) free passes grows before = starved_call m
 -- a call that leaves no record
 pub none_grow : {H : Type 0} (model : HostModel H) (call : Call) (old new : CallState H) (result : Result Reply NoMemory)
     → new.undo ≡ old.undo → ((r : Reply) → leaves_record call r ≡ false) → ((r : Reply) (w : World) → [] ≡ recorded w old.me old.number call r)
-    → IfOk result (Grows model call old new)
+    → IfOk result (RecordsGrow model call old new)
 none_grow model call old new (Ok r) undo leaves none =
     record {
       made = [];
@@ -180,7 +180,7 @@ none_grow model call old new (Err e) undo leaves none = tt
 -- a call whose records its reply tells, whatever the world
 pub told_grow : {H : Type 0} (model : HostModel H) (call : Call) (made : Reply → List Undo) (old new : CallState H) (result : Result Reply NoMemory)
     → old.undo.ended ≡ [] → ((r : Reply) → AreRecordsOf (left_by call r) (made r)) → ((r : Reply) (w : World) → made r ≡ recorded w old.me old.number call r)
-    → IfOk result (λ r. new.undo ≡ record { pending = old.undo.pending ++ made r; ended = [] }) → IfOk result (Grows model call old new)
+    → IfOk result (λ r. new.undo ≡ record { pending = old.undo.pending ++ made r; ended = [] }) → IfOk result (RecordsGrow model call old new)
 told_grow model call made old new (Ok r) none kinds are undo =
     record {
       made = made r;

@@ -28,7 +28,7 @@ pub use Rattle.xc_calls.proofs.HostCalls.{refused_call}
 -- nothing is refused that passes
 pub use Rattle.xc_calls.proofs.HostCalls.{some_refusal}
 -- the records that a call with this reply leaves: one at most, and those of the plain machine where the host tells
-pub use Rattle.xc_calls.proofs.HostCalls.{Grows}
+pub use Rattle.xc_calls.proofs.HostCalls.{RecordsGrow}
 -- a call that is passed, and replies
 pub use Rattle.xc_calls.proofs.HostCalls.{replied_call}
 -- a call that is passed

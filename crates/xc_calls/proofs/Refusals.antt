@@ -12,7 +12,7 @@ use Rattle.xc_data.specs.declared.private.Private.{Private}
 use Rattle.xc_data.specs.Faults.{is_fault_reply}
 use Rattle.xc_world.specs.World.{World}
 use Rattle.xc_world.specs.Act.{act, done}
-use Rattle.xc_world.specs.Act.Step.{Stepped, step_to, counted}
+use Rattle.xc_world.specs.Act.Step.{Stepped, step_to, bytes_counted}
 use Rattle.xc_world.specs.Checks.{is_bad_handle, is_too_big, is_too_much, is_bad_word, is_refused, refusal_of}
 use Rattle.xc_world.specs.After.{ArePlaces, made_after}
 use Rattle.xc_world.specs.Fits.{answer_of}
@@ -22,8 +22,8 @@ use Rattle.std.proofs.Math.Bool.{or-false}
 use Rattle.std.specs.Prelude.{is_none}
 
 -- the first of three checks that refuses
-abbrev first : Bool → Bool → Bool → Option Reply
-first bad big much =
+abbrev first_refused : Bool → Bool → Bool → Option Reply
+first_refused bad big much =
     if bad then Some reply.BadHandle
     else if big then Some reply.TooBig
     else if much then Some reply.TooMuch
@@ -32,7 +32,7 @@ first bad big much =
 none_some : {T : Type 0} (x : T) → None ≡ Some x → ⊥
 none_some x e = subst (λ o. MatchOption o (Unit {0}) (λ _. ⊥)) e tt
 
-stays_so : (bad big much : Bool) (w : World) (me : Private) (other : Stepped) (r : Reply) → first bad big much ≡ Some r
+stays_so : (bad big much : Bool) (w : World) (me : Private) (other : Stepped) (r : Reply) → first_refused bad big much ≡ Some r
     → (if bad then step_to w me reply.BadHandle else if big then step_to w me reply.TooBig else if much then step_to w me reply.TooMuch else other)
     ≡ step_to w me r
 stays_so true big much w me other r e = ap (λ o. step_to w me (unwrap_or o r)) e
@@ -45,9 +45,9 @@ pub refused_acts : (w : World) (me : Private) (tx : ℕ) (call : Call) (answer :
     → act w me tx call answer ≡ step_to w me r
 refused_acts w me tx call answer r e =
     stays_so (is_bad_handle call me) (is_too_big call) (is_too_much call me) w me
-    (if is_bad_word call (length w.words) then step_to w me reply.BadWord else counted call (done w me tx call answer)) r e
+    (if is_bad_word call (length w.words) then step_to w me reply.BadWord else bytes_counted call (done w me tx call answer)) r e
 
-none_of : (bad big much word : Bool) → first bad big much ≡ None → (bad || big || much || word) ≡ word
+none_of : (bad big much word : Bool) → first_refused bad big much ≡ None → (bad || big || much || word) ≡ word
 none_of true big much word e = absurd (none_some reply.BadHandle (sym e))
 none_of false true much word e = absurd (none_some reply.TooBig (sym e))
 none_of false false true word e = absurd (none_some reply.TooMuch (sym e))
@@ -58,7 +58,7 @@ pub passed_checks : (me : Private) (call : Call) (words : ℕ) → refusal_of ca
 passed_checks me call words e = none_of (is_bad_handle call me) (is_too_big call) (is_too_much call me) (is_bad_word call words) e
 
 -- a reply of a check is fine, no fault, and leaves no record and the private state
-pub record IsPlain (r : Reply) : Type 0 where
+pub record IsCheckReply (r : Reply) : Type 0 where
   pub answer : answer_of r ≡ Fine
   pub fault : is_fault_reply r ≡ false
   pub done : (all : ℕ) → done_of all r ≡ 0
@@ -90,13 +90,13 @@ much_made (call.XOpen name) n = refl
 much_made _ n = refl
 
 -- the first of the checks that refuses gives such a reply
-pub plain_first : (bad big much : Bool) (r : Reply) → first bad big much ≡ Some r → IsPlain r
+pub plain_first : (bad big much : Bool) (r : Reply) → first_refused bad big much ≡ Some r → IsCheckReply r
 plain_first true big much r e =
-    subst (λ o. IsPlain (unwrap_or o r)) e (record { answer = refl; fault = refl; done = λ _. refl; places = bad_places; made = bad_made })
+    subst (λ o. IsCheckReply (unwrap_or o r)) e (record { answer = refl; fault = refl; done = λ _. refl; places = bad_places; made = bad_made })
 plain_first false true much r e =
-    subst (λ o. IsPlain (unwrap_or o r)) e (record { answer = refl; fault = refl; done = λ _. refl; places = big_places; made = big_made })
+    subst (λ o. IsCheckReply (unwrap_or o r)) e (record { answer = refl; fault = refl; done = λ _. refl; places = big_places; made = big_made })
 plain_first false false true r e =
-    subst (λ o. IsPlain (unwrap_or o r)) e (record { answer = refl; fault = refl; done = λ _. refl; places = much_places; made = much_made })
+    subst (λ o. IsCheckReply (unwrap_or o r)) e (record { answer = refl; fault = refl; done = λ _. refl; places = much_places; made = much_made })
 plain_first false false false r e = absurd (none_some r e)
 
 -- what a check of a limit says

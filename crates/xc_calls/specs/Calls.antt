@@ -11,10 +11,10 @@ use Rattle.xc_data.specs.declared.call.Answer.{Answer}
 use Rattle.xc_data.specs.declared.call.Answer.TheVariants.{Fine}
 use Rattle.xc_data.specs.declared.call.Reply.{Reply}
 use Rattle.xc_data.specs.declared.private.Private.{Private}
-use Rattle.xc_data.specs.declared.script.Kind.{Kind}
+use Rattle.xc_data.specs.declared.script.HostCallKind.{HostCallKind}
 use Rattle.xc_data.specs.declared.undo.Undo.{Undo}
 use Rattle.xc_world.specs.World.{World}
-use Rattle.xc_world.specs.After.{IsMeAfter, ArePlaces, made_after, stored_after, bytes_in}
+use Rattle.xc_world.specs.After.{IsMeAfter, ArePlaces, made_after, stored_with_reply, bytes_in}
 use Rattle.xc_world.specs.Checks.{IsChecked, refusal_of}
 use Rattle.xc_world.specs.Replies.{may_reply}
 use Rattle.xc_world.specs.Act.{act}
@@ -99,21 +99,21 @@ pub record IsStarved {H : Type 0} (model : HostModel H) (call : Call) (old new :
 pub record IsMePassed (tx : ℕ) (call : Call) (was is : Private) (reply : Reply) : Type 0 where
   pub places : ArePlaces tx call was reply is.places
   pub made : is.made ≡ made_after call reply was.made
-  pub stored : is.stored ≡ stored_after None call reply was.stored
+  pub stored : is.stored ≡ stored_with_reply None call reply was.stored
 
 -- a reply that may come of a call that no check refused, and that brings no bytes
 abbrev pub IsPassedReply : Call → Reply → Type 0
 IsPassedReply call reply = (may_reply call reply ≡ true) × (bytes_in reply ≡ 0)
 
 -- the calls of the host by the end of a call that no check refused
-abbrev pub PassedBy : Call → Result Reply NoMemory → List Kind → Type 0
+abbrev pub PassedBy : Call → Result Reply NoMemory → List HostCallKind → Type 0
 PassedBy call (Ok reply) made = CallsFor call reply made
 PassedBy call (Err e) made = StopsFor call made
 
 -- which calls of the host are made by the end of a call: those of its reply, or where memory ran out the first of them
-abbrev pub MadeBy : Call → Private → Result Reply NoMemory → List Kind → Type 0
-MadeBy call me (Ok reply) made = CallsOf (refusal_of call me) call reply made
-MadeBy call me (Err e) made = StopsFor call made
+abbrev pub MadeByCall : Call → Private → Result Reply NoMemory → List HostCallKind → Type 0
+MadeByCall call me (Ok reply) made = CallsOf (refusal_of call me) call reply made
+MadeByCall call me (Err e) made = StopsFor call made
 
 -- a call, over any host
 pub record IsHostCall {H : Type 0} (model : HostModel H) (call : Call) (old new : CallState H)
@@ -125,7 +125,7 @@ pub record IsHostCall {H : Type 0} (model : HostModel H) (call : Call) (old new 
   -- whatever the host says, the private state is that of the reply
   pub after : IfOk result (λ reply. IsMeAfter old.number call reply old.me new.me)
   -- it called the host so
-  pub uses : Uses model (record { old = old.host; new = new.host }) (MadeBy call old.me result)
+  pub uses : Uses model (record { old = old.host; new = new.host }) (MadeByCall call old.me result)
   -- the older records stay, and one comes after them exactly where the call with its reply leaves one, which is of this call
   pub made : List Undo
   pub one : length made ≤ 1

@@ -21,8 +21,8 @@ use Rattle.xc_world.specs.Run.{given_back}
 use Rattle.xc_buffers.specs.Items.{kept_bytes, kept_messages}
 
 -- bytes of a pipe that are given back
-abbrev pub back : Num → List ℕ → List KeptItem
-back pipe bytes = bytes_taken (Pipe pipe) bytes
+abbrev pub bytes_back : Num → List ℕ → List KeptItem
+bytes_back pipe bytes = bytes_taken (Pipe pipe) bytes
 
 -- what is kept leads to the same world, whatever the host holds
 abbrev pub IsKeptAs : Step (List KeptItem) → Type 0
@@ -35,7 +35,7 @@ KeepsBefore kept more = (w : World) → given_back w kept.new ≡ given_back (gi
 -- what a call leaves that fails, or for which memory runs out: what was kept is kept, and what the host gave it stands behind
 -- what was kept of the same source
 abbrev pub HoldsMore : Place → Step (List KeptItem) → Type 0
-HoldsMore (Pipe pipe) kept = (bytes : List ℕ) × KeepsBefore kept (back pipe bytes)
+HoldsMore (Pipe pipe) kept = (bytes : List ℕ) × KeepsBefore kept (bytes_back pipe bytes)
 HoldsMore (Pair num side) kept =
     IsKeptAs kept ⊎ ((bytes : List ℕ) × (kept_messages num side kept.old ≡ []) × KeepsBefore kept (Message num side bytes ∷ []))
 HoldsMore (File num at) kept = kept.new ≡ kept.old
@@ -49,7 +49,7 @@ pub record TakesFront (pipe : Num) (n : ℕ) (bytes : List ℕ) (kept : Step (Li
   pub rest : List ℕ
   pub whole : bytes ≡ front ++ rest
   pub most : length bytes ≤ n
-  pub taken : (w : World) → given_back w kept.old ≡ given_back (given_back w kept.new) (back pipe front)
+  pub taken : (w : World) → given_back w kept.old ≡ given_back (given_back w kept.new) (bytes_back pipe front)
   pub left : length front < n → kept_bytes pipe kept.new ≡ []
 
 -- nothing was kept of the pipe, so that what is kept is the same

@@ -7,7 +7,7 @@ use Rattle.xc_data.specs.declared.entry.Cause.{Cause}
 use Rattle.xc_data.specs.declared.entry.Entry.{Entry}
 use Rattle.xc_data.specs.declared.entry.Outcome.{Outcome}
 use Rattle.xc_data.specs.declared.entry.Outcome.TheVariants.{Committed, Aborted}
-use Rattle.xc_judge.specs.Judged.{telling}
+use Rattle.xc_judge.specs.Judged.{telling_terms}
 use Rattle.xc_judge.specs.Stepped.{MeetsSo}
 use Rattle.xc_judge.specs.declared.reason.Reason.{Reason}
 use Rattle.xc_judge.specs.declared.reason.Reason.TheVariants as reason
@@ -67,7 +67,7 @@ module _ (e : Entry) where
 
   -- ---- the machine's part
   module _ (rules : Rules) (c : Course) (last : Ask) where
-    lates_bare : (o : Outcome) → HasLates (telling rules) c e o → HasLates (telling rules) c (bare e) (bare_outcome o)
+    lates_bare : (o : Outcome) → HasLates (telling_terms rules) c e o → HasLates (telling_terms rules) c (bare e) (bare_outcome o)
     lates_bare (Committed late) h =
         record { count = h.count; played = λ t. record { ends = (h.played t).ends; late_fits = (h.played t).late_fits } }
     lates_bare (Aborted report) h = tt
@@ -80,7 +80,7 @@ module _ (e : Entry) where
     held_bare (Aborted report) h = h
 
     -- a true entry meets each reason as it is shown
-    pub meets_each : IsMachineTrue (telling rules) c last e → (r : Reason) → MeetsSo rules c last (shown_of e) r
+    pub meets_each : IsMachineTrue (telling_terms rules) c last e → (r : Reason) → MeetsSo rules c last (shown_of e) r
     meets_each h reason.Numbers =
         record {
           standing = h.standing;

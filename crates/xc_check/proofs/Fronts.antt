@@ -35,21 +35,21 @@ module _ (script : Script) (e : Entry) where
   machine_more t c jobs (x ∷ front) all one = (all.0, machine_more t (after_course c x) (after_jobs script jobs x) front all.1 one)
 
   -- the script's part
-  pub asked_more : (jobs : List ScriptJob) (front : List Entry) → AreAskedBy script jobs (lasts_from script jobs front) front
+  pub entry_asked_more : (jobs : List ScriptJob) (front : List Entry) → AreAskedBy script jobs (lasts_from script jobs front) front
       → IsAskedEntry script (fold (after_jobs script) jobs front) (last_from jobs front) e
       → AreAskedBy script jobs (lasts_from script jobs (front ++ e ∷ [])) (front ++ e ∷ [])
-  asked_more jobs [] all one = (one, refl)
-  asked_more jobs (x ∷ front) all one = (all.0, asked_more (after_jobs script jobs x) front all.1 one)
+  entry_asked_more jobs [] all one = (one, refl)
+  entry_asked_more jobs (x ∷ front) all one = (all.0, entry_asked_more (after_jobs script jobs x) front all.1 one)
 
   -- what conflicts are judged by
-  pub parts_more : (c : Course) (jobs : List ScriptJob) (front : List Entry)
+  pub machine_parts_more : (c : Course) (jobs : List ScriptJob) (front : List Entry)
       → machine_parts c (lasts_from script jobs (front ++ e ∷ [])) (front ++ e ∷ [])
       ≡ machine_parts c (lasts_from script jobs front) front
       ++ machine_part (fold after_course c front).state (last_from jobs front) e ∷ []
-  parts_more c jobs [] = refl
-  parts_more c jobs (x ∷ front) =
+  machine_parts_more c jobs [] = refl
+  machine_parts_more c jobs (x ∷ front) =
       ap (λ (parts : List Part). machine_part c.state (last_asked script (script_job_of jobs x) x.replies) x ∷ parts)
-      (parts_more (after_course c x) (after_jobs script jobs x) front)
+      (machine_parts_more (after_course c x) (after_jobs script jobs x) front)
 
   -- ---- a journal cut at an entry
   -- what is behind it

@@ -1,17 +1,16 @@
 -- Lines and jobs at their places.
-use Rattle.std.proofs.Common.{◌≡◌, ◌∙◌, ◌+◌, ◌<◌, ◌≤◌, ℕ, zero, suc, List, [], ◌∷◌, ◌++◌, length, map, take, refl, ap, sym, subst, arith}
+use Rattle.std.proofs.Common.{◌≡◌, ◌∙◌, ◌+◌, ◌<◌, ◌≤◌, ℕ, zero, suc, List, [], ◌∷◌, ◌++◌, length, map, take, refl, ap, sym, subst, arith, inl, inr}
 use Rattle.std.specs.List.{AllZip}
 use Rattle.std.specs.Prelude.{slice_get, unwrap_or}
 use Rattle.std.specs.declared.option.Option.TheVariants.{Some}
-use Rattle.std.proofs.Common.{inl, inr}
 use Rattle.std.proofs.lemmas.Bool.{cases_lt}
 use Rattle.std.proofs.lemmas.List.{length-append}
 use Rattle.xc_model.specs.Course.{Standing}
 use Rattle.xc_model.specs.Progress.{Following}
 use Rattle.xc_shown.specs.Shown.{lines_of_shown, shown_lines}
 use Rattle.xc_shown.specs.declared.shown.Shown.{Shown}
-use Rattle.xc_turns.proofs.Laws.{standing_in}
-use Rattle.xc_check.proofs.Stepping.{get_behind, get_front}
+use Rattle.xc_turns.proofs.Laws.{standing_in, get_front}
+use Rattle.xc_check.proofs.Stepping.{get_behind}
 
 -- a value is known by its option
 some_is : {A : Type 0} (x y : A) → Some x ≡ Some y → y ≡ x

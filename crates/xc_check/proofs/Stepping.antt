@@ -1,5 +1,5 @@
 -- One entry more was judged.
-use Rattle.std.proofs.Common.{◌≡◌, ◌≢◌, ◌≤◌, ◌<◌, ◌+◌, ◌∙◌, ℕ, zero, suc, List, [], ◌∷◌, ◌++◌, length, map, reverse, refl, ap, subst, sym, arith}
+use Rattle.std.proofs.Common.{◌≡◌, ◌≢◌, ◌≤◌, ◌<◌, ◌+◌, ◌∙◌, ℕ, List, [], ◌∷◌, ◌++◌, length, map, reverse, refl, ap, subst, sym, arith}
 use Rattle.std.specs.Prelude.{All, Bool, slice_get, true}
 use Rattle.std.proofs.lemmas.List.{append_assoc, get_or_append_left, length-append, length-map, map-append, reverse-append}
 use Rattle.std.proofs.lemmas.Option.{get_or_from_slice_get, slice_get_within}
@@ -30,7 +30,8 @@ use Rattle.xc_check.specs.Judging.{IsJudged, IsNewTo}
 use Rattle.xc_check.specs.Refusals.{IsRefusedBehind, IsRefusedIn, MeetsBehind, MeetsSoBehind}
 use Rattle.xc_check.specs.declared.judging.Judging.{Judging}
 use Rattle.xc_check.proofs.Bare.{asked_bare, after_bare, meets_each}
-use Rattle.xc_check.proofs.Fronts.{asked_more, machine_more, parts_more, fold_more}
+use Rattle.xc_check.proofs.Fronts.{entry_asked_more, machine_more, machine_parts_more, fold_more}
+use Rattle.xc_turns.proofs.Laws.{get_front}
 
 -- ---- numbers
 -- entries have the numbers that they are shown with
@@ -49,11 +50,6 @@ entered_are c [] = omega arith
 entered_are c (e ∷ front) = entered_are (after_course c e) front ∙ omega arith
 
 -- ---- places
--- an element of a front
-pub get_front : {A : Type 0} → (xs ys : List A) (k : ℕ) (x : A) → slice_get xs k ≡ Some x → slice_get (xs ++ ys) k ≡ Some x
-get_front [] ys k x h = cc
-get_front (y ∷ xs) ys zero x h = h
-get_front (y ∷ xs) ys (suc k) x h = get_front xs ys k x h
 
 -- the element behind a front
 pub get_behind : {A : Type 0} → (xs ys : List A) (x : A) → slice_get (xs ++ x ∷ ys) (length xs) ≡ Some x
@@ -83,9 +79,9 @@ pub new_to_last : (before : List (ℕ × ℕ)) (b : ℕ × ℕ) (tx : ℕ) → I
 new_to_last before b tx h = h (length before) b (get_behind before [] b)
 
 -- the begins of a front and of one more, as they are shown
-pub begins_with : (front : List Entry) (before : List Shown) (shown : Shown) → map shown_of front ≡ before
+pub begins_shown_with : (front : List Entry) (before : List Shown) (shown : Shown) → map shown_of front ≡ before
     → begins_shown (before ++ shown ∷ []) ≡ entry_begins front ++ entry_begin shown.entry ∷ []
-begins_with front before shown shows =
+begins_shown_with front before shown shows =
     begins_more before shown ∙ ap (λ (bs : List (ℕ × ℕ)). bs ++ entry_begin shown.entry ∷ []) (sym (begins_are front ∙ ap begins_shown shows))
 
 -- what was asked last of an entry, by the jobs that a judging has
@@ -119,11 +115,11 @@ part_is part c last e wanted is h =
 -- ---- an entry that may begin
 module _ (s : Setting) (count : ℕ) (before : List Shown) (shown : Shown) (j : Judging) (judged : IsJudged s count before j) where
   numbered_to : AreNumbered count (begins_shown (before ++ shown ∷ [])) → AreNumbered count (entry_begins judged.front ++ entry_begin shown.entry ∷ [])
-  numbered_to numbered = subst (λ bs. AreNumbered count bs) (begins_with judged.front before shown judged.shows) numbered
+  numbered_to numbered = subst (λ bs. AreNumbered count bs) (begins_shown_with judged.front before shown judged.shows) numbered
 
   -- no object has its number
-  pub may_begin : AreNumbered count (begins_shown (before ++ shown ∷ [])) → IsOpenTo j.progress shown.entry.tx
-  may_begin numbered =
+  pub number_is_new : AreNumbered count (begins_shown (before ++ shown ∷ [])) → IsOpenTo j.progress shown.entry.tx
+  number_is_new numbered =
       let begins = entry_begins judged.front in
       let b = entry_begin shown.entry in
       judged.opens shown.entry.tx (some_number count begins b (numbered_to numbered)) (new_number count begins b (numbered_to numbered))
@@ -179,7 +175,7 @@ module _ (s : Setting) (count : ℕ) (before : List Shown) (shown : Shown) (j : 
     (numbered : AreNumbered count (begins_shown (before ++ shown ∷ [])))
     (asked : last ≡ last_asked s.script (script_job_of j.jobs shown.entry) shown.entry.replies) where
   numbered_behind : AreNumbered count (entry_begins judged.front ++ entry_begin shown.entry ∷ [])
-  numbered_behind = subst (λ bs. AreNumbered count bs) (begins_with judged.front before shown judged.shows) numbered
+  numbered_behind = subst (λ bs. AreNumbered count bs) (begins_shown_with judged.front before shown judged.shows) numbered
 
   -- by the machine behind entries that are shown so
   pub refused_in : (r : Reason) → IsRefusedSo s.rules j.progress last shown r → IsRefusedIn s count before shown r
@@ -231,7 +227,7 @@ module _ (s : Setting) (count : ℕ) (before : List Shown) (shown : Shown) (j : 
         (subst (λ (x : Shown). IsAskedEntry s.script j.jobs last x.entry) (sym stepped.shows) told)
 
     asked_to : AreAskedBy s.script (opening_jobs s.script) (lasts_of s.script front_more) front_more
-    asked_to = asked_more s.script to.entry (opening_jobs s.script) judged.front judged.is_true.asked
+    asked_to = entry_asked_more s.script to.entry (opening_jobs s.script) judged.front judged.is_true.asked
         (subst (λ (x : Ask). IsAskedEntry s.script (script_behind s.script judged.front) x to.entry) last_to
         (subst (λ (jobs : List ScriptJob). IsAskedEntry s.script jobs last to.entry) judged.asked told_to))
 
@@ -263,10 +259,10 @@ module _ (s : Setting) (count : ℕ) (before : List Shown) (shown : Shown) (j : 
           parts_are = parts_are ∙ ap (λ (ps : List Part). ps ++ machine_part j.progress.state last to.entry ∷ []) judged.parts_are
               ∙ ap (λ (c : Course). parts_of s.script judged.front ++ machine_part c.state last to.entry ∷ []) judged.course
               ∙ ap (λ (x : Ask). parts_of s.script judged.front ++ machine_part (course_behind s.script judged.front).state x to.entry ∷ []) last_to
-              ∙ sym (parts_more s.script to.entry (opening_course s.script.outline) (opening_jobs s.script) judged.front);
+              ∙ sym (machine_parts_more s.script to.entry (opening_course s.script.outline) (opening_jobs s.script) judged.front);
           opens = λ tx positive new.
               let apart : IsNewTo (entry_begins judged.front ++ entry_begin shown.entry ∷ []) tx =
-              subst (λ bs. IsNewTo bs tx) (begins_to ∙ begins_with judged.front before shown judged.shows) new in
+              subst (λ bs. IsNewTo bs tx) (begins_to ∙ begins_shown_with judged.front before shown judged.shows) new in
               let other : tx ≢ shown.entry.tx =
               λ same. new_to_last (entry_begins judged.front) (entry_begin shown.entry) tx apart (sym same) in
               subst (λ (c : Course). IsOpenTo c tx) (sym progress_is)

@@ -16,7 +16,7 @@ use Rattle.xc_sheet.specs.Lines.{line_text}
 use Rattle.xc_sheet.specs.Places.{lines_text}
 use Rattle.xc_sheet.specs.Sheets.{AreWholeFrom, HaveText}
 use Rattle.xc_sheet.specs.declared.lines.Line.{Line}
-use Rattle.xc_sheet.specs.declared.places.Place.TheVariants.{Between}
+use Rattle.xc_sheet.specs.declared.places.LinePlace.TheVariants.{Between}
 use Rattle.xc_sheet.specs.declared.sheet.Sheet.{Sheet}
 use Rattle.xc_sheet.specs.declared.sheet.Unreadable.{Unreadable}
 use Rattle.xc_sheet.specs.declared.sheet.Unreadable.TheVariants.{TooLong}

@@ -13,7 +13,7 @@ use Rattle.xc_alike.proofs.Laws.{totals_alike}
 use Rattle.xc_grounds.specs.Groundless.{IsFirstGroundless}
 use Rattle.xc_grounds.specs.Numbered.{AreNumbered, entry_begins}
 use Rattle.xc_grounds.proofs.Laws.{are_numbered}
-use Rattle.xc_judge.specs.Judged.{telling as telling_rules}
+use Rattle.xc_judge.specs.Judged.{telling_terms as telling_rules}
 use Rattle.xc_judge.specs.Stepped.{MeetsSo}
 use Rattle.xc_judge.specs.declared.reason.Reason.{Reason}
 use Rattle.xc_judge.specs.declared.reason.Reason.TheVariants as reason
@@ -36,7 +36,7 @@ use Rattle.xc_shown.specs.declared.shown.Shown.{Shown}
 use Rattle.xc_tail.specs.Tails.{IsTail, Led}
 use Rattle.xc_text.specs.declared.script.Script.{Script}
 use Rattle.xc_turns.proofs.Laws.{script_job_in, standing_in}
-use Rattle.xc_check.specs.Fronts.{begins_shown, course_behind, last_behind, led_by, parts_of, script_behind}
+use Rattle.xc_check.specs.Fronts.{begins_shown, course_behind, last_behind, journal_led, parts_of, script_behind}
 use Rattle.xc_check.specs.Refusals.{IsFalseGround, IsFalseIn, IsFalseTail, IsRefusedAt, MeetsBehind, MeetsSoBehind}
 use Rattle.xc_check.specs.TrueTexts.{IsTrueAsPrinted}
 use Rattle.xc_check.specs.Verdicts.{IsVerdictIn}
@@ -47,7 +47,7 @@ use Rattle.xc_check.specs.declared.verdict.Verdict.TheVariants.{Yes, No}
 use Rattle.xc_check.proofs.Bare.{asked_with_records, meets_each}
 use Rattle.xc_check.proofs.Fronts.{asked_cut, lasts_are, machine_cut}
 use Rattle.xc_check.proofs.Led.{course_is, jobs_are}
-use Rattle.xc_check.proofs.Stepping.{begins_are, begins_with, numbered_to_one}
+use Rattle.xc_check.proofs.Stepping.{begins_are, begins_shown_with, numbered_to_one}
 use Rattle.xc_check.proofs.Truths.{courses_alike, heads_same, parts_alike, scripts_alike, tails_alike}
 
 -- ---- a journal cut at an entry that is shown so
@@ -201,7 +201,7 @@ module _ (s : Setting) (journal : List Entry) (tells : s.tells ≡ true) (h : Is
       let cut = cut_shown journal at.before at.shown at.behind at.parts in
       let alike : map shown_of cut.front ≡ map shown_of other = cut.fronted ∙ sym at.refused.shows in
       let numbered : AreNumbered count (entry_begins other ++ entry_begin at.shown.entry ∷ []) =
-      subst (λ bs. AreNumbered count bs) (begins_with other at.before at.shown at.refused.shows)
+      subst (λ bs. AreNumbered count bs) (begins_shown_with other at.before at.shown at.refused.shows)
       (numbered_to_one count at.before at.shown at.behind (subst (λ xs. AreNumbered count (begins_shown xs)) at.parts numbered_so)) in
       let meets : (q : Reason) → MeetsSoBehind s cut.front at.shown q =
       λ q. subst (λ (x : Shown). MeetsSoBehind s cut.front x q) cut.shows (meets_there cut.front cut.entry cut.behind cut.parts q) in
@@ -240,7 +240,7 @@ jobs_by_halves (f ∷ fs) (g ∷ gs) told asked =
     } ∷ more i)
 
 -- journals that are shown alike led alike
-led_alike : (script : Script) (journal other : List Entry) → map shown_of journal ≡ map shown_of other → led_by script journal ≡ led_by script other
+led_alike : (script : Script) (journal other : List Entry) → map shown_of journal ≡ map shown_of other → journal_led script journal ≡ journal_led script other
 led_alike script journal other alike =
     let count : length journal ≡ length other = sym (length-map journal shown_of) ∙ ap length alike ∙ length-map other shown_of in
     let course = sym (course_is script journal) ∙ courses_alike journal other (opening_course script.outline) alike ∙ course_is script other in
@@ -253,7 +253,7 @@ led_alike script journal other alike =
 module _ (s : Setting) (journal : List Entry) (jobs : List JobLine) (words : List ℕ) (kept : List KeptItem) (tells : s.tells ≡ true)
     (h : IsTrueAsPrinted s journal jobs words kept) where
   -- the lines behind its entries are those of an end to which it leads
-  tail_so : IsTail s (led_by s.script journal) (tail_lines journal jobs words kept)
+  tail_so : IsTail s (journal_led s.script journal) (tail_lines journal jobs words kept)
   tail_so =
       record {
         job_lines = jobs;

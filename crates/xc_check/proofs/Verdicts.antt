@@ -1,7 +1,7 @@
 -- What a verdict on entries and the lines behind them rests on.
 use Rattle.std.proofs.Common.{◌≡◌, ◌∙◌, ◌+◌, ◌<◌, Err, Ok, ℕ, zero, suc, List, [], ◌∷◌, ◌++◌, length, take, drop, refl, ap, sym, subst, arith}
 use Rattle.std.specs.Prelude.{MatchOption, MatchResult, Option, Result, true}
-use Rattle.std.specs.declared.option.Option.TheVariants.{None, Some}
+use Rattle.std.specs.declared.option.Option.TheVariants.{None}
 use Rattle.std.proofs.lemmas.List.{append_assoc, length-append, length-map, take-append-drop}
 use Rattle.xc_grounds.specs.Groundless.{IsFirstGroundless}
 use Rattle.xc_grounds.specs.Numbered.{AreNumbered, IsFirstMisnumbered, part_begins}
@@ -19,23 +19,20 @@ use Rattle.xc_shown.specs.Shown.{shown_of}
 use Rattle.xc_shown.specs.declared.shown.Shown.{Shown}
 use Rattle.xc_tail.specs.Tails.{IsTail, Led}
 use Rattle.xc_world.specs.World.{World}
-use Rattle.xc_check.specs.Fronts.{begins_shown, led_by, parts_of}
+use Rattle.xc_check.specs.Fronts.{begins_shown, journal_led, parts_of}
 use Rattle.xc_check.specs.Judging.{IsJudged}
 use Rattle.xc_check.specs.Refusals.{IsFalseGround, IsFalseTail, IsRefusedAt, line_behind}
 use Rattle.xc_check.specs.Verdicts.{AreTotalsOf, IsTrueIn}
 use Rattle.xc_check.specs.declared.entries.Refused.{Refused}
 use Rattle.xc_check.specs.declared.judging.Judging.{Judging}
 use Rattle.xc_check.proofs.Led.{course_is, parts_begin, parts_count}
-use Rattle.xc_check.proofs.Stepping.{begins_with}
+use Rattle.xc_check.proofs.Stepping.{begins_shown_with}
 
 -- ---- what was found
--- it is so
-pub found_some : {A : Type 0} (o : Option A) (x : A) (P : Type 0) (Q : A → Type 0) → o ≡ Some x → MatchOption o P Q → Q x
-found_some o x P Q is found = subst (λ z. MatchOption z P Q) is found
 
 -- where nothing was found that is so
-pub found_none : {A : Type 0} (o : Option A) (P : Type 0) (Q : A → Type 0) → o ≡ None → MatchOption o P Q → P
-found_none o P Q is found = subst (λ z. MatchOption z P Q) is found
+pub none_is_so : {A : Type 0} (o : Option A) (P : Type 0) (Q : A → Type 0) → o ≡ None → MatchOption o P Q → P
+none_is_so o P Q is found = subst (λ z. MatchOption z P Q) is found
 
 -- ---- numbers and lists
 less_by_one : (a b : ℕ) → suc a < suc b → a < b
@@ -76,7 +73,7 @@ module _ (s : Setting) (entries : List Shown) (j : Judging) (judged : IsJudged s
     abbrev told_so : Led
     told_so = record { entries = count_of; jobs = (progress_of s.script judged.front).jobs; world = world_of; totals = totals }
 
-    led_so : told_so ≡ led_by s.script judged.front
+    led_so : told_so ≡ journal_led s.script judged.front
     led_so =
         let count : count_of ≡ length judged.front = count_is ∙ judged_count ∙ sym front_count in
         let world : world_of ≡ (progress_of s.script judged.front).state.world =
@@ -113,13 +110,13 @@ module _ (s : Setting) (entries : List Shown) (j : Judging) (judged : IsJudged s
 
 -- ---- an entry whose number doesn't go on in order
 -- entries cut at a place
-record IsCut (entries : List Shown) (place : ℕ) : Type 0 where
+record AreCutAt (entries : List Shown) (place : ℕ) : Type 0 where
   shown : Shown
   behind : List Shown
   parts : entries ≡ take place entries ++ shown ∷ behind
   at : place ≡ length (take place entries)
 
-cut_at : (entries : List Shown) (place : ℕ) → place < length entries → IsCut entries place
+cut_at : (entries : List Shown) (place : ℕ) → place < length entries → AreCutAt entries place
 cut_at [] place low = absurd (omega (arith, low))
 cut_at (x ∷ entries) zero low = record { shown = x; behind = entries; parts = refl; at = refl }
 cut_at (x ∷ entries) (suc place) low =
@@ -158,7 +155,7 @@ pub misnumbered : (s : Setting) (entries : List Shown) (place : ℕ) (j : Judgin
     → IsRefusedAt s (length entries) entries place reason.Numbers
 misnumbered s entries place j low judged f =
     let cut = cut_at entries place low in
-    let begins = sym (begins_with judged.front (take place entries) cut.shown judged.shows)
+    let begins = sym (begins_shown_with judged.front (take place entries) cut.shown judged.shows)
     ∙ begins_next entries place cut.shown cut.behind cut.parts low in
     record {
       before = take place entries;
@@ -200,8 +197,8 @@ refused_within s count entries at r h =
 
 -- ---- entries whose numbers go on in order up to a place
 -- how many begins there are
-pub begins_count : (entries : List Shown) → length (begins_shown entries) ≡ length entries
-begins_count entries = length-map entries (λ (shown : Shown). entry_begin shown.entry)
+pub begins_shown_count : (entries : List Shown) → length (begins_shown entries) ≡ length entries
+begins_shown_count entries = length-map entries (λ (shown : Shown). entry_begin shown.entry)
 
 -- what is said of the entries in front of it
 abbrev IsSaidOf : Setting → List Shown → Result Judging Refused → Type 0
@@ -232,7 +229,7 @@ module _ (s : Setting) (entries : List Shown) (place : ℕ) (first : IsFirstMisn
       let here : IsJudged s (length entries) front judging =
       subst (λ z. MatchResult z (IsJudged s (length entries) front)
       (λ (refused : Refused). IsRefusedAt s (length entries) front refused.place refused.reason)) ok (says (length entries) front_numbered) in
-      let count = begins_count entries in
+      let count = begins_shown_count entries in
       let low = first.0 in
       misnumbered s entries place judging (omega (arith, count, low)) (subst (λ xs. IsJudged s (length entries) xs judging) is here) first.2
 
@@ -244,7 +241,7 @@ module _ (s : Setting) (entries : List Shown) (begins : List (ℕ × ℕ)) (are 
       (λ (refused : Refused). IsRefusedAt s (length entries) entries refused.place refused.reason)
   said_of_all =
       let all : AreNumbered (length entries) (begins_shown entries) =
-      subst (λ n. AreNumbered n (begins_shown entries)) (begins_count entries) (subst (λ bs. AreNumbered (length bs) bs) are numbered) in
+      subst (λ n. AreNumbered n (begins_shown entries)) (begins_shown_count entries) (subst (λ bs. AreNumbered (length bs) bs) are numbered) in
       subst (λ xs. MatchResult r (IsJudged s (length entries) xs)
       (λ (refused : Refused). IsRefusedAt s (length entries) xs refused.place refused.reason)) same
       (says (length entries) (subst (λ bs. AreNumbered (length entries) bs) (sym (ap begins_shown same)) all))

@@ -44,8 +44,8 @@ pub record IsTrueFront (s : Setting) (count : ℕ) (front : List Entry) : Type 0
   pub asked : AreAskedBy s.script (opening_jobs s.script) (lasts_of s.script front) front
 
 -- where a journal led, as the lines behind its entries say
-abbrev pub led_by : Script → List Entry → Led
-led_by script journal =
+abbrev pub journal_led : Script → List Entry → Led
+journal_led script journal =
     record {
       entries = length journal;
       jobs = (progress_of script journal).jobs;

@@ -17,13 +17,13 @@ use Rattle.xc_model.specs.Setting.{Setting}
 use Rattle.xc_sheet.specs.Sheets.{AreWholeFrom, IsReadSheet}
 use Rattle.xc_sheet.specs.declared.ending.Ending.TheVariants.{Broken}
 use Rattle.xc_sheet.specs.declared.lines.Line.{Line}
-use Rattle.xc_sheet.specs.declared.places.Place.TheVariants.{Between}
+use Rattle.xc_sheet.specs.declared.places.LinePlace.TheVariants.{Between}
 use Rattle.xc_shown.specs.Shown.{IsPlain, IsReplied, bare, is_of_entry, shown_lines, shown_of}
 use Rattle.xc_shown.specs.declared.shown.Shown.{Shown}
 use Rattle.xc_tail.specs.Tails.{IsTail}
 use Rattle.xc_text.specs.Scripts.{parse_of}
 use Rattle.xc_text.specs.declared.script.Script.{Script}
-use Rattle.xc_check.specs.Fronts.{IsTrueFront, course_behind, last_behind, led_by, parts_of, script_behind}
+use Rattle.xc_check.specs.Fronts.{IsTrueFront, course_behind, last_behind, journal_led, parts_of, script_behind}
 use Rattle.xc_check.specs.TrueTexts.{telling}
 use Rattle.xc_check.specs.declared.verdict.CheckWhy.{CheckWhy}
 use Rattle.xc_check.specs.declared.verdict.CheckWhy.TheVariants as why
@@ -97,7 +97,7 @@ pub record IsFalseTail (s : Setting) (entries : List Shown) (tail : List Line) (
   pub shows : map shown_of journal ≡ entries
   pub is_true : IsTrueFront s (length entries) journal
   pub grounded : AreGrounded (scene_of s.tells (parts_of s.script journal) [])
-  pub fails : IsTail s (led_by s.script journal) tail → ⊥
+  pub fails : IsTail s (journal_led s.script journal) tail → ⊥
   pub line_is : line ≡ line_behind entries
 
 -- what is false of entries and the lines behind them, behind the form

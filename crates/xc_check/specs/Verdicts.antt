@@ -14,7 +14,7 @@ use Rattle.xc_sheet.specs.declared.lines.Line.{Line}
 use Rattle.xc_shown.specs.Shown.{shown_of}
 use Rattle.xc_shown.specs.declared.shown.Shown.{Shown}
 use Rattle.xc_tail.specs.Tails.{IsTail}
-use Rattle.xc_check.specs.Fronts.{IsTrueFront, led_by, parts_of}
+use Rattle.xc_check.specs.Fronts.{IsTrueFront, journal_led, parts_of}
 use Rattle.xc_check.specs.Refusals.{IsFalseIn, IsFalseText, IsFirstFalse, IsScriptAnd}
 use Rattle.xc_check.specs.TrueTexts.{IsTrueAsPrinted, IsTrueText}
 use Rattle.xc_check.specs.declared.verdict.Verdict.{Verdict}
@@ -30,7 +30,7 @@ pub record IsTrueIn (s : Setting) (entries : List Shown) (tail : List Line) : Ty
   pub shows : map shown_of journal ≡ entries
   pub front : IsTrueFront s (length entries) journal
   pub grounded : AreGrounded (scene_of s.tells (parts_of s.script journal) [])
-  pub ends : IsTail s (led_by s.script journal) tail
+  pub ends : IsTail s (journal_led s.script journal) tail
 
 -- of entries and the lines behind them
 abbrev pub IsVerdictIn : Setting → List Shown → List Line → Verdict → Type 0

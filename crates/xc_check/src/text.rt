@@ -8,7 +8,7 @@ ghost use Rattle.xc_data.specs.declared.entry.JobLine.{JobLine as PlainJobLine};
 ghost use Rattle.xc_data.specs.declared.entry.KeptItem.{KeptItem as PlainKeptItem};
 ghost use Rattle.xc_sheet.specs.Ends.{end_lines};
 ghost use Rattle.xc_sheet.specs.Sheets.{AreWholeFrom, HaveText};
-ghost use Rattle.xc_sheet.specs.declared.places.Place.TheVariants.{Between};
+ghost use Rattle.xc_sheet.specs.declared.places.LinePlace.TheVariants.{Between};
 ghost use Rattle.xc_text.specs.Scripts.{IsScript};
 
 use crate::verdict::{CheckWhy, Verdict};

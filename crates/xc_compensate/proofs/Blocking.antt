@@ -8,7 +8,7 @@ use Rattle.std.proofs.lemmas.Iterator.Adapters.{position_from-zero}
 use Rattle.xc_data.specs.declared.undo.Undo.{Undo}
 use Rattle.xc_data.specs.declared.undo.UndoEnd.{UndoEnd}
 use Rattle.xc_data.specs.declared.undo.UndoEnd.TheVariants.{Undone, Failed, Blocked}
-use Rattle.xc_world.specs.Ends.{Ending, blocks, blocker, is_undone}
+use Rattle.xc_world.specs.Ends.{Ending, stands_in_way, blocker, is_undone}
 use Rattle.xc_compensate.specs.Hindered.{hinders}
 
 -- numbers from another start
@@ -16,20 +16,21 @@ shifted_by : (b : Bool) (from i : ℕ) (o : Option ℕ) → cond b (Some (from +
 shifted_by true from i o = refl
 shifted_by false from i o = refl
 
-shifted : (from i : ℕ) (u : Undo) (rs : List Ending) → blocker (from + i) u rs ≡ option_map (λ k. from + k) (position_from (blocks u) i rs)
+shifted : (from i : ℕ) (u : Undo) (rs : List Ending) → blocker (from + i) u rs ≡ option_map (λ k. from + k) (position_from (stands_in_way u) i rs)
 shifted from i u [] = refl
 shifted from i u (r ∷ rs) =
     let next : from + i + 1 ≡ from + (i + 1) = omega arith in
-    ap (λ n. cond (blocks u r) (Some (from + i)) (blocker n u rs)) next
-    ∙ (ap (cond (blocks u r) (Some (from + i))) (shifted from (i + 1) u rs) ∙ shifted_by (blocks u r) from i (position_from (blocks u) (i + 1) rs))
+    ap (λ n. cond (stands_in_way u r) (Some (from + i)) (blocker n u rs)) next
+    ∙ (ap (cond (stands_in_way u r) (Some (from + i))) (shifted from (i + 1) u rs)
+    ∙ shifted_by (stands_in_way u r) from i (position_from (stands_in_way u) (i + 1) rs))
 
 -- the blocker, from the place of the first that stands in the way
-pub blocker_is : (from : ℕ) (u : Undo) (rs : List Ending) (o : Option ℕ) → o ≡ position (blocks u) rs → option_map (λ k. from + k) o ≡ blocker from u rs
+pub blocker_is : (from : ℕ) (u : Undo) (rs : List Ending) (o : Option ℕ) → o ≡ position (stands_in_way u) rs → option_map (λ k. from + k) o ≡ blocker from u rs
 blocker_is from u rs o e =
     let start : from + 0 ≡ from = omega arith in
-    ap (option_map (λ k. from + k)) (e ∙ position_from-zero (blocks u) rs) ∙ (sym (shifted from 0 u rs) ∙ ap (λ n. blocker n u rs) start)
+    ap (option_map (λ k. from + k)) (e ∙ position_from-zero (stands_in_way u) rs) ∙ (sym (shifted from 0 u rs) ∙ ap (λ n. blocker n u rs) start)
 
-blocks_none : (u : Undo) (newer : Undo) (end : UndoEnd) → not (is_undone end) ≡ false → blocks u (newer, end) ≡ false
+blocks_none : (u : Undo) (newer : Undo) (end : UndoEnd) → not (is_undone end) ≡ false → stands_in_way u (newer, end) ≡ false
 blocks_none u newer (Undone faults) none = refl
 blocks_none u newer (Failed done faults) none = cc none
 blocks_none u newer (Blocked by) none = cc none

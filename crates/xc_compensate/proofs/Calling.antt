@@ -1,23 +1,23 @@
 -- Which calls of the host a compensation made.
 use Rattle.std.proofs.Common.{◌≡◌, ◌≢◌, ℕ, ◌+◌, ◌≤◌, ◌<◌, false, [], ◌∷◌, replicate, is_ok, Result, Ok, Err, IsTrue, inl, inr, refl, subst, arith, sym}
 use Rattle.xc_data.specs.Counts.{RisesBy}
-use Rattle.xc_data.specs.declared.script.Kind.{Kind}
-use Rattle.xc_data.specs.declared.script.Kind.TheVariants.{Restore}
+use Rattle.xc_data.specs.declared.script.HostCallKind.{HostCallKind}
+use Rattle.xc_data.specs.declared.script.HostCallKind.TheVariants.{Restore}
 use Rattle.xc_data.specs.declared.undo.Undo.{Undo}
 use Rattle.xc_data.specs.declared.undo.Undo.TheVariants.{Bytes, Tail, Made, Moved, NewPipe, NewPair}
 use Rattle.xc_data.specs.declared.undo.UndoEnd.TheVariants.{Undone}
 use Rattle.xc_host.specs.Cause.{without_memory}
 use Rattle.xc_host.specs.Contents.{Contents}
 use Rattle.xc_host.specs.Model.{HostModel, IsUsed, Answers}
-use Rattle.xc_host.specs.Uses.{Uses, BacksFor, MovesBy, PartsOf, back_kind, restored}
+use Rattle.xc_host.specs.Uses.{Uses, BacksFor, MovesBy, PartsOf, back_kind, restored_part}
 use Rattle.xc_host.specs.declared.errors.Fault.{Fault}
 use Rattle.xc_host.proofs.Laws.{used_again, moves_more, moves_none}
 use Rattle.xc_compensate.specs.Records.{is_overwrite}
 use Rattle.xc_compensate.specs.Restoring.{IsStep}
-use Rattle.xc_compensate.specs.declared.undoing.Progress.{Progress}
+use Rattle.xc_compensate.specs.declared.undoing.RestoreProgress.{RestoreProgress}
 
 -- one call does the one part of a record that isn't an overwrite's
-one_part : (u : Undo) (faults : ℕ) → is_overwrite u ≡ false → PartsOf u (restored u (Undone faults)) 1
+one_part : (u : Undo) (faults : ℕ) → is_overwrite u ≡ false → PartsOf u (restored_part u (Undone faults)) 1
 one_part (Bytes file at before after n) faults one = cc
 one_part (Tail file from after n) faults one = refl
 one_part (Made name num) faults one = refl
@@ -26,35 +26,35 @@ one_part (NewPipe num) faults one = refl
 one_part (NewPair num) faults one = refl
 
 -- one try restores no more bytes than there are
-pub within : (before now : Progress) (all : ℕ) → IsStep before now all → before.done ≤ all → now.done ≤ all
-within before now all (inl (more, most, same)) le = most
-within before now all (inr (same, more)) le = omega (arith, same, le)
+pub step_within : (before now : RestoreProgress) (all : ℕ) → IsStep before now all → before.done ≤ all → now.done ≤ all
+step_within before now all (inl (more, most, same)) le = most
+step_within before now all (inr (same, more)) le = omega (arith, same, le)
 
 -- fewer tries failed than may, unless they are as many
-pub few_yet : (before now : Progress) (all tries : ℕ) → IsStep before now all → before.faults < tries → now.faults ≢ tries → now.faults < tries
+pub few_yet : (before now : RestoreProgress) (all tries : ℕ) → IsStep before now all → before.faults < tries → now.faults ≢ tries → now.faults < tries
 few_yet before now all tries (inl (more, most, same)) few other = omega (arith, same, few)
 few_yet before now all tries (inr (same, more)) few other = omega (arith, more, few, other)
 
 module _ {H : Type 0} (model : HostModel H) where
   -- a try that failed is one fault, and changed nothing
-  pub failed_try : (kind : Kind) (a b : H) (result : Result (Unit {0}) Fault) (effect : Unit {0} → Contents → Contents) → is_ok result ≡ false
+  pub failed_try : (kind : HostCallKind) (a b : H) (result : Result (Unit {0}) Fault) (effect : Unit {0} → Contents → Contents) → is_ok result ≡ false
       → Answers model kind (record { old = a; new = b }) (without_memory result) effect
       → RisesBy 1 (model.fault_count a) (model.fault_count b) × (IsTrue model.tells → model.contents b ≡ model.contents a)
   failed_try kind a b (Ok x) effect failed answered = cc
   failed_try kind a b (Err e) effect failed answered = (answered.cause, answered.refused)
 
   -- so many tries failed, and the next one did it
-  pub taken_back : (u : Undo) (faults : ℕ) (a b c : H) → is_overwrite u ≡ false
+  pub tried_until_done : (u : Undo) (faults : ℕ) (a b c : H) → is_overwrite u ≡ false
       → IsUsed model (replicate faults (back_kind u)) (record { old = a; new = b }) → IsUsed model (back_kind u ∷ []) (record { old = b; new = c })
       → Uses model (record { old = a; new = c }) (BacksFor u (Undone faults))
-  taken_back u faults a b c one so_far last = record {
+  tried_until_done u faults a b c one so_far last = record {
     made = replicate (faults + 1) (back_kind u);
     named = (1, one_part u faults one, refl);
     used = used_again model faults (back_kind u) a b c so_far last;
   }
 
   -- one more call of a restoring
-  pub restored_more : (before now : Progress) (all : ℕ) (a b c : H) → IsStep before now all
+  pub restored_more : (before now : RestoreProgress) (all : ℕ) (a b c : H) → IsStep before now all
       → Uses model (record { old = a; new = b }) (MovesBy Restore before.done before.faults)
       → IsUsed model (Restore ∷ []) (record { old = b; new = c })
       → Uses model (record { old = a; new = c }) (MovesBy Restore now.done now.faults)

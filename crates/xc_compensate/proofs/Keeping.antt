@@ -8,11 +8,11 @@ use Rattle.xc_data.specs.declared.undo.Undo.{Undo}
 use Rattle.xc_data.specs.declared.undo.Undo.TheVariants.{Bytes, Tail, Made, Moved, NewPipe, NewPair}
 use Rattle.xc_world.specs.Ends.{Ending}
 use Rattle.xc_compensate.specs.Hindered.{hinders}
-use Rattle.xc_compensate.specs.Records.{IsRecord, IsStack, records_of, covers, covered}
-use Rattle.xc_compensate.proofs.Listing.{of, undos, all_pending, older, newer, newest, changed, ended, removed}
+use Rattle.xc_compensate.specs.Records.{IsRecord, IsStack, split_records, covers, covered}
+use Rattle.xc_compensate.proofs.Listing.{both_lists, undos, all_pending, older, newer, newest, record_changed, record_ended, record_removed}
 
 -- what is kept, by what the list shows
-is_stack : (records : List Ending) (n : ℕ) (hindered : Bool) (us : List Undo) (back : List Ending) → records_of records n ≡ of us back
+is_stack : (records : List Ending) (n : ℕ) (hindered : Bool) (us : List Undo) (back : List Ending) → split_records records n ≡ both_lists us back
     → All IsRecord us → n ≤ length records → length records < 2 ^ 32 → hindered ≡ list_any hinders back → IsStack records n hindered
 is_stack records n hindered us back shown kinds within few known = record {
   within = within;
@@ -22,9 +22,9 @@ is_stack records n hindered us back shown kinds within few known = record {
 }
 
 -- one more record, where none has an end yet
-pub keeps_more : (records now : List Ending) (n m : ℕ) (hindered : Bool) (r : Ending) → IsStack records n hindered → n ≡ length records → IsRecord r.0
+pub stack_keeps_more : (records now : List Ending) (n m : ℕ) (hindered : Bool) (r : Ending) → IsStack records n hindered → n ≡ length records → IsRecord r.0
     → now ≡ records ++ r ∷ [] → m ≡ length now → length now < 2 ^ 32 → IsStack now m hindered
-keeps_more records now n m hindered r stack none is grown size few =
+stack_keeps_more records now n m hindered r stack none is grown size few =
     let shown = all_pending now m (omega (arith, size)) in
     let before = all_pending records n (omega (arith, none)) in
     is_stack now m hindered (undos now) [] shown
@@ -43,7 +43,7 @@ record_covered (NewPair num) n is some within = is
 
 module _ (records : List Ending) (at n : ℕ) (hindered : Bool) (r : Ending) (there : at < length records) (is : r ≡ get_or records at r)
     (after : n ≡ at + 1) (stack : IsStack records n hindered) where
-  shown : records_of records n ≡ of (older records at ++ r.0 ∷ []) (newer records at)
+  shown : split_records records n ≡ both_lists (older records at ++ r.0 ∷ []) (newer records at)
   shown = newest records at there r n is after
 
   kinds : All IsRecord (older records at) × IsRecord r.0
@@ -58,7 +58,7 @@ module _ (records : List Ending) (at n : ℕ) (hindered : Bool) (r : Ending) (th
       → IsStack (set records at now) n hindered
   keeps_covered now covering cut some within =
       let size = length-set records at now in
-      is_stack (set records at now) n hindered (older records at ++ now.0 ∷ []) (newer records at) (changed records at there now n after)
+      is_stack (set records at now) n hindered (older records at ++ now.0 ∷ []) (newer records at) (record_changed records at there now n after)
       (All-push IsRecord (older records at) now.0 kinds.0 (subst IsRecord (sym cut) (record_covered r.0 covering kinds.1 some within)))
       (omega (arith, size, stack.within)) (omega (arith, size, stack.few)) known
 
@@ -68,12 +68,12 @@ module _ (records : List Ending) (at n : ℕ) (hindered : Bool) (r : Ending) (th
       let size = ap length left ∙ length-append (take at records) (newer records at) in
       let front = length-take-le at records (omega (arith, there)) in
       let back = length-drop (at + 1) records in
-      is_stack now at hindered (older records at) (newer records at) (ap (λ rs. records_of rs at) left ∙ removed records at there) kinds.0
+      is_stack now at hindered (older records at) (newer records at) (ap (λ rs. split_records rs at) left ∙ record_removed records at there) kinds.0
       (omega (arith, size, front)) (omega (arith, size, front, back, there, stack.few)) known
 
   -- it has its end
   pub keeps_ended : (now : Ending) (next : Bool) → next ≡ (hinders now || hindered) → IsStack (set records at now) at next
   keeps_ended now next more =
       let size = length-set records at now in
-      is_stack (set records at now) at next (older records at) (now ∷ newer records at) (ended records at there now) kinds.0
+      is_stack (set records at now) at next (older records at) (now ∷ newer records at) (record_ended records at there now) kinds.0
       (omega (arith, size, there)) (omega (arith, size, stack.few)) (more ∙ ap (λ h. hinders now || h) known)

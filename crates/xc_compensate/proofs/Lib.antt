@@ -3,3 +3,4 @@ pub mod Keeping
 pub mod Blocking
 pub mod Trying
 pub mod Calling
+pub mod Laws

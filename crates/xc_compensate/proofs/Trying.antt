@@ -8,9 +8,9 @@ use Rattle.xc_compensate.specs.Records.{Records, IsTried, way_of}
 use Rattle.xc_compensate.specs.Turns.{turn_of}
 use Rattle.xc_compensate.specs.Undoes.{Undoes}
 use Rattle.xc_compensate.specs.declared.stack.UndoTurn.{UndoTurn}
-use Rattle.xc_compensate.proofs.Listing.{of}
+use Rattle.xc_compensate.proofs.Listing.{both_lists}
 
-module _ (old : Records) (older : List Undo) (ended newer : List Ending) (u : Undo) (number : ℕ) (view : of (older ++ u ∷ []) ended ≡ old)
+module _ (old : Records) (older : List Undo) (ended newer : List Ending) (u : Undo) (number : ℕ) (view : both_lists (older ++ u ∷ []) ended ≡ old)
     (size : number ≡ length older + 1) (there : (from : ℕ) → blocker from u newer ≡ blocker from u ended) where
   -- what stands in its way, in the words of the stack before
   same_way : blocker (number + 1) u newer ≡ way_of older u old
@@ -21,7 +21,7 @@ module _ (old : Records) (older : List Undo) (ended newer : List Ending) (u : Un
 
   -- the tried record
   pub tried_now : {H : Type 0} (model : HostModel H) (tries : ℕ) (new : Records) (host next : H) (end : UndoEnd) (turn : UndoTurn)
-      → new ≡ of older ((u, end) ∷ ended)
+      → new ≡ both_lists older ((u, end) ∷ ended)
       → IsLegalEnd tries u end (blocker (number + 1) u newer) → Undoes model u (record { old = host; new = next }) end
       → (blocker (number + 1) u newer ≢ None → next ≡ host)
       → turn ≡ turn_of end
@@ -32,7 +32,7 @@ module _ (old : Records) (older : List Undo) (ended newer : List Ending) (u : Un
       tried = u;
       end = end;
       was = ap (λ r. r.pending) (sym view);
-      stack = now ∙ ap (λ r. of older ((u, end) ∷ r.ended)) view;
+      stack = now ∙ ap (λ r. both_lists older ((u, end) ∷ r.ended)) view;
       legal = subst (IsLegalEnd tries u end) same_way legal;
       faults = undoes.faults;
       still = λ way. still (λ none. way (sym same_way ∙ none));

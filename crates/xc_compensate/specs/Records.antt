@@ -42,14 +42,14 @@ is_overwrite (NewPipe num) = false
 is_overwrite (NewPair num) = false
 
 -- what contracts see of records in the order of the calls, of which the first so many have no end yet
-abbrev pub records_of : List Ending → ℕ → Records
-records_of records pending = record { pending = map (λ r. r.0) (take pending records); ended = drop pending records }
+abbrev pub split_records : List Ending → ℕ → Records
+split_records records pending = record { pending = map (λ r. r.0) (take pending records); ended = drop pending records }
 
 -- what is kept of them: numbers are a u32's, and it is known whether one failed or was blocked
 pub record IsStack (records : List Ending) (pending : ℕ) (hindered : Bool) : Type 0 where
   pub within : pending ≤ length records
   pub few : length records < 2 ^ 32
-  pub kinds : All IsRecord (records_of records pending).pending
+  pub kinds : All IsRecord (split_records records pending).pending
   pub known : hindered ≡ list_any hinders (drop pending records)
 
 -- how many bytes a record covers

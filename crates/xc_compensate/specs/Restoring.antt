@@ -4,7 +4,7 @@ use Rattle.xc_data.specs.declared.object.Num.{Num}
 use Rattle.xc_data.specs.declared.undo.UndoEnd.{UndoEnd}
 use Rattle.xc_data.specs.declared.undo.UndoEnd.TheVariants.{Undone, Failed, Blocked}
 use Rattle.xc_host.specs.Contents.{Contents, file_in, has_file}
-use Rattle.xc_compensate.specs.declared.undoing.Progress.{Progress}
+use Rattle.xc_compensate.specs.declared.undoing.RestoreProgress.{RestoreProgress}
 
 -- there are so many bytes in the file
 pub record FitsIn (c : Contents) (file : Num) (at : ℕ) (bytes : List ℕ) : Type 0 where
@@ -12,7 +12,7 @@ pub record FitsIn (c : Contents) (file : Num) (at : ℕ) (bytes : List ℕ) : Ty
   pub inside : at + length bytes ≤ length (file_in c file)
 
 -- one try: more bytes are restored, of so many in all, or one more fault is met
-abbrev pub IsStep : Progress → Progress → ℕ → Type 0
+abbrev pub IsStep : RestoreProgress → RestoreProgress → ℕ → Type 0
 IsStep before now all =
     ((before.done < now.done) × (now.done ≤ all) × (now.faults ≡ before.faults))
     ⊎ ((now.done ≡ before.done) × (now.faults ≡ before.faults + 1))

@@ -43,11 +43,11 @@ pub struct Stack {
 const NO_END: UndoEnd = UndoEnd::Undone { faults: 0 };
 
 impl Model for Stack {
-    ghost use Rattle.xc_compensate.specs.Records.{Records, IsStack, records_of};
+    ghost use Rattle.xc_compensate.specs.Records.{Records, IsStack, split_records};
 
     ghost Value = { Records };
 
-    ghost view = { λ a. records_of a.records.items a.pending };
+    ghost view = { λ a. split_records a.records.items a.pending };
 
     ghost invariant = { λ a. IsStack a.records.items a.pending a.hindered };
 }

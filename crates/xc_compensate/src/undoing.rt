@@ -4,9 +4,9 @@ ghost use Rattle.std.specs.List.{list_any, position};
 ghost use Rattle.xc_data.specs.Counts.{RisesBy};
 ghost use Rattle.xc_data.specs.Faults.{end_faults};
 ghost use Rattle.xc_data.specs.Claims.{is_object};
-ghost use Rattle.xc_data.specs.declared.script.Kind.TheVariants.{Restore};
+ghost use Rattle.xc_data.specs.declared.script.HostCallKind.TheVariants.{Restore};
 ghost use Rattle.xc_world.specs.Effects.{IsCovered};
-ghost use Rattle.xc_world.specs.Ends.{share_object, is_undone, blocks, blocker, IsLegalEnd};
+ghost use Rattle.xc_world.specs.Ends.{share_object, is_undone, stands_in_way, blocker, IsLegalEnd};
 ghost use Rattle.xc_host.specs.Contents.{Contents, world_of, wrote_front};
 ghost use Rattle.xc_host.specs.Model.{IsUsed};
 ghost use Rattle.xc_host.specs.Uses.{Uses, MovesBy};
@@ -46,14 +46,14 @@ pub(crate) fn is_undone(end: UndoEnd) -> bool
 }
 
 fn blocks(alloc: Global, older: &Undo, newer: &(Undo, UndoEnd)) -> bool
-    ensures { result ≡ blocks older.now newer.now }
+    ensures { result ≡ stands_in_way older.now newer.now }
 {
     !is_undone(newer.1) && share_object(alloc, older, &newer.0)
 }
 
 // How many records lie between an older one and the first that stands in its way.
 fn way(alloc: Global, older: &Undo, newer: &[(Undo, UndoEnd)]) -> Option<usize>
-    ensures { result ≡ position (blocks older.now) newer.now }
+    ensures { result ≡ position (stands_in_way older.now) newer.now }
 {
     newer.iter().position(|record| blocks(alloc, older, record))
 }
@@ -73,7 +73,7 @@ fn blocker(alloc: Global, number: u32, older: &Undo, newer: &[(Undo, UndoEnd)]) 
 
 /// How far an overwrite is undone: so many bytes are restored, and so many tries failed.
 #[derive(Clone, Copy)]
-struct Progress {
+struct RestoreProgress {
     done: u32,
     faults: u32,
 }
@@ -84,8 +84,8 @@ fn restore_more<H: Host>(
     file: Num,
     at: u32,
     bytes: &[u8],
-    progress: Progress,
-) -> Progress
+    progress: RestoreProgress,
+) -> RestoreProgress
     requires left { progress.done < length bytes.now }
     requires room { at + length bytes.now < 2 ^ 32 }
     requires few { progress.faults + 1 < 2 ^ 32 }
@@ -102,11 +102,11 @@ fn restore_more<H: Host>(
     a_front_grows();
     a_write_keeps_the_length();
     match host.restore(file, at + progress.done, &bytes[progress.done as usize..]) {
-        Ok(count) => Progress {
+        Ok(count) => RestoreProgress {
             done: progress.done + count,
             faults: progress.faults,
         },
-        Err(_) => Progress {
+        Err(_) => RestoreProgress {
             done: progress.done,
             faults: progress.faults + 1,
         },
@@ -127,7 +127,7 @@ fn restore_whole<H: Host>(host: &mut H, file: Num, at: u32, bytes: &[u8], tries:
         (MovesBy Restore (done_by (length bytes.now) result) (end_faults result)) }
     ensures faults { RisesBy (end_faults result) (H.model.fault_count host.old) (H.model.fault_count host.new) }
 {
-    let mut progress = Progress { done: 0, faults: 0 };
+    let mut progress = RestoreProgress { done: 0, faults: 0 };
     while (progress.done as usize) < bytes.len() {
         progress = restore_more(host, file, at, bytes, progress);
         if progress.faults == tries {

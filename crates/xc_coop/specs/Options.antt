@@ -15,19 +15,19 @@ coop_command =
     (text_rule (codes "patience"))) (text_rule (codes "undo-tries"))
 
 -- a choice of a share and rules, where both are there
-abbrev pub chosen_with : Option ℕ → Option Rules → Option CoopChosen
-chosen_with (Some share) (Some rules) = Some (record { share = share; rules = rules })
-chosen_with _ _ = None
+abbrev pub coop_chosen_with : Option ℕ → Option Rules → Option CoopChosen
+coop_chosen_with (Some share) (Some rules) = Some (record { share = share; rules = rules })
+coop_chosen_with _ _ = None
 
 -- what these texts of the options choose, and nothing where a text is no number of its option
-abbrev pub chosen_given : (Text → Option Text) → Option CoopChosen
-chosen_given given = chosen_with (number_given 1 1 1000 (given (codes "share"))) (rules_given given)
+abbrev pub coop_chosen_given : (Text → Option Text) → Option CoopChosen
+coop_chosen_given given = coop_chosen_with (number_given 1 1 1000 (given (codes "share"))) (rules_given given)
 
 -- what the words of a command line choose, and nothing where the command finds a fault in them or a text is no number of its option
 abbrev pub coop_settings_of : List Text → Option CoopChosen
-coop_settings_of words = option_and_then chosen_given (given_by coop_command words)
+coop_settings_of words = option_and_then coop_chosen_given (given_by coop_command words)
 
 -- what is chosen keeps the bounds of the options and of the rules
-pub record KeepsBounds (chosen : CoopChosen) : Type 0 where
+pub record KeepsCoopBounds (chosen : CoopChosen) : Type 0 where
   pub share : IsUpTo 1000 chosen.share
   pub rules : AreRules chosen.rules

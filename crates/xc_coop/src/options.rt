@@ -4,7 +4,7 @@ ghost use Rattle.std.specs.Prelude.{◌≡◌, None, Some, map, string_bytes};
 ghost use Rattle.std.specs.Prelude.{IfOk, IfSome, IsErrOf};
 ghost use Rattle.clap.specs.Words.{app_of, first_value, found_of};
 ghost use Rattle.xc_options.specs.Options.{given_by};
-ghost use Rattle.xc_coop.specs.Options.{KeepsBounds, chosen_given, coop_command, coop_settings_of};
+ghost use Rattle.xc_coop.specs.Options.{KeepsCoopBounds, coop_chosen_given, coop_command, coop_settings_of};
 
 use crate::{CoopChosen, SettingsErr};
 use clap::{ArgMatches, Command};
@@ -38,8 +38,8 @@ fn matches<'a>(alloc: Global, words: &'a [String]) -> Result<ArgMatches<'a>, Set
 
 // What the options choose.
 fn chosen(matches: &ArgMatches<'_>) -> Option<CoopChosen>
-    ensures value { result ≡ chosen_given (first_value (found_of matches.now)) }
-    ensures bounds { IfSome result KeepsBounds }
+    ensures value { result ≡ coop_chosen_given (first_value (found_of matches.now)) }
+    ensures bounds { IfSome result KeepsCoopBounds }
 {
     let share = number(matches, "share", 1, 1, MOST_SHARE)?;
     let rules = rules(matches)?;
@@ -50,7 +50,7 @@ fn chosen(matches: &ArgMatches<'_>) -> Option<CoopChosen>
 pub fn coop_settings(alloc: Global, words: &[String]) -> Result<CoopChosen, SettingsErr>
     ensures ok { IfOk result (λ chosen. coop_settings_of (map string_bytes words.now) ≡ Some chosen) }
     ensures usage { IsErrOf result SettingsErr.Usage → coop_settings_of (map string_bytes words.now) ≡ None }
-    ensures bounds { IfOk result KeepsBounds }
+    ensures bounds { IfOk result KeepsCoopBounds }
 {
     let matches = matches(alloc, words)?;
     match chosen(&matches) {

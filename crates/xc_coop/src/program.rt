@@ -1,6 +1,6 @@
 ghost use Rattle.std.specs.Prelude.{◌≡◌, IfOk, None, OnErr, map, string_bytes};
-ghost use Rattle.xc_coop.specs.Headline.{IsFinished};
-ghost use Rattle.xc_coop.specs.Lines.{usage_line};
+ghost use Rattle.xc_coop.specs.Headline.{IsCoopFinished};
+ghost use Rattle.xc_coop.specs.Lines.{coop_usage_line};
 ghost use Rattle.xc_coop.specs.Options.{coop_settings_of};
 ghost use Rattle.xc_outcome.specs.Said.{IsWordless};
 
@@ -16,7 +16,7 @@ use xc_outcome::{Due, write_due};
 
 // The words could not be had: for lack of memory, or since one is no text, which no option takes.
 fn say_wordless<K: Sink>(sink: &mut K, error: io::Error) -> Status
-    ensures { IsWordless usage_line result (record { old = K.told sink.old; new = K.told sink.new }) }
+    ensures { IsWordless coop_usage_line result (record { old = K.told sink.old; new = K.told sink.new }) }
 {
     if error.kind() == io::ErrorKind::OutOfMemory {
         return write_due(sink, Status::NoMemory, &Due::NoMemory);
@@ -37,7 +37,7 @@ pub fn run_program<R: AllocGlobal + Wait + RandomSource, S: Source, K: Sink, H: 
 ) -> Status
     // It is as `coop_run` finishes, of which only the status is left.
     ensures finished { IfOk words (λ words. (finish : Finish H) × (finish.status ≡ result)
-        × IsFinished H.model (map string_bytes words.items) (record {
+        × IsCoopFinished H.model (map string_bytes words.items) (record {
           source = record { old = S.told source.old; new = S.told source.new };
           sink = record { old = K.told sink.old; new = K.told sink.new };
         }) host finish) }
@@ -47,7 +47,7 @@ pub fn run_program<R: AllocGlobal + Wait + RandomSource, S: Source, K: Sink, H: 
 
     // Without its words nothing is read.
     ensures wordless { OnErr words (
-        IsWordless usage_line result (record { old = K.told sink.old; new = K.told sink.new }) × (source.new ≡ source.old)) }
+        IsWordless coop_usage_line result (record { old = K.told sink.old; new = K.told sink.new }) × (source.new ≡ source.old)) }
 {
     match words {
         Ok(words) => {

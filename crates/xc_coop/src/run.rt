@@ -1,12 +1,12 @@
 ghost use Rattle.std.specs.Prelude.{◌≡◌, None, map, string_bytes, IfSome};
-ghost use Rattle.xc_coop.specs.Headline.{choice_of};
-ghost use Rattle.xc_coop.specs.Lines.{usage_line};
+ghost use Rattle.xc_coop.specs.Headline.{coop_choice_of};
+ghost use Rattle.xc_coop.specs.Lines.{coop_usage_line};
 ghost use Rattle.xc_coop.specs.Options.{coop_settings_of};
 ghost use Rattle.xc_outcome.specs.Runs.{IsRun};
 ghost use Rattle.xc_outcome.specs.Said.{IsAnswered, IsFullRun, IsOneOf, IsUndisturbed};
 
 use crate::Finish;
-use crate::start::{Started, start};
+use crate::start::{CoopStarted, start};
 use crate::turns::take_cooperatively;
 use std::alloc::AllocGlobal;
 use std::random::RandomSource;
@@ -32,7 +32,7 @@ pub fn coop_run<R: AllocGlobal + Wait + RandomSource, S: Source, K: Sink, H: Hos
     // status; or the sink failed after a front of that. A run that is meant to be done has an entry
     // for each transaction, which committed or aborted itself; so does one that left effects,
     // unless a job gave up.
-    ensures answered { IsAnswered (choice_of (map string_bytes words.now)) usage_line H.model.takes_scripts (record {
+    ensures answered { IsAnswered (coop_choice_of (map string_bytes words.now)) coop_usage_line H.model.takes_scripts (record {
       source = record { old = S.told source.old; new = S.told source.new };
       sink = record { old = K.told sink.old; new = K.told sink.new };
     }) result }
@@ -44,7 +44,7 @@ pub fn coop_run<R: AllocGlobal + Wait + RandomSource, S: Source, K: Sink, H: Hos
     // machine, with the recorded faults, gives the replies, the final words, the final host, with what is kept for
     // later readers in front of its pipes and pairs, and the jobs' ends; aborted ones change only what their reports say
     // remains, and each conflict names a holder.
-    ensures run { IfSome result.end (IsRun H.model (choice_of (map string_bytes words.now))
+    ensures run { IfSome result.end (IsRun H.model (coop_choice_of (map string_bytes words.now))
         (record { old = S.told source.old; new = S.told source.new }) host) }
 
     // Where no attempt met another, no fault is recorded and no job found the journal full, each transaction is done with: it
@@ -57,7 +57,7 @@ pub fn coop_run<R: AllocGlobal + Wait + RandomSource, S: Source, K: Sink, H: Hos
 {
     match start(rt.alloc(), words, source, host) {
         Ok(started) => {
-            let Started { station, chosen } = started;
+            let CoopStarted { station, chosen } = started;
             let station = take_cooperatively(rt, station, chosen.share);
             finish_run(rt.alloc(), sink, station, None)
         }

@@ -1,10 +1,10 @@
 //! From the words of a command line to a station before its first turn.
 
 ghost use Rattle.std.specs.Prelude.{◌≡◌, IfErr, IfOk, None, map, string_bytes};
-ghost use Rattle.xc_coop.specs.Headline.{choice_of};
-ghost use Rattle.xc_coop.specs.Lines.{usage_line};
+ghost use Rattle.xc_coop.specs.Headline.{coop_choice_of};
+ghost use Rattle.xc_coop.specs.Lines.{coop_usage_line};
 ghost use Rattle.xc_coop.specs.Options.{coop_settings_of};
-ghost use Rattle.xc_coop.specs.Parts.{IsStarted};
+ghost use Rattle.xc_coop.specs.Parts.{IsCoopStarted};
 ghost use Rattle.xc_outcome.specs.Due.{due_bytes};
 ghost use Rattle.xc_outcome.specs.Said.{IsCaused, IsDueAlone};
 
@@ -18,7 +18,7 @@ use xc_station::Station;
 
 /// A station before its first turn, and what the words of the command line chose for its run.
 #[derive(Drop)]
-pub struct Started<H: Host> {
+pub struct CoopStarted<H: Host> {
     pub station: Station<H>,
     pub chosen: CoopChosen,
 }
@@ -29,11 +29,11 @@ pub fn start<S: Source, H: Host>(
     words: &[String],
     source: &mut S,
     host: H,
-) -> Result<Started<H>, NotRun<H>>
-    ensures started { IfOk result (λ s. IsStarted H.model (map string_bytes words.now)
+) -> Result<CoopStarted<H>, NotRun<H>>
+    ensures started { IfOk result (λ s. IsCoopStarted H.model (map string_bytes words.now)
         (record { old = S.told source.old; new = S.told source.new }) host s) }
-    ensures due { IfErr result (λ n. IsDueAlone usage_line n.status (due_bytes n.due) × (n.host ≡ host)) }
-    ensures caused { IfErr result (λ n. IsCaused (choice_of (map string_bytes words.now)) H.model.takes_scripts
+    ensures due { IfErr result (λ n. IsDueAlone coop_usage_line n.status (due_bytes n.due) × (n.host ≡ host)) }
+    ensures caused { IfErr result (λ n. IsCaused (coop_choice_of (map string_bytes words.now)) H.model.takes_scripts
         (record { old = S.told source.old; new = S.told source.new }) n.status) }
     ensures unread { coop_settings_of (map string_bytes words.now) ≡ None → source.new ≡ source.old }
 {
@@ -53,7 +53,7 @@ pub fn start<S: Source, H: Host>(
         seed: None,
     };
     match prepare(alloc, choice, source, host) {
-        Ok(station) => Ok(Started { station, chosen }),
+        Ok(station) => Ok(CoopStarted { station, chosen }),
         Err(not_run) => Err(not_run),
     }
 }

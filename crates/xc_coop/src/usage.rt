@@ -1,5 +1,5 @@
 ghost use Rattle.std.specs.Prelude.{◌≡◌};
-ghost use Rattle.xc_coop.specs.Lines.{usage_line};
+ghost use Rattle.xc_coop.specs.Lines.{coop_usage_line};
 ghost use Rattle.xc_outcome.specs.Due.{due_bytes};
 
 use xc_outcome::Due;
@@ -9,7 +9,7 @@ const USAGE: &str =
 
 /// What is due where the words are refused.
 pub fn usage() -> Due
-    ensures { due_bytes result ≡ usage_line }
+    ensures { due_bytes result ≡ coop_usage_line }
 {
     Due::Usage(USAGE)
 }

@@ -1,4 +1,4 @@
--- What is lent for as long as the program runs can be had twice, and so a `&` to a `Lasting` holds it too. Assumes `Logic`.
+-- What is lent for as long as the program runs can be had twice, and so a `&` to a `Leaked` holds it too. Assumes `Logic`.
 use mathlib.Core.Path.{refl}
 use Prim.Native.Nat.{ℕ}
 use mathlib.Core.List.{List, [], ◌∷◌}
@@ -22,7 +22,7 @@ use denote.SharingLaws.{contraction, held_shr_laws}
 use denote.Struct.Lending.{Lends, lent_at, lent_at_shr_laws}
 use denote.Struct.Struct.{within, exits_of}
 use denote.Struct.Owning.{shape, fields, to}
-use Rattle.xc_data.specs.contracts.lasting.Lasting.{the_row, the_type}
+use Rattle.xc_data.specs.contracts.lasting.Leaked.{the_row, the_type}
 
 -- the value x lies at p, lent for the lifetime of no name, which never ends
 abbrev forever : (T : RattleType) → Ptr → T.Denot → Fml
@@ -42,11 +42,11 @@ module _ (T : RattleType) (L : Laws T) (p : Ptr) (x : T.Denot) where
   pub Lends-forever : {M : Type 1} {𝓤 : Ura M} (𝓛 : Logic 𝓤) (l : Lft) → Lends 𝓛 (forever T p x) (said (forever T p x)) l
   Lends-forever 𝓛 = lends_twice 𝓛 (forever T p x) (contraction 𝓛 (said (forever T p x)) forever_laws [])
 
--- the machine value of a `Lasting` of the value at (b, o)
+-- the machine value of a `Leaked` of the value at (b, o)
 abbrev pub lasting_val : ℕ → ℕ → Val
 lasting_val b o = vstruct (vcons (vptr b o) vnil)
 
--- what a `&'static` holds makes a `Lasting`
+-- what a `&'static` holds makes a `Leaked`
 pub lasting_made : (T : RattleType) {M : Type 1} {𝓤 : Ura M} (𝓛 : Logic 𝓤) (x : T.Denot) (b o : ℕ)
     → ent 𝓤 (sem 𝓛 (hidden_shr T [] x b o)) (sem 𝓛 ((the_row T).own_val (record { at = block_ptr b o; value = x }) (lasting_val b o ∷ [])))
 lasting_made T 𝓛 x b o = qed 𝓛 (‵ (hidden_shr T [] x b o) ∷ []) ∵ unhide ! $ nothing ! $ fjoin ! $
@@ -54,7 +54,7 @@ lasting_made T 𝓛 x b o = qed 𝓛 (‵ (hidden_shr T [] x b o) ∷ []) ∵ un
     feq_i ! (List Val) (lasting_val b o ∷ []) (lasting_val b o ∷ []) refl $ fjoin ! $
     fpack ! (Valss (RawPtr ∷ [])) (within (shape (the_type T)) (block_ptr b o, tt) (lasting_val b o ∷ [])) (vptr b o ∷ [], tt) $ fjoin ! $ done !
 
--- A `Lasting` only reads its value, so it may cross threads where the value may be read in any.
+-- A `Leaked` only reads its value, so it may cross threads where the value may be read in any.
 quiet : {D X : Type 0} (to : D → X) (e : Exit X) → Quiet e → Quiet (hidden (under to e))
 quiet to unchanged q = λ x w. tt
 quiet to (leaves L l S s r₀) q = λ d. q (to d)

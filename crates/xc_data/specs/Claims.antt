@@ -7,8 +7,8 @@ use Rattle.xc_data.specs.contracts.object.ObjectPartialEq.TheImpl as same_object
 use Rattle.xc_data.specs.declared.claim.Mode.{Mode}
 use Rattle.xc_data.specs.declared.claim.Mode.TheVariants.{Shared, Exclusive}
 use Rattle.xc_data.specs.declared.claim.Claim.{Claim}
-use Rattle.xc_data.specs.declared.kept_claim.Form.{Form}
-use Rattle.xc_data.specs.declared.kept_claim.Form.TheVariants as kept
+use Rattle.xc_data.specs.declared.kept_claim.ClaimForm.{ClaimForm}
+use Rattle.xc_data.specs.declared.kept_claim.ClaimForm.TheVariants as kept
 use Rattle.xc_data.specs.declared.object.Object.TheVariants as object
 
 -- two objects are one
@@ -20,7 +20,7 @@ abbrev pub claim : Mode → Object → Claim
 claim m o = record { object = o; mode = m }
 
 -- the claim that lies in memory in such a form
-abbrev pub claim_of : Form → Claim
+abbrev pub claim_of : ClaimForm → Claim
 claim_of (kept.Word m at) = claim m (object.Word at)
 claim_of (kept.Name m name) = claim m (object.Name name)
 claim_of (kept.File m num) = claim m (object.File num)

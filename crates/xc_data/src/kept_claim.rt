@@ -6,7 +6,7 @@ use std::marker::Model;
 
 // How a claim lies in memory: the mode stands beside the object's kind, where else there would be a gap.
 #[derive(Debug, Drop)]
-enum Form {
+enum ClaimForm {
     Word(Mode, u32),
     Name(Mode, SharedName),
     File(Mode, Num),
@@ -18,7 +18,7 @@ enum Form {
 /// A claim that is listed. Contracts see the claim.
 #[derive(Debug, Drop)]
 pub struct KeptClaim {
-    form: Form,
+    form: ClaimForm,
 }
 
 impl Model for KeptClaim {
@@ -40,12 +40,12 @@ impl KeptClaim {
         ensures { result ≡ claim.now }
     {
         let form = match &claim.object {
-            Object::Word(at) => Form::Word(claim.mode, *at),
-            Object::Name(name) => Form::Name(claim.mode, name.again()),
-            Object::File(num) => Form::File(claim.mode, *num),
-            Object::Pipe(num) => Form::Pipe(claim.mode, *num),
-            Object::Pair(num) => Form::Pair(claim.mode, *num),
-            Object::Jobs => Form::Jobs(claim.mode),
+            Object::Word(at) => ClaimForm::Word(claim.mode, *at),
+            Object::Name(name) => ClaimForm::Name(claim.mode, name.again()),
+            Object::File(num) => ClaimForm::File(claim.mode, *num),
+            Object::Pipe(num) => ClaimForm::Pipe(claim.mode, *num),
+            Object::Pair(num) => ClaimForm::Pair(claim.mode, *num),
+            Object::Jobs => ClaimForm::Jobs(claim.mode),
         };
         KeptClaim { form }
     }
@@ -56,12 +56,12 @@ impl KeptClaim {
         ensures { result ≡ self.now.object }
     {
         match &self.form {
-            Form::Word(_, at) => Object::Word(*at),
-            Form::Name(_, name) => Object::Name(name.again()),
-            Form::File(_, num) => Object::File(*num),
-            Form::Pipe(_, num) => Object::Pipe(*num),
-            Form::Pair(_, num) => Object::Pair(*num),
-            Form::Jobs(_) => Object::Jobs,
+            ClaimForm::Word(_, at) => Object::Word(*at),
+            ClaimForm::Name(_, name) => Object::Name(name.again()),
+            ClaimForm::File(_, num) => Object::File(*num),
+            ClaimForm::Pipe(_, num) => Object::Pipe(*num),
+            ClaimForm::Pair(_, num) => Object::Pair(*num),
+            ClaimForm::Jobs(_) => Object::Jobs,
         }
     }
 
@@ -71,8 +71,8 @@ impl KeptClaim {
         ensures { result ≡ self.now.mode }
     {
         match &self.form {
-            Form::Word(mode, _) | Form::Name(mode, _) | Form::File(mode, _) => *mode,
-            Form::Pipe(mode, _) | Form::Pair(mode, _) | Form::Jobs(mode) => *mode,
+            ClaimForm::Word(mode, _) | ClaimForm::Name(mode, _) | ClaimForm::File(mode, _) => *mode,
+            ClaimForm::Pipe(mode, _) | ClaimForm::Pair(mode, _) | ClaimForm::Jobs(mode) => *mode,
         }
     }
 
@@ -99,12 +99,12 @@ impl KeptClaim {
         ensures { result ≡ record self.now { mode = mode } }
     {
         let form = match &self.form {
-            Form::Word(_, at) => Form::Word(mode, *at),
-            Form::Name(_, name) => Form::Name(mode, name.again()),
-            Form::File(_, num) => Form::File(mode, *num),
-            Form::Pipe(_, num) => Form::Pipe(mode, *num),
-            Form::Pair(_, num) => Form::Pair(mode, *num),
-            Form::Jobs(_) => Form::Jobs(mode),
+            ClaimForm::Word(_, at) => ClaimForm::Word(mode, *at),
+            ClaimForm::Name(_, name) => ClaimForm::Name(mode, name.again()),
+            ClaimForm::File(_, num) => ClaimForm::File(mode, *num),
+            ClaimForm::Pipe(_, num) => ClaimForm::Pipe(mode, *num),
+            ClaimForm::Pair(_, num) => ClaimForm::Pair(mode, *num),
+            ClaimForm::Jobs(_) => ClaimForm::Jobs(mode),
         };
         KeptClaim { form }
     }

@@ -8,27 +8,27 @@ use std::marker::{Model, Send, Sync};
 /// It is a `&'static T` whose type names no lifetime: what it owns is what the `&'static T` holds, lent for the lifetime of no
 /// name, `[]`, which never ends.
 #[derive(Drop)]
-pub struct Lasting<T> {
+pub struct Leaked<T> {
     at: *const T,
     pub ghost value: { T },
 }
 
-impl<T> Model for Lasting<T> {
+impl<T> Model for Leaked<T> {
     ghost also_owns = { λ k. lent_at T.row k.at k.value [] };
 
     ghost also_shares = { λ k _ κ. lent_at T.row k.at k.value [] };
 }
 
-unsafe impl<T: Sync> Send for Lasting<T> {}
+unsafe impl<T: Sync> Send for Leaked<T> {}
 
-unsafe impl<T: Sync> Sync for Lasting<T> {}
+unsafe impl<T: Sync> Sync for Leaked<T> {}
 
-impl<T: 'static> Lasting<T> {
+impl<T: 'static> Leaked<T> {
     /// Points to a value that stays for as long as the program runs.
     pub fn of(value: &'static T) -> Self
         ensures { result.value ≡ value.now }
     {
-        Lasting {
+        Leaked {
             at: value as *const T,
         }
     }
@@ -44,6 +44,6 @@ impl<T: 'static> Lasting<T> {
     pub fn again(&self) -> Self
         ensures { result.value ≡ self.now.value }
     {
-        Lasting::of(self.get())
+        Leaked::of(self.get())
     }
 }

@@ -44,8 +44,8 @@ pub use name::Name;
 pub use object::{Num, Object};
 pub use private::{Place, Private};
 pub use script::{
-    CallNumbers, FaultLine, FaultList, IdentList, Kind, Opened, OpenedList, Outline, Prologue,
-    WordList,
+    CallNumbers, FaultLine, FaultList, HostCallKind, IdentList, Opened, OpenedList, Outline,
+    Prologue, WordList,
 };
 pub use shared_name::SharedName;
 pub use slot_name::SlotName;

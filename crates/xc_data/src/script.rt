@@ -15,7 +15,7 @@ pub type FaultList = Items<FaultLine>;
 
 /// The kinds of host calls. `Any` counts them all.
 #[derive(Clone, Copy, Debug, PartialEq)]
-pub enum Kind {
+pub enum HostCallKind {
     Lookup,
     Create,
     Len,
@@ -54,7 +54,7 @@ pub enum Opened {
 /// The calls of a kind that fail: from the `first` to the `last` of them, counted from 1.
 #[derive(Clone, Copy, Debug)]
 pub struct FaultLine {
-    pub kind: Kind,
+    pub kind: HostCallKind,
     pub first: u64,
     pub last: u64,
 }

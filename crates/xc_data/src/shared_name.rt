@@ -7,7 +7,7 @@ ghost use Rattle.std.specs.Cmp.{partial_equiv_from_equiv};
 ghost use Rattle.std.specs.Cmp.Lexicographic.{pointwise, slice_cmp, bytes_decides, nat_list_eq_equiv};
 ghost use Rattle.std.specs.Cmp.Lexicographic.{nat_list_cmp_total, texts_ties, texts_po};
 
-use crate::lasting::Lasting;
+use crate::lasting::Leaked;
 use crate::{Name, NoMemory};
 use std::alloc::Global;
 use std::cmp::Ordering;
@@ -21,7 +21,7 @@ use std::marker::Model;
 /// same name takes no memory, and what holds a name stays small.
 #[derive(Drop)]
 pub struct SharedName {
-    name: Lasting<Name>,
+    name: Leaked<Name>,
 }
 
 impl Model for SharedName {
@@ -42,7 +42,7 @@ impl SharedName {
     {
         let place = Box::new(alloc, name)?;
         Ok(SharedName {
-            name: Lasting::of(Box::leak(place)),
+            name: Leaked::of(Box::leak(place)),
         })
     }
 

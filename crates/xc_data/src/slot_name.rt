@@ -1,7 +1,7 @@
 ghost use Rattle.std.specs.Prelude.{◌≡◌, IfOk};
 ghost use Rattle.std.specs.Option.{option_copied};
 
-use crate::lasting::Lasting;
+use crate::lasting::Leaked;
 use crate::{Ident, NoMemory};
 use std::alloc::Global;
 use std::fmt::{self, Debug, Formatter, Write};
@@ -13,7 +13,7 @@ use std::marker::Model;
 /// The place is never given back, as that of a `SharedName` isn't. An `Option` of a pointer would have 16 bytes.
 #[derive(Drop)]
 pub struct SlotName {
-    name: Lasting<Option<Ident>>,
+    name: Leaked<Option<Ident>>,
 }
 
 impl Model for SlotName {
@@ -34,7 +34,7 @@ impl SlotName {
     {
         let place = Box::new(alloc, name)?;
         Ok(SlotName {
-            name: Lasting::of(Box::leak(place)),
+            name: Leaked::of(Box::leak(place)),
         })
     }
 

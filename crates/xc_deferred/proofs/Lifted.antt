@@ -17,7 +17,7 @@ use Rattle.xc_data.specs.declared.entry.KeptItem.TheVariants.{Bytes, Message}
 use Rattle.xc_data.specs.declared.object.Num.{Num}
 use Rattle.xc_data.specs.declared.object.Object.{Object}
 use Rattle.xc_data.specs.declared.object.Object.TheVariants as object
-use Rattle.xc_data.specs.declared.script.Kind.{Kind}
+use Rattle.xc_data.specs.declared.script.HostCallKind.{HostCallKind}
 use Rattle.xc_maps.proofs.Laws.{insert-get_same, num_total, num_exact}
 use Rattle.xc_world.specs.World.{World, Pipe, pipe_of, with_pipe, empty_pipe}
 use Rattle.xc_world.specs.Fits.{late_fits, late_answer_of, late_may_stop}
@@ -31,7 +31,7 @@ use Rattle.xc_host.specs.Pipes.{has_pipe, pipe_in, put_front}
 use Rattle.xc_host.specs.Uses.{Uses}
 use Rattle.xc_buffers.specs.Items.{kept_bytes}
 use Rattle.xc_buffers.specs.Worlds.{with_front}
-use Rattle.xc_buffers.proofs.Laws.{Passes, given_passes, held_alone, put_stays, shut_stays, pipe_front}
+use Rattle.xc_buffers.proofs.Laws.{Commutes, given_passes, held_alone, put_stays, shut_stays, pipe_front}
 use Rattle.xc_deferred.specs.Does.{EndsAsPlain}
 use Rattle.xc_deferred.specs.Ended.{EndsAt}
 use Rattle.xc_deferred.specs.Puts.{Writes}
@@ -58,13 +58,13 @@ is_lifted (WritePipe num bytes) = false
 is_lifted (Send num side bytes) = false
 is_lifted (Thread body) = false
 
-abbrev without_name : List ℕ → World → World
-without_name name x = record x { names = map.remove x.names name }
+abbrev world_without_name : List ℕ → World → World
+world_without_name name x = record x { names = map.remove x.names name }
 
-name_gone : (x : World) (name : List ℕ) (items : List KeptItem) → given_back (without_name name x) items ≡ without_name name (given_back x items)
-name_gone x name items = given_passes (without_name name) items (λ k d lt. passes _) x
+name_gone : (x : World) (name : List ℕ) (items : List KeptItem) → given_back (world_without_name name x) items ≡ world_without_name name (given_back x items)
+name_gone x name items = given_passes (world_without_name name) items (λ k d lt. passes _) x
   where
-    passes : (t : KeptItem) → Passes (without_name name) t
+    passes : (t : KeptItem) → Commutes (world_without_name name) t
     passes (Bytes pipe bytes) y = refl
     passes (Message pair side bytes) y = refl
 
@@ -126,7 +126,7 @@ does_lifted was is call e items lifted d =
 
 module _ {H : Type 0} (model : HostModel H) (items : List KeptItem) where
   -- a host that was used is so with kept items in front
-  pub uses_fronted : {IsMade : List Kind → Type 0} (a b : H) → Uses model (record { old = a; new = b }) IsMade
+  pub uses_fronted : {IsMade : List HostCallKind → Type 0} (a b : H) → Uses model (record { old = a; new = b }) IsMade
       → Uses (fronted model) (record { old = before a items; new = before b items }) IsMade
   uses_fronted a b u = record { made = u.made; named = u.named; used = record { called = u.used.called; plan = u.used.plan } }
 
@@ -187,31 +187,31 @@ module _ (w : World) (c : Contents) (pipe : Num) (items : List KeptItem) where
       ap room whole_pipe ∙ ap (λ n. 4096 - n) (length-append (kept_bytes pipe items) (pipe_in c pipe).held) ∙ sym e
 
 -- a world with a pipe that isn't shut and has so much room
-record HasRoom (x : World) (pipe : Num) (r : ℕ) : Type 0 where
+record HasPipeRoom (x : World) (pipe : Num) (r : ℕ) : Type 0 where
   mark : (pipe_of x pipe).shut ≡ false
   room_is : room (pipe_of x pipe) ≡ r
 
-written_all : (x : World) (pipe : Num) (r : ℕ) (bytes : List ℕ) → HasRoom x pipe r → length bytes ≤ r
+written_all : (x : World) (pipe : Num) (r : ℕ) (bytes : List ℕ) → HasPipeRoom x pipe r → length bytes ≤ r
     → pipe_written x pipe bytes ≡ ends (with_put x pipe bytes) end.Done
 written_all x pipe r bytes h le =
     if_false (pipe_of x pipe).shut _ _ h.mark
     ∙ if_false (nat_lt (room (pipe_of x pipe)) (length bytes)) _ _ (ap (λ n. nat_lt n (length bytes)) h.room_is ∙ le-ltb _ _ le)
 
-written_front : (x : World) (pipe : Num) (r : ℕ) (bytes : List ℕ) → HasRoom x pipe r → r < length bytes
+written_front : (x : World) (pipe : Num) (r : ℕ) (bytes : List ℕ) → HasPipeRoom x pipe r → r < length bytes
     → pipe_written x pipe bytes ≡ ends (with_put x pipe (take r bytes)) (end.Full r)
 written_front x pipe r bytes h lt =
     if_false (pipe_of x pipe).shut _ _ h.mark
     ∙ if_true (nat_lt (room (pipe_of x pipe)) (length bytes)) _ _ (ap (λ n. nat_lt n (length bytes)) h.room_is ∙ lt-ltb _ _ lt)
     ∙ ap (λ n. ends (with_put x pipe (take n bytes)) (end.Full n)) h.room_is
 
-stopped_at : (x : World) (pipe : Num) (r n : ℕ) (bytes : List ℕ) → HasRoom x pipe r → suc n < r
+stopped_at : (x : World) (pipe : Num) (r n : ℕ) (bytes : List ℕ) → HasPipeRoom x pipe r → suc n < r
     → stopped x (WritePipe pipe bytes) (suc n) ≡ with_put x pipe (take (suc n) bytes)
 stopped_at x pipe r n bytes h lt =
     let least : min (suc n) (room (pipe_of x pipe)) ≡ suc n = omega (arith, h.room_is, lt) in
     if_false (suc n == 0 || (pipe_of x pipe).shut) _ _ (ap (λ b. b || (pipe_of x pipe).shut) (eqb-suc-zero n) ∙ h.mark)
     ∙ ap (λ k. with_put x pipe (take k bytes)) least
 
-may_stop_at : (x : World) (pipe : Num) (r n : ℕ) (bytes : List ℕ) → HasRoom x pipe r → n < length bytes → n < r
+may_stop_at : (x : World) (pipe : Num) (r n : ℕ) (bytes : List ℕ) → HasPipeRoom x pipe r → n < length bytes → n < r
     → late_may_stop x (WritePipe pipe bytes) n ≡ true
 may_stop_at x pipe r n bytes h lt lt' =
     ap (λ b. not b && nat_lt n (min (length bytes) (room (pipe_of x pipe)))) h.mark
@@ -239,7 +239,7 @@ module _ (c d : Contents) (pipe : Num) (bytes : List ℕ) (items : List KeptItem
 
 module _ (c d : Contents) (pipe : Num) (bytes : List ℕ) (items : List KeptItem) (r : ℕ) (there : has_pipe c pipe ≡ true)
     (mark : (pipe_in c pipe).shut ≡ false) (room_is : r ≡ 4096 - (length (kept_bytes pipe items) + length (pipe_in c pipe).held)) where
-  has_room : (w : World) → HasRoom (given_back (with_contents w c) items) pipe r
+  has_room : (w : World) → HasPipeRoom (given_back (with_contents w c) items) pipe r
   has_room w = record { mark = mark_there w c pipe items false mark; room_is = room_there w c pipe items r room_is }
 
   some_stopped : (n : ℕ) → n < length bytes → n < r → d ≡ put_front c pipe (take n bytes) → (w : World)
@@ -263,8 +263,8 @@ module _ (c d : Contents) (pipe : Num) (bytes : List ℕ) (items : List KeptItem
   abbrev here : World
   here = world_of (with_kept c items)
 
-  room_here : HasRoom here pipe r
-  room_here = subst (λ x. HasRoom x pipe r) (sym (world_with here c items)) (has_room here)
+  room_here : HasPipeRoom here pipe r
+  room_here = subst (λ x. HasPipeRoom x pipe r) (sym (world_with here c items)) (has_room here)
 
   fault_fits : (n : ℕ) → (n ≡ 0) ⊎ ((n < length bytes) × (n < r)) → IsTrue (late_fits here (WritePipe pipe bytes) (answer.Fault n))
   fault_fits zero h = refl

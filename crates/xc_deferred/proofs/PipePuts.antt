@@ -7,7 +7,7 @@ use Rattle.xc_data.specs.declared.call.LateCall.TheVariants.{WritePipe}
 use Rattle.xc_data.specs.declared.call.LateEnd.{LateEnd}
 use Rattle.xc_data.specs.declared.call.LateEnd.TheVariants as end
 use Rattle.xc_data.specs.declared.object.Num.{Num}
-use Rattle.xc_data.specs.declared.script.Kind.TheVariants.{PipeState, Put}
+use Rattle.xc_data.specs.declared.script.HostCallKind.TheVariants.{PipeState, Put}
 use Rattle.xc_maps.proofs.Laws.{get-insert_same, num_total, num_exact}
 use Rattle.xc_world.specs.World.{Pipe, empty_pipe}
 use Rattle.xc_host.specs.Contents.{Contents}
@@ -29,13 +29,13 @@ put_more was c next pipe done more bytes within some told did =
     ∙ front_put was pipe done more bytes some within
 
 -- the pipe after a put
-pub record IsBehind (c next : Contents) (pipe : Num) (n : ℕ) : Type 0 where
+pub record IsBehindPut (c next : Contents) (pipe : Num) (n : ℕ) : Type 0 where
   pub there : has_pipe next pipe ≡ true
   pub mark : (pipe_in next pipe).shut ≡ (pipe_in c pipe).shut
   pub size : length (pipe_in next pipe).held ≡ length (pipe_in c pipe).held + n
 
 -- is there with its mark, and has so many bytes more
-pub put_keeps : (c next : Contents) (pipe : Num) (xs : List ℕ) → next ≡ put_into c pipe xs → IsBehind c next pipe (length xs)
+pub put_keeps : (c next : Contents) (pipe : Num) (xs : List ℕ) → next ≡ put_into c pipe xs → IsBehindPut c next pipe (length xs)
 put_keeps c next pipe xs did =
     let p = pipe_in c pipe in
     let q : Pipe = record p { held = p.held ++ xs } in

@@ -7,7 +7,7 @@ use Rattle.xc_data.specs.declared.call.LateEnd.{LateEnd}
 use Rattle.xc_data.specs.declared.call.LateEnd.TheVariants as end
 use Rattle.xc_data.specs.declared.entry.KeptItem.{KeptItem}
 use Rattle.xc_data.specs.declared.object.Num.{Num}
-use Rattle.xc_data.specs.declared.script.Kind.TheVariants as kind
+use Rattle.xc_data.specs.declared.script.HostCallKind.TheVariants as kind
 use Rattle.xc_world.specs.World.{World, other_side, pair_of, waiting, with_pair}
 use Rattle.xc_world.specs.Late.{ends, sent, sent_to}
 use Rattle.xc_world.specs.Run.{given_back}

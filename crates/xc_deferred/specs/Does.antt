@@ -23,12 +23,12 @@ pub record EndsAsPlain (was is : Contents) (call : LateCall) (end : LateEnd) : T
   pub step : (w : World) → late (with_contents w was) call (late_answer_of end) ≡ ends (with_contents w is) end
 
 -- a host, and the late calls of one transaction at it
-pub record AtHost (H : Type 0) : Type 0 where
+pub record LateAtHost (H : Type 0) : Type 0 where
   pub host : H
   pub late : Queue
 
 -- the first call without an end was done at the host, and its end is noted
-pub record EndsNext {H : Type 0} (model : HostModel H) (call : LateCall) (old new : AtHost H) : Type 0 where
+pub record EndsNext {H : Type 0} (model : HostModel H) (call : LateCall) (old new : LateAtHost H) : Type 0 where
   pub end : LateEnd
   pub noted : new.late ≡ record old.late { ends = old.late.ends ++ end ∷ [] }
   -- a fault exactly where the host's count rose

@@ -5,8 +5,8 @@ use Rattle.xc_data.specs.Step.{Step}
 use Rattle.xc_data.specs.declared.call.LateEnd.{LateEnd}
 use Rattle.xc_data.specs.declared.call.LateEnd.TheVariants.{Done, Full, Fault, NoMemory}
 use Rattle.xc_data.specs.declared.object.Num.{Num}
-use Rattle.xc_data.specs.declared.script.Kind.{Kind}
-use Rattle.xc_data.specs.declared.script.Kind.TheVariants as kind
+use Rattle.xc_data.specs.declared.script.HostCallKind.{HostCallKind}
+use Rattle.xc_data.specs.declared.script.HostCallKind.TheVariants as kind
 use Rattle.xc_host.specs.Cause.{is_fault}
 use Rattle.xc_host.specs.Contents.{Contents}
 use Rattle.xc_host.specs.Model.{HostModel}
@@ -16,7 +16,7 @@ use Rattle.xc_host.specs.declared.errors.HostErr.{HostErr}
 use Rattle.xc_deferred.specs.declared.putting.Put.{Put}
 
 -- the puts that put so many bytes, and the one after them that failed, where one did
-abbrev pub PutsUntil : ℕ → Result (Unit {0}) HostErr → List Kind → Type 0
+abbrev pub PutsUntil : ℕ → Result (Unit {0}) HostErr → List HostCallKind → Type 0
 PutsUntil done (Ok x) made = MovesBy kind.Put done 0 made
 PutsUntil done (Err e) made = MovesBy kind.Put done 1 made
 
@@ -29,18 +29,18 @@ pub record IsPut {H : Type 0} (model : HostModel H) (pipe : Num) (bytes : List �
   pub cause : CountsFault (is_fault put.end) (model.fault_count step.old) (model.fault_count step.new)
 
 -- a front of n bytes is put
-abbrev pub PutsFront : Step Contents → Num → List ℕ → ℕ → Type 0
-PutsFront c pipe bytes n = c.new ≡ put_front c.old pipe (take n bytes)
+abbrev pub PutsFrontOf : Step Contents → Num → List ℕ → ℕ → Type 0
+PutsFrontOf c pipe bytes n = c.new ≡ put_front c.old pipe (take n bytes)
 
 -- what a write that ended so put into a pipe with so much room: all, or what fits, or before a failure a front of that
 abbrev pub Writes : Step Contents → Num → List ℕ → ℕ → LateEnd → Type 0
 Writes c pipe bytes room Done = (length bytes ≤ room) × (c.new ≡ put_front c.old pipe bytes)
-Writes c pipe bytes room (Full n) = (n ≡ room) × (room < length bytes) × PutsFront c pipe bytes n
-Writes c pipe bytes room (Fault n) = ((n ≡ 0) ⊎ ((n < length bytes) × (n < room))) × PutsFront c pipe bytes n
-Writes c pipe bytes room (NoMemory n) = ((n ≡ 0) ⊎ ((n < length bytes) × (n < room))) × PutsFront c pipe bytes n
+Writes c pipe bytes room (Full n) = (n ≡ room) × (room < length bytes) × PutsFrontOf c pipe bytes n
+Writes c pipe bytes room (Fault n) = ((n ≡ 0) ⊎ ((n < length bytes) × (n < room))) × PutsFrontOf c pipe bytes n
+Writes c pipe bytes room (NoMemory n) = ((n ≡ 0) ⊎ ((n < length bytes) × (n < room))) × PutsFrontOf c pipe bytes n
 -- it has no other end
 Writes c pipe bytes room _ = ⊥
 
 -- the puts of a write of n bytes that ended so
-abbrev pub PutsOnly : ℕ → LateEnd → List Kind → Type 0
+abbrev pub PutsOnly : ℕ → LateEnd → List HostCallKind → Type 0
 PutsOnly n end made = (count : ℕ) × PutsFor n end count × (made ≡ replicate count kind.Put)

@@ -15,8 +15,8 @@ pub record Queue : Type 0 where
   pub ends : List LateEnd
 
 -- those that have no end yet
-abbrev pub left : Queue → List LateCall
-left q = drop (length q.ends) q.calls
+abbrev pub late_calls_left : Queue → List LateCall
+late_calls_left q = drop (length q.ends) q.calls
 
 -- the block of the job that the first call without an end starts, where it starts one
 abbrev pub next_thread : List LateCall → Option (List ℕ)

@@ -2,7 +2,7 @@ ghost use Rattle.std.specs.Prelude.{◌-◌, ◌^◌, min, take, ◌≡◌, ◌<
 ghost use Rattle.xc_data.specs.Calls.{thread_in};
 ghost use Rattle.xc_data.specs.declared.call.LateCall.{LateCall as PlainCall};
 ghost use Rattle.xc_deferred.specs.Does.{EndsNext, IsThereFor};
-ghost use Rattle.xc_deferred.specs.Queue.{is_late_fit, left, next_thread};
+ghost use Rattle.xc_deferred.specs.Queue.{is_late_fit, late_calls_left, next_thread};
 ghost use Rattle.xc_host.specs.Fronted.{before, fronted};
 ghost use Rattle.xc_host.specs.Kept.{KeepsData};
 
@@ -90,7 +90,7 @@ impl Late {
 
     /// Whether a call has no end yet.
     pub fn has_left(&self) -> bool
-        ensures { MatchBool result (0 < length (left self.now)) (left self.now ≡ []) }
+        ensures { MatchBool result (0 < length (late_calls_left self.now)) (late_calls_left self.now ≡ []) }
     {
         self.ends.len() < self.calls.len()
     }
@@ -98,7 +98,7 @@ impl Late {
     /// The block of the job that the first call without an end starts; None exactly where no such call is left or it is of
     /// another kind. It takes no memory.
     pub fn next_thread(&self) -> Option<Ident>
-        ensures { result ≡ next_thread (left self.now) }
+        ensures { result ≡ next_thread (late_calls_left self.now) }
     {
         if !self.has_left() {
             return None;
@@ -108,7 +108,7 @@ impl Late {
 
     /// Notes the end of the first call that has none, which starts a job. It takes no memory.
     pub fn end_thread(&mut self, end: LateEnd)
-        requires left { 0 < length (left self.old) }
+        requires left { 0 < length (late_calls_left self.old) }
         ensures { self.new ≡ record self.old { ends = self.old.ends ++ end ∷ [] } }
     {
         self.ends.enter(end)
@@ -117,11 +117,11 @@ impl Late {
     /// Does the first call that has no end yet, which starts no job, at a host with kept items in front of it, and notes how
     /// it ended. It takes no memory of its own.
     pub fn do_one<H: Host>(&mut self, host: &mut H, kept: &Kept)
-        requires left { 0 < length (left self.old) }
-        requires hosted { next_thread (left self.old) ≡ None }
-        requires there { IsTrue H.model.tells → (call : PlainCall) (calls : List PlainCall) → left self.old ≡ call ∷ calls
+        requires left { 0 < length (late_calls_left self.old) }
+        requires hosted { next_thread (late_calls_left self.old) ≡ None }
+        requires there { IsTrue H.model.tells → (call : PlainCall) (calls : List PlainCall) → late_calls_left self.old ≡ call ∷ calls
             → IsThereFor (H.model.contents host.old) call }
-        ensures ends { (call : PlainCall) (calls : List PlainCall) → left self.old ≡ call ∷ calls
+        ensures ends { (call : PlainCall) (calls : List PlainCall) → late_calls_left self.old ≡ call ∷ calls
             → EndsNext (fronted H.model) call (record { host = before host.old kept.now.items; late = self.old })
             (record { host = before host.new kept.now.items; late = self.new }) }
         ensures keeps { IsTrue H.model.tells → KeepsData (H.model.contents host.old) (H.model.contents host.new) }

@@ -16,9 +16,9 @@ wrote_more a b c text done more before now =
     subst (Appends a c) (ap (λ xs. take done text ++ take more xs) (take_rest text done) ∙ sym (take-add done more text)) (Appends-trans a b c _ _ before now)
 
 -- what holds holds where a call failed
-pub on_err : {T E P : Type 0} (r : Result T E) → P → OnErr r P
-on_err (Ok _) p = tt
-on_err (Err _) p = p
+pub holds_on_err : {T E P : Type 0} (r : Result T E) → P → OnErr r P
+holds_on_err (Ok _) p = tt
+holds_on_err (Err _) p = p
 
 -- a front was taken, and one more piece of no more bytes than were asked for
 pub took_more : (limit : ℕ) (a b c : StreamView) (before into : List ℕ) (n : ℕ) → Consumes a.bytes b.bytes before → Consumes b.bytes c.bytes (take n into)

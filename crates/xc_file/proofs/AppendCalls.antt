@@ -30,11 +30,11 @@ use Rattle.xc_calls.specs.Calls.{CallState, CallView, ActsAsPlain, AreRecorded, 
 use Rattle.xc_calls.specs.Passing.{Passes}
 use Rattle.xc_file.specs.declared.checks.OpenFile.{OpenFile}
 use Rattle.xc_file.specs.Writing.{moved_on}
-use Rattle.xc_calls.proofs.Laws.{call_view_at, Grows, replied_call, some_refusal}
+use Rattle.xc_calls.proofs.Laws.{call_view_at, RecordsGrow, replied_call, some_refusal}
 
 -- the state after an append of n of the bytes, at the file's end
-abbrev behind : Private → OpenFile → List ℕ → ℕ → Private
-behind me file bytes n = storing (moved_on me file.h file.num file.at n) (length bytes)
+abbrev me_behind_append : Private → OpenFile → List ℕ → ℕ → Private
+me_behind_append me file bytes n = storing (moved_on me file.h file.num file.at n) (length bytes)
 
 -- a file that is open at a handle, at its end
 abbrev at_end : Contents → ℕ → Num → OpenFile
@@ -43,7 +43,8 @@ at_end c h num = record { h = h; num = num; at = length (file_in c num) }
 front_step : (was is : Contents) (number : ℕ) (me : Private) (h : ℕ) (num : Num) (at : ℕ) (bytes : List ℕ) (n : ℕ) (w : World)
     → length bytes ≤ 1024 → me.stored + length bytes ≤ 16384 → place_of me.places h ≡ File num at → 0 < length bytes
     → Appends was is num bytes (Fault n)
-    → act (with_contents w was) me number (XWriteSeq h bytes) (answer.Fault n) ≡ step_to (with_contents w is) (behind me (at_end was h num) bytes n) (Fault n)
+    → act (with_contents w was) me number (XWriteSeq h bytes) (answer.Fault n)
+    ≡ step_to (with_contents w is) (me_behind_append me (at_end was h num) bytes n) (Fault n)
 front_step was is number me h num at bytes n w big much there some did = grind (arith, common_steps)
 
 front_fits : (was is : Contents) (number : ℕ) (me : Private) (h : ℕ) (num : Num) (at : ℕ) (bytes : List ℕ) (n : ℕ) (w : World)
@@ -67,7 +68,8 @@ front_part : (was is : Contents) (number : ℕ) (me : Private) (h : ℕ) (num : 
     → Appends was is num bytes (Fault n) → from ≡ length (file_in was num)
     → DidPart (XWriteSeq h bytes) (call_view_at was number me) is (tail num from bytes n)
 front_part was is number me h num at bytes from n (big, much) there some did end =
-    part_of (XWriteSeq h bytes) (call_view_at was number me) (call_view_at is number (behind me (at_end was h num) bytes n)) (tail num from bytes n) (Fault n)
+    part_of (XWriteSeq h bytes) (call_view_at was number me) (call_view_at is number (me_behind_append me (at_end was h num) bytes n)) (tail num from bytes n)
+    (Fault n)
     (record {
       step = λ w. front_step was is number me h num at bytes n w big much there some did;
       fits = λ w. front_fits was is number me h num at bytes n w big much there some did;
@@ -82,7 +84,7 @@ one_at_most false u = omega arith
 pub append_call : {H : Type 0} (model : HostModel H) (h : ℕ) (bytes : List ℕ) (num : Num) (at : ℕ) (old new : CallState H) (result : Result Reply NoMemory)
     → refusal_of (XWriteSeq h bytes) old.me ≡ None → (length bytes ≤ 1024) × (old.me.stored + length bytes ≤ 16384)
     → place_of old.me.places h ≡ File num at → old.undo.ended ≡ []
-    → Passes model (XWriteSeq h bytes) (record { old = old; new = new }) result → IfOk result (Grows model (XWriteSeq h bytes) old new)
+    → Passes model (XWriteSeq h bytes) (record { old = old; new = new }) result → IfOk result (RecordsGrow model (XWriteSeq h bytes) old new)
     → OnErr result (StopsShort model num bytes (record { host = old.host; undo = old.undo }) (record { host = new.host; undo = new.undo }))
     → OnErr result (0 < length bytes)
     → IsHostCall model (XWriteSeq h bytes) old new result

@@ -11,9 +11,9 @@ use Rattle.xc_world.specs.Checks.{refusal_of}
 use Rattle.xc_host.specs.Model.{HostModel}
 use Rattle.xc_compensate.specs.Records.{Records}
 use Rattle.xc_calls.specs.Calls.{CallState, call_view, IsHostCall, AreRecorded}
-use Rattle.xc_file.specs.Passing.{Leaves}
+use Rattle.xc_file.specs.Passing.{LeavesRecord}
 use Rattle.xc_calls.specs.Passing.{at_host}
-use Rattle.xc_calls.proofs.Laws.{Grows, one_made}
+use Rattle.xc_calls.proofs.Laws.{RecordsGrow, one_made}
 
 -- what is put after the same records is the same
 same_made : (old new : Records) (made more : List Undo) → new ≡ record old { pending = old.pending ++ made }
@@ -22,9 +22,9 @@ same_made old new made more grown is = append_cancel_left old.pending made more 
 
 -- a call that leaves one record where it did some bytes, which the host tells
 pub some_grow : {H : Type 0} (model : HostModel H) (call : Call) (made : Reply → List Undo) (old new : CallState H) (result : Result Reply NoMemory)
-    → IfOk result (λ r. Leaves model (at_host (record { old = old; new = new })) call r (made r))
+    → IfOk result (λ r. LeavesRecord model (at_host (record { old = old; new = new })) call r (made r))
     → ((r : Reply) → AreRecorded call (call_view model old) (made r) r)
-    → IfOk result (Grows model call old new)
+    → IfOk result (RecordsGrow model call old new)
 some_grow model call made old new (Ok r) leaves are =
     let adds = leaves.adds in
     record {

@@ -6,8 +6,8 @@ use Rattle.xc_data.specs.declared.memory.NoMemory.{NoMemory}
 use Rattle.xc_data.specs.declared.call.Call.TheVariants.{XCreate, XRename, XWriteOvr, XWriteSeq}
 use Rattle.xc_data.specs.declared.call.Reply.{Reply}
 use Rattle.xc_data.specs.declared.call.Reply.TheVariants as reply
-use Rattle.xc_data.specs.declared.script.Kind.{Kind}
-use Rattle.xc_data.specs.declared.script.Kind.TheVariants.{Lookup, Create, Rename, Len, ReadAt, WriteAt, Append}
+use Rattle.xc_data.specs.declared.script.HostCallKind.{HostCallKind}
+use Rattle.xc_data.specs.declared.script.HostCallKind.TheVariants.{Lookup, Create, Rename, Len, ReadAt, WriteAt, Append}
 use Rattle.xc_host.specs.Model.{HostModel, IsUsed}
 use Rattle.xc_host.specs.Uses.{Uses, MayMove, MovesBy, CallsFor, StopsFor, OverwritesFor, AppendsFor, overwrites}
 use Rattle.xc_host.specs.declared.errors.HostErr.{HostErr}
@@ -41,37 +41,37 @@ appended_by n zero count did = omega (arith, did.most)
 appended_by n (suc done) count did = (omega (arith, did.least (omega arith)), omega (arith, did.most))
 
 -- where memory ran out, the create is one more or none
-starved : (made : List Kind) → (made ≡ []) ⊎ (made ≡ Create ∷ []) → (Lookup ∷ made ≡ Lookup ∷ []) ⊎ (Lookup ∷ made ≡ Lookup ∷ Create ∷ [])
+starved : (made : List HostCallKind) → (made ≡ []) ⊎ (made ≡ Create ∷ []) → (Lookup ∷ made ≡ Lookup ∷ []) ⊎ (Lookup ∷ made ≡ Lookup ∷ Create ∷ [])
 starved made (inl e) = inl (ap (λ m. Lookup ∷ m) e)
 starved made (inr e) = inr (ap (λ m. Lookup ∷ m) e)
 
 module _ {H : Type 0} (model : HostModel H) where
   -- a create after the look for its name
-  pub creates : (name : List ℕ) (a b c : H) (result : Result Reply NoMemory) → IsUsed model (Lookup ∷ []) (record { old = a; new = b })
+  pub uses_create : (name : List ℕ) (a b c : H) (result : Result Reply NoMemory) → IsUsed model (Lookup ∷ []) (record { old = a; new = b })
       → Uses model (record { old = b; new = c }) (CreatesOnce result)
       → Uses model (record { old = a; new = c }) (PassedBy (XCreate name) result)
-  creates name a b c (Ok r) looked then = record {
+  uses_create name a b c (Ok r) looked then = record {
     made = Lookup ∷ Create ∷ [];
     named = then.named.1;
     used = used_then model (Lookup ∷ []) (Create ∷ []) a b c looked (subst (λ made. IsUsed model made (record { old = b; new = c })) then.named.0 then.used);
   }
-  creates name a b c (Err e) looked then = record {
+  uses_create name a b c (Err e) looked then = record {
     made = Lookup ∷ then.made;
     named = starved then.made then.named;
     used = used_then model (Lookup ∷ []) then.made a b c looked then.used;
   }
 
   -- a rename after the look for its names
-  pub renames : (from to : List ℕ) (a b c d : H) (result : Result Reply NoMemory) → IsUsed model (Lookup ∷ []) (record { old = a; new = b })
+  pub uses_rename : (from to : List ℕ) (a b c d : H) (result : Result Reply NoMemory) → IsUsed model (Lookup ∷ []) (record { old = a; new = b })
       → IsUsed model (Lookup ∷ []) (record { old = b; new = c }) → Uses model (record { old = c; new = d }) (RenamesOnce result)
       → Uses model (record { old = a; new = d }) (PassedBy (XRename from to) result)
-  renames from to a b c d (Ok r) first second then = record {
+  uses_rename from to a b c d (Ok r) first second then = record {
     made = Lookup ∷ Lookup ∷ Rename ∷ [];
     named = then.named.1;
     used = used_then model (Lookup ∷ Lookup ∷ []) (Rename ∷ []) a c d (used_then model (Lookup ∷ []) (Lookup ∷ []) a b c first second)
         (subst (λ made. IsUsed model made (record { old = c; new = d })) then.named.0 then.used);
   }
-  renames from to a b c d (Err e) first second then = record {
+  uses_rename from to a b c d (Err e) first second then = record {
     made = Lookup ∷ Lookup ∷ [];
     named = inr refl;
     used = used_then model (Lookup ∷ Lookup ∷ []) [] a c d (used_then model (Lookup ∷ []) (Lookup ∷ []) a b c first second)

@@ -13,7 +13,7 @@ use Rattle.xc_data.specs.Private.{place_of, with_place}
 use Rattle.xc_world.specs.World.{World}
 use Rattle.xc_world.specs.Act.{act}
 use Rattle.xc_world.specs.Act.Files.{seek_at}
-use Rattle.xc_world.specs.Act.Step.{Stepped, counted, step_to}
+use Rattle.xc_world.specs.Act.Step.{Stepped, bytes_counted, step_to}
 use Rattle.xc_world.specs.After.{at_position, with_at}
 use Rattle.xc_world.specs.Checks.{is_file}
 use Rattle.xc_host.specs.Contents.{with_contents}
@@ -25,21 +25,21 @@ use Rattle.xc_file.proofs.Refusals.{by_kind}
 
 -- the plain machine's seek to a position, by what stands at the handle
 abbrev sought : World → Private → ℕ → ℕ → Place → Stepped
-sought w me h to p = if not (is_file p) then step_to w me BadHandle else counted (XSeek h to) (seek_at w me h to p)
+sought w me h to p = if not (is_file p) then step_to w me BadHandle else bytes_counted (XSeek h to) (seek_at w me h to p)
 
 -- past 65536 it leaves all as it is
 acts_far : (w : World) (me : Private) (tx h to : ℕ) (num : Num) (at : ℕ) → place_of me.places h ≡ File num at → 65536 < to
     → act w me tx (XSeek h to) Fine ≡ step_to w me TooBig
 acts_far w me tx h to num at there far =
     ap (sought w me h to) there
-    ∙ ap (λ b. counted (XSeek h to) (if b then step_to w me TooBig else step_to w (with_place me h (File num to)) Done)) (lt-ltb 65536 to far)
+    ∙ ap (λ b. bytes_counted (XSeek h to) (if b then step_to w me TooBig else step_to w (with_place me h (File num to)) Done)) (lt-ltb 65536 to far)
 
 -- else it sets the position
 acts_near : (w : World) (me : Private) (tx h to : ℕ) (num : Num) (at : ℕ) → place_of me.places h ≡ File num at → to ≤ 65536
     → act w me tx (XSeek h to) Fine ≡ step_to w (with_place me h (File num to)) Done
 acts_near w me tx h to num at there near =
     ap (sought w me h to) there
-    ∙ ap (λ b. counted (XSeek h to) (if b then step_to w me TooBig else step_to w (with_place me h (File num to)) Done)) (le-ltb 65536 to near)
+    ∙ ap (λ b. bytes_counted (XSeek h to) (if b then step_to w me TooBig else step_to w (with_place me h (File num to)) Done)) (le-ltb 65536 to near)
 
 -- a seek that goes too far for its host; of one that tells that is past 65536
 pub far_seek : {H : Type 0} (model : HostModel H) (s : CallState H) (h to : ℕ) (num : Num) (at : ℕ) → place_of s.me.places h ≡ File num at

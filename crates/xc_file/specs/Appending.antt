@@ -6,8 +6,8 @@ use Rattle.xc_data.specs.Step.{Step}
 use Rattle.xc_data.specs.declared.object.Num.{Num}
 use Rattle.xc_data.specs.declared.call.Reply.{Reply}
 use Rattle.xc_data.specs.declared.call.Reply.TheVariants.{Done, TooBig, Fault}
-use Rattle.xc_data.specs.declared.script.Kind.{Kind}
-use Rattle.xc_data.specs.declared.script.Kind.TheVariants as kind
+use Rattle.xc_data.specs.declared.script.HostCallKind.{HostCallKind}
+use Rattle.xc_data.specs.declared.script.HostCallKind.TheVariants as kind
 use Rattle.xc_data.specs.declared.undo.Undo.{Undo}
 use Rattle.xc_data.specs.declared.undo.Undo.TheVariants.{Tail}
 use Rattle.xc_host.specs.Cause.{is_fault}
@@ -20,15 +20,15 @@ use Rattle.xc_compensate.specs.Records.{AtHost}
 use Rattle.xc_file.specs.declared.appending.Appended.{Appended}
 
 -- a file has room for more bytes
-abbrev pub HasRoom : Contents → Num → List ℕ → Type 0
-HasRoom c file bytes = length (file_in c file) + length bytes ≤ 65536
+abbrev pub HasFileRoom : Contents → Num → List ℕ → Type 0
+HasFileRoom c file bytes = length (file_in c file) + length bytes ≤ 65536
 
 -- what an append with this reply did: without room nothing, else all the bytes, or with a fault a front
 abbrev pub Appends : Contents → Contents → Num → List ℕ → Reply → Type 0
 Appends was is file bytes TooBig = (is ≡ was) × (65536 < length (file_in was file) + length bytes)
-Appends was is file bytes Done = (is ≡ appended_front was file bytes) × HasRoom was file bytes
+Appends was is file bytes Done = (is ≡ appended_front was file bytes) × HasFileRoom was file bytes
 Appends was is file bytes (Fault n) = (is ≡ appended_front was file (take n bytes))
-    × ((n ≡ 0) ⊎ ((n < length bytes) × HasRoom was file bytes))
+    × ((n ≡ 0) ⊎ ((n < length bytes) × HasFileRoom was file bytes))
 -- it has no other reply
 Appends was is file bytes _ = ⊥
 
@@ -37,7 +37,7 @@ abbrev pub tail : Num → ℕ → List ℕ → ℕ → List Undo
 tail file from bytes n = if n == 0 then [] else Tail file from bytes n ∷ []
 
 -- the calls of an append of n bytes that did so many, by what ended it
-abbrev pub AppendsUntil : ℕ → ℕ → Result (Unit {0}) HostErr → List Kind → Type 0
+abbrev pub AppendsUntil : ℕ → ℕ → Result (Unit {0}) HostErr → List HostCallKind → Type 0
 AppendsUntil n done (Ok x) made = MovesBy kind.Append done 0 made
 AppendsUntil n done (Err host_err.Fault) made = MovesBy kind.Append done 1 made
 AppendsUntil n done (Err host_err.NoMemory) made = (count : ℕ) × (count ≤ n) × (made ≡ replicate count kind.Append)

@@ -20,8 +20,8 @@ pub record IsOpenAt (me : Private) (file : OpenFile) : Type 0 where
   pub place : place_of me.places file.h ≡ File file.num file.at
 
 -- the reply of the first check that refuses a call of n bytes at a handle
-abbrev pub refusal_at : Private → ℕ → ℕ → Option Reply
-refusal_at me h n =
+abbrev pub file_refusal_at : Private → ℕ → ℕ → Option Reply
+file_refusal_at me h n =
     if not (is_file (place_of me.places h)) then Some BadHandle
     else if nat_lt 1024 n then Some TooBig
     else if passes_store me n then Some TooMuch

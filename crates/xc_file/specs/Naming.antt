@@ -9,8 +9,8 @@ use Rattle.xc_data.specs.declared.object.Num.{Num}
 use Rattle.xc_data.specs.declared.call.Call.TheVariants.{XCreate, XRename}
 use Rattle.xc_data.specs.declared.call.Reply.{Reply}
 use Rattle.xc_data.specs.declared.call.Reply.TheVariants.{Made, Done, NoName, Exists, Fault}
-use Rattle.xc_data.specs.declared.script.Kind.{Kind}
-use Rattle.xc_data.specs.declared.script.Kind.TheVariants as kind
+use Rattle.xc_data.specs.declared.script.HostCallKind.{HostCallKind}
+use Rattle.xc_data.specs.declared.script.HostCallKind.TheVariants as kind
 use Rattle.xc_data.specs.declared.private.Place.TheVariants.{File}
 use Rattle.xc_data.specs.declared.private.Private.{Private}
 use Rattle.xc_data.specs.Private.{with_place}
@@ -27,8 +27,8 @@ use Rattle.xc_calls.specs.Calls.{CallState, IsPassedReply, replies_fault}
 use Rattle.xc_calls.specs.Passing.{IsAsBefore, at_host}
 
 -- a name has a file
-abbrev pub IsNamed : Contents → List ℕ → Type 0
-IsNamed c name = is_some (map.get c.names name) ≡ true
+abbrev pub NamesFile : Contents → List ℕ → Type 0
+NamesFile c name = is_some (map.get c.names name) ≡ true
 
 -- a name has none
 abbrev pub IsAbsent : Contents → List ℕ → Type 0
@@ -37,45 +37,45 @@ IsAbsent c name = map.get c.names name ≡ None
 -- what a create of a file of this number did with this reply: the file is made under an absent name, or nothing changed
 abbrev pub Creates : Contents → Contents → List ℕ → Num → Reply → Type 0
 Creates was is name num (Made h) = (is ≡ created was name num) × IsAbsent was name
-Creates was is name num Exists = (is ≡ was) × IsNamed was name
+Creates was is name num Exists = (is ≡ was) × NamesFile was name
 Creates was is name num (Fault n) = (is ≡ was) × (n ≡ 0)
 -- it has no other reply
 Creates was is name num _ = ⊥
 
 -- what a rename with this reply did: the file has the other name, or nothing changed
 abbrev pub Renames : Contents → Contents → List ℕ → List ℕ → Reply → Type 0
-Renames was is from to Done = (is ≡ renamed was from to) × IsNamed was from × IsAbsent was to
+Renames was is from to Done = (is ≡ renamed was from to) × NamesFile was from × IsAbsent was to
 Renames was is from to NoName = (is ≡ was) × IsAbsent was from
-Renames was is from to Exists = (is ≡ was) × IsNamed was from × IsNamed was to
+Renames was is from to Exists = (is ≡ was) × NamesFile was from × NamesFile was to
 Renames was is from to (Fault n) = (is ≡ was) × (n ≡ 0)
 -- it has no other reply
 Renames was is from to _ = ⊥
 
 -- a new file's handle is this one, and no other reply brings bytes
-abbrev pub IsMadeAt : ℕ → Reply → Type 0
-IsMadeAt h (Made k) = k ≡ h
-IsMadeAt h reply = bytes_in reply ≡ 0
+abbrev pub IsFileMadeAt : ℕ → Reply → Type 0
+IsFileMadeAt h (Made k) = k ≡ h
+IsFileMadeAt h reply = bytes_in reply ≡ 0
 
 -- where a file was made, it stands at its handle, and one object more is made
-abbrev pub with_made : Private → ℕ → Num → Reply → Private
-with_made me h num (Made k) = making (with_place me h (File num 0))
+abbrev pub with_file_made : Private → ℕ → Num → Reply → Private
+with_file_made me h num (Made k) = making (with_place me h (File num 0))
 -- with any other reply nothing was made
-with_made me h num _ = me
+with_file_made me h num _ = me
 
 -- the one call that makes a file, after a look for its name; where memory ran out, it may not have come to it
-abbrev pub CreatesOnce : Result Reply NoMemory → List Kind → Type 0
+abbrev pub CreatesOnce : Result Reply NoMemory → List HostCallKind → Type 0
 CreatesOnce (Ok reply) made = (made ≡ kind.Create ∷ []) × CreatesFor reply (kind.Lookup ∷ kind.Create ∷ [])
 CreatesOnce (Err e) made = (made ≡ []) ⊎ (made ≡ kind.Create ∷ [])
 
 -- the one call that gives another name, after two looks; it takes no memory
-abbrev pub RenamesOnce : Result Reply NoMemory → List Kind → Type 0
+abbrev pub RenamesOnce : Result Reply NoMemory → List HostCallKind → Type 0
 RenamesOnce (Ok reply) made = (made ≡ kind.Rename ∷ []) × RenamesFor reply (kind.Lookup ∷ kind.Lookup ∷ kind.Rename ∷ [])
 RenamesOnce (Err e) made = made ≡ []
 
 -- a create whose new handle is this one: what it replies, does and records; where memory ran out, all is as before
 pub record IsCreate {H : Type 0} (model : HostModel H) (name : List ℕ) (h : ℕ) (step : Step (CallState H))
     (result : Result Reply NoMemory) : Type 0 where
-  pub made : IfOk result (IsMadeAt h)
+  pub made : IfOk result (IsFileMadeAt h)
   pub reply : IfOk result (λ reply. may_reply (XCreate name) reply ≡ true)
   pub now : IfOk result (λ reply. is_late reply ≡ false)
   pub told : IsTrue model.tells → IfOk result (Creates (model.contents step.old.host) (model.contents step.new.host) name

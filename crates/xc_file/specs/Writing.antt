@@ -7,7 +7,7 @@ use Rattle.xc_data.specs.declared.call.Reply.{Reply}
 use Rattle.xc_data.specs.declared.call.Reply.TheVariants.{Done, PastEnd, Fault}
 use Rattle.xc_data.specs.declared.private.Place.TheVariants.{File}
 use Rattle.xc_data.specs.declared.private.Private.{Private}
-use Rattle.xc_data.specs.declared.script.Kind.{Kind}
+use Rattle.xc_data.specs.declared.script.HostCallKind.{HostCallKind}
 use Rattle.xc_data.specs.declared.undo.Undo.{Undo}
 use Rattle.xc_data.specs.Private.{with_place}
 use Rattle.xc_data.specs.Step.{Step}
@@ -18,15 +18,15 @@ use Rattle.xc_host.specs.declared.errors.HostErr.{HostErr}
 use Rattle.xc_compensate.specs.Records.{Records}
 
 -- the bytes fit into a file from `at` on
-abbrev pub IsInside : Contents → Num → ℕ → List ℕ → Type 0
-IsInside c file at bytes = at + length bytes ≤ length (file_in c file)
+abbrev pub FitsInFile : Contents → Num → ℕ → List ℕ → Type 0
+FitsInFile c file at bytes = at + length bytes ≤ length (file_in c file)
 
 -- what an overwrite with this reply did: past the end nothing, else all the bytes, or with a fault a front
 abbrev pub Overwrote : Step Contents → Num → ℕ → List ℕ → Reply → Type 0
 Overwrote c file at bytes PastEnd = (c.new ≡ c.old) × (length (file_in c.old file) < at + length bytes)
-Overwrote c file at bytes Done = (c.new ≡ wrote_front c.old file at bytes) × IsInside c.old file at bytes
+Overwrote c file at bytes Done = (c.new ≡ wrote_front c.old file at bytes) × FitsInFile c.old file at bytes
 Overwrote c file at bytes (Fault n) = (c.new ≡ wrote_front c.old file at (take n bytes))
-    × ((n ≡ 0) ⊎ ((n < length bytes) × IsInside c.old file at bytes))
+    × ((n ≡ 0) ⊎ ((n < length bytes) × FitsInFile c.old file at bytes))
 -- it has no other reply
 Overwrote c file at bytes _ = ⊥
 
@@ -41,10 +41,10 @@ pub record AddsFor (call : Call) (reply : Reply) (old new : Records) : Type 0 wh
   pub undo : new ≡ record old { pending = old.pending ++ made }
 
 -- the calls that look for n bytes which are there: at the length, and then at the bytes
-abbrev pub LooksThere : ℕ → List Kind → Type 0
+abbrev pub LooksThere : ℕ → List HostCallKind → Type 0
 LooksThere n made = (reads : ℕ) × MayMove n reads × (made ≡ overwrites reads 0)
 
 -- those that look for n bytes, and stop where they aren't there or one fails
-abbrev pub LooksFor : {T : Type 0} → ℕ → Result (Option T) HostErr → List Kind → Type 0
+abbrev pub LooksFor : {T : Type 0} → ℕ → Result (Option T) HostErr → List HostCallKind → Type 0
 LooksFor n (Ok (Some before)) made = LooksThere n made
 LooksFor n _ made = (reads : ℕ) × (reads ≤ n) × (made ≡ overwrites reads 0)

@@ -4,17 +4,17 @@ ghost use Rattle.xc_data.specs.Calls.{is_late};
 ghost use Rattle.xc_data.specs.Counts.{CountsFault};
 ghost use Rattle.xc_data.specs.Private.{place_of};
 ghost use Rattle.xc_data.specs.declared.call.Call.TheVariants.{XWriteSeq};
-ghost use Rattle.xc_data.specs.declared.script.Kind.TheVariants.{Len};
+ghost use Rattle.xc_data.specs.declared.script.HostCallKind.TheVariants.{Len};
 ghost use Rattle.xc_data.specs.declared.private.Place.TheVariants.{File};
 ghost use Rattle.xc_world.specs.Trail.{done_of};
 ghost use Rattle.xc_host.specs.Contents.{file_in};
 ghost use Rattle.xc_host.specs.Model.{IsUsed};
 ghost use Rattle.xc_host.specs.Uses.{Uses};
-ghost use Rattle.xc_file.specs.Appending.{Appends, HasRoom, IsAppended, tail};
+ghost use Rattle.xc_file.specs.Appending.{Appends, HasFileRoom, IsAppended, tail};
 ghost use Rattle.xc_calls.specs.Calls.{IsHostCall, IsPassedReply, PassedBy, replies_fault};
 ghost use Rattle.xc_world.specs.After.{IsAppendedAt, bytes_in};
 ghost use Rattle.xc_file.specs.Checks.{IsOpenAt, IsOpenIn};
-ghost use Rattle.xc_file.specs.Passing.{IsThere, LeavesAppend, Looks};
+ghost use Rattle.xc_file.specs.Passing.{IsFileThere, LeavesAppend, LooksAtHost};
 ghost use Rattle.xc_calls.specs.Passing.{Passes};
 ghost use Rattle.xc_file.specs.Writing.{moved_on};
 
@@ -33,14 +33,14 @@ struct Appended {
 
 // The length of a file that has room for n bytes more.
 fn end_of<H: Host>(host: &mut H, file: Num, n: u32) -> Result<Option<u32>, Fault>
-    requires there { IsThere H.model host.old file }
+    requires there { IsFileThere H.model host.old file }
     ensures room { IfOk result (λ found. IfSome found (λ from. from + n < 2 ^ 32)) }
     ensures fits { IsTrue H.model.tells → IfOk result (λ found. IfSome found (λ from. from + n ≤ 65536)) }
     ensures value { IsTrue H.model.tells → IfOk result (λ found. MatchOption found
         (65536 < length (file_in (H.model.contents host.old) file) + n)
         (λ from. from ≡ length (file_in (H.model.contents host.old) file))) }
     ensures used { IsUsed H.model (Len ∷ []) (record { old = host.old; new = host.new }) }
-    ensures looks { Looks H.model (record { old = host.old; new = host.new }) (is_err result) }
+    ensures looks { LooksAtHost H.model (record { old = host.old; new = host.new }) (is_err result) }
 {
     let len = host.len(file)?;
     if len as u64 + n as u64 > host.most_file_bytes() as u64 {
@@ -52,8 +52,8 @@ fn end_of<H: Host>(host: &mut H, file: Num, n: u32) -> Result<Option<u32>, Fault
 // Appends until all is appended or an append fails.
 fn append_whole<H: Host>(host: &mut H, file: Num, bytes: &[u8]) -> Appended
     requires few { length bytes.now < 2 ^ 32 }
-    requires there { IsThere H.model host.old file }
-    requires room { IsTrue H.model.tells → HasRoom (H.model.contents host.old) file bytes.now }
+    requires there { IsFileThere H.model host.old file }
+    requires room { IsTrue H.model.tells → HasFileRoom (H.model.contents host.old) file bytes.now }
     ensures { IsAppended H.model file bytes.now (record { old = host.old; new = host.new }) result }
 {
     let mut done: u32 = 0;
@@ -101,7 +101,7 @@ fn append_recorded<H: Host>(
     requires some { 0 < length bytes.now }
     requires room { from + length bytes.now < 2 ^ 32 }
     requires fits { IsTrue H.model.tells → from + length bytes.now ≤ 65536 }
-    requires there { IsThere H.model host.old file }
+    requires there { IsFileThere H.model host.old file }
     requires end { IsTrue H.model.tells → from ≡ length (file_in (H.model.contents host.old) file) }
     requires none { undo.old.ended ≡ [] }
     ensures appended { IsAppended H.model file bytes.now (record { old = host.old; new = host.new }) result }
@@ -132,7 +132,7 @@ fn append<H: Host>(
     requires some { 0 < length bytes.now }
     requires most { length bytes.now ≤ 1024 }
     requires file { IsOpenAt me.old file }
-    requires there { IsThere H.model host.old file.num }
+    requires there { IsFileThere H.model host.old file.num }
     requires none { undo.old.ended ≡ [] }
     ensures told { IsTrue H.model.tells
         → IfOk result (Appends (H.model.contents host.old) (H.model.contents host.new) file.num bytes.now) }

@@ -3,7 +3,7 @@ ghost use Rattle.std.specs.declared.option.Option.TheVariants.{None, Some};
 ghost use Rattle.xc_data.specs.Private.{place_of};
 ghost use Rattle.xc_world.specs.Checks.{is_file};
 ghost use Rattle.xc_data.specs.Calls.{is_late};
-ghost use Rattle.xc_file.specs.Checks.{IsOpenAt, refusal_at};
+ghost use Rattle.xc_file.specs.Checks.{IsOpenAt, file_refusal_at};
 
 use xc_data::{MOST_CALL_BYTES, MOST_STORED, Num, Place, Private, Reply};
 
@@ -32,7 +32,7 @@ pub(crate) fn open_file(me: &Private, h: u16, n: u64) -> Result<OpenFile, Reply>
     ensures open { IfOk result (λ file. (file.h ≡ h) × IsOpenAt me.now file) }
     ensures few { OnOk result ((n ≤ 1024) × (me.now.stored + n ≤ 16384)) }
     ensures now { IfErr result (λ reply. is_late reply ≡ false) }
-    ensures checks { MatchResult result (λ file. refusal_at me.now h n ≡ None) (λ reply. refusal_at me.now h n ≡ Some reply) }
+    ensures checks { MatchResult result (λ file. file_refusal_at me.now h n ≡ None) (λ reply. file_refusal_at me.now h n ≡ Some reply) }
 {
     let Some(file) = file_at(me, h) else {
         return Err(Reply::BadHandle);

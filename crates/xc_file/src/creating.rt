@@ -5,7 +5,7 @@ ghost use Rattle.xc_data.specs.declared.call.Call.TheVariants.{XCreate};
 ghost use Rattle.xc_host.specs.Uses.{Uses};
 ghost use Rattle.xc_calls.specs.Calls.{IsHostCall, PassedBy};
 ghost use Rattle.xc_file.specs.Checks.{IsNewIn};
-ghost use Rattle.xc_file.specs.Naming.{CreatesOnce, IsAbsent, IsCreate, with_made};
+ghost use Rattle.xc_file.specs.Naming.{CreatesOnce, IsAbsent, IsCreate, with_file_made};
 
 use xc_compensate::Stack;
 use xc_data::{MOST_MADE, NoMemory, Num, Place, Private, Reply, SharedName, Undo};
@@ -87,7 +87,7 @@ fn create_at<H: Host>(
       old = record { host = host.old; number = tx; me = me.old; undo = undo.old };
       new = record { host = host.new; number = tx; me = me.new; undo = undo.new };
     }) result }
-    ensures me { IfOk result (λ reply. me.new ≡ with_made me.old h (next_num me.old tx) reply) }
+    ensures me { IfOk result (λ reply. me.new ≡ with_file_made me.old h (next_num me.old tx) reply) }
     ensures err { OnErr result (me.new ≡ me.old) }
     ensures uses { Uses H.model (record { old = host.old; new = host.new }) (PassedBy (XCreate name.now) result) }
 {

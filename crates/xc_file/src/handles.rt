@@ -4,7 +4,7 @@ ghost use Rattle.xc_data.specs.Private.{place_of};
 ghost use Rattle.xc_data.specs.declared.call.Call.TheVariants.{XSeek, XLen, XClose};
 ghost use Rattle.xc_compensate.specs.Records.{Records};
 ghost use Rattle.xc_calls.specs.Calls.{IsHostCall, StepsAlone};
-ghost use Rattle.xc_file.specs.Passing.{IsThere};
+ghost use Rattle.xc_file.specs.Passing.{IsFileThere};
 ghost use Rattle.xc_calls.specs.Passing.{Passes};
 ghost use Rattle.xc_file.specs.Checks.{IsOpenAt, IsOpenIn};
 
@@ -48,7 +48,7 @@ pub fn x_close(me: &mut Private, h: u16) -> Reply
 // Asks the host for an open file's length.
 fn len_of<H: Host>(host: &mut H, me: &Private, file: OpenFile) -> Reply
     requires file { IsOpenAt me.now file }
-    requires there { IsThere H.model host.old file.num }
+    requires there { IsFileThere H.model host.old file.num }
     ensures passes { (number : ℕ) (undo : Records) → Passes H.model (XLen file.h) (record {
       old = record { host = host.old; number = number; me = me.now; undo = undo };
       new = record { host = host.new; number = number; me = me.now; undo = undo };

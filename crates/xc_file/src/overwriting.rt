@@ -6,7 +6,7 @@ ghost use Rattle.xc_data.specs.Counts.{CountsFault};
 ghost use Rattle.xc_data.specs.Private.{place_of};
 ghost use Rattle.xc_data.specs.declared.call.Call.TheVariants.{XWriteOvr};
 ghost use Rattle.xc_data.specs.declared.private.Place.TheVariants.{File};
-ghost use Rattle.xc_data.specs.declared.script.Kind.TheVariants.{WriteAt};
+ghost use Rattle.xc_data.specs.declared.script.HostCallKind.TheVariants.{WriteAt};
 ghost use Rattle.xc_data.specs.declared.undo.Undo.TheVariants.{Bytes};
 ghost use Rattle.xc_world.specs.Trail.{done_of};
 ghost use Rattle.xc_host.specs.Cause.{is_fault};
@@ -14,9 +14,9 @@ ghost use Rattle.xc_host.specs.Contents.{file_in, wrote_front};
 ghost use Rattle.xc_host.specs.Uses.{Uses, MovesBy};
 ghost use Rattle.xc_calls.specs.Calls.{IsHostCall, IsPassedReply, PassedBy, replies_fault};
 ghost use Rattle.xc_file.specs.Checks.{IsOpenAt, IsOpenIn};
-ghost use Rattle.xc_file.specs.Passing.{IsThere, LeavesOverwrite, Looks};
+ghost use Rattle.xc_file.specs.Passing.{IsFileThere, LeavesOverwrite, LooksAtHost};
 ghost use Rattle.xc_calls.specs.Passing.{Passes};
-ghost use Rattle.xc_file.specs.Writing.{IsInside, LooksFor, Overwrote};
+ghost use Rattle.xc_file.specs.Writing.{FitsInFile, LooksFor, Overwrote};
 
 use crate::checks::{OpenFile, open_file};
 use crate::moving::move_on;
@@ -35,14 +35,14 @@ fn bytes_under<H: Host>(
     at: u32,
     n: u32,
 ) -> Result<Option<Vec<u8>>, HostErr>
-    requires there { IsThere H.model host.old file }
+    requires there { IsFileThere H.model host.old file }
     ensures size { IfOk result (λ found. IfSome found (λ before. (length before.items ≡ n) × (at + n < 2 ^ 32))) }
     ensures value { IsTrue H.model.tells → IfOk result (λ found. MatchOption found
         (length (file_in (H.model.contents host.old) file) < at + n)
         (λ before. (before.items ≡ take n (drop at (file_in (H.model.contents host.old) file)))
         × (at + n ≤ length (file_in (H.model.contents host.old) file)))) }
     ensures uses { Uses H.model (record { old = host.old; new = host.new }) (LooksFor n result) }
-    ensures looks { Looks H.model (record { old = host.old; new = host.new }) (is_fault result) }
+    ensures looks { LooksAtHost H.model (record { old = host.old; new = host.new }) (is_fault result) }
 {
     let Ok(len) = host.len(file) else {
         return Err(HostErr::Fault);
@@ -69,8 +69,8 @@ fn write_recorded<H: Host>(
     requires some { 0 < length bytes.now }
     requires room { at + length bytes.now < 2 ^ 32 }
     requires size { length before.items ≡ length bytes.now }
-    requires there { IsThere H.model host.old file }
-    requires inside { IsTrue H.model.tells → IsInside (H.model.contents host.old) file at bytes.now }
+    requires there { IsFileThere H.model host.old file }
+    requires inside { IsTrue H.model.tells → FitsInFile (H.model.contents host.old) file at bytes.now }
     requires none { undo.old.ended ≡ [] }
     ensures whole { IfOk result (λ written. written.fault ≡ false → written.done ≡ length bytes.now) }
     ensures short { IfOk result (λ written. written.fault ≡ true → written.done < length bytes.now) }
@@ -115,7 +115,7 @@ fn overwrite<H: Host>(
 ) -> Result<Reply, NoMemory>
     requires some { 0 < length bytes.now }
     requires most { length bytes.now ≤ 1024 }
-    requires there { IsThere H.model host.old file.num }
+    requires there { IsFileThere H.model host.old file.num }
     requires none { undo.old.ended ≡ [] }
     ensures room { IfOk result (λ reply. file.at + done_of (length bytes.now) reply < 2 ^ 32) }
     ensures told { IsTrue H.model.tells

@@ -3,7 +3,7 @@ ghost use Rattle.xc_data.specs.Calls.{is_late};
 ghost use Rattle.xc_data.specs.Private.{place_of};
 ghost use Rattle.xc_data.specs.declared.call.Call.TheVariants.{XRead};
 ghost use Rattle.xc_data.specs.declared.call.Reply.TheVariants.{End, Fault};
-ghost use Rattle.xc_data.specs.declared.script.Kind.TheVariants.{ReadAt};
+ghost use Rattle.xc_data.specs.declared.script.HostCallKind.TheVariants.{ReadAt};
 ghost use Rattle.xc_data.specs.declared.private.Place.TheVariants.{File};
 ghost use Rattle.xc_host.specs.Cause.{is_fault};
 ghost use Rattle.xc_host.specs.Contents.{file_in};
@@ -12,7 +12,7 @@ ghost use Rattle.xc_host.specs.Uses.{Uses, MovesBy};
 ghost use Rattle.xc_compensate.specs.Records.{Records};
 ghost use Rattle.xc_calls.specs.Calls.{IsHostCall, replies_fault};
 ghost use Rattle.xc_file.specs.Checks.{IsOpenAt, IsOpenIn};
-ghost use Rattle.xc_file.specs.Passing.{IsThere, Looks};
+ghost use Rattle.xc_file.specs.Passing.{IsFileThere, LooksAtHost};
 ghost use Rattle.xc_calls.specs.Passing.{Passes};
 ghost use Rattle.xc_file.specs.Reading.{AppendsFront, ReadsBy};
 
@@ -29,13 +29,13 @@ fn read_more<H: Host>(
     n: u32,
     bytes: &mut Vec<u8>,
 ) -> Result<u32, HostErr>
-    requires there { IsThere H.model host.old file }
+    requires there { IsFileThere H.model host.old file }
     ensures bound { IfOk result (λ more. (more ≤ n) × (length bytes.new.items ≡ length bytes.old.items + more)) }
     ensures value { IsTrue H.model.tells
         → IfOk result (λ more. AppendsFront (file_in (H.model.contents host.old) file) at n more
         (record { old = bytes.old.items; new = bytes.new.items })) }
     ensures used { IsUsed H.model (ReadAt ∷ []) (record { old = host.old; new = host.new }) }
-    ensures looks { Looks H.model (record { old = host.old; new = host.new }) (is_fault result) }
+    ensures looks { LooksAtHost H.model (record { old = host.old; new = host.new }) (is_fault result) }
 {
     let piece = host.read_at(file, at, n)?;
     bytes.extend_from_slice(piece.as_slice())?;
@@ -52,13 +52,13 @@ pub(crate) fn read_whole<H: Host>(
     n: u32,
 ) -> Result<Vec<u8>, HostErr>
     requires room { at + n < 2 ^ 32 }
-    requires there { IsThere H.model host.old file }
+    requires there { IsFileThere H.model host.old file }
     ensures bound { IfOk result (λ bytes. length bytes.items ≤ n) }
     ensures value { IsTrue H.model.tells
         → IfOk result (λ bytes. bytes.items ≡ take n (drop at (file_in (H.model.contents host.old) file))) }
     ensures uses { IfOk result (λ bytes. Uses H.model (record { old = host.old; new = host.new }) (ReadsBy n (length bytes.items))) }
     ensures uses_err { OnErr result (Uses H.model (record { old = host.old; new = host.new }) (MovesBy ReadAt n 0)) }
-    ensures looks { Looks H.model (record { old = host.old; new = host.new }) (is_fault result) }
+    ensures looks { LooksAtHost H.model (record { old = host.old; new = host.new }) (is_fault result) }
 {
     let mut bytes = Vec::new(alloc);
     let mut len: u32 = 0;
@@ -74,10 +74,10 @@ pub(crate) fn read_whole<H: Host>(
 
 // Asks for one byte, where a read would go past the last place that a number can name. A file of a host that tells has none there.
 fn read_past<H: Host>(host: &mut H, file: Num, at: u32) -> Result<Reply, NoMemory>
-    requires there { IsThere H.model host.old file }
+    requires there { IsFileThere H.model host.old file }
     ensures end { IfOk result (λ reply. (reply ≡ End) ⊎ (reply ≡ Fault 0)) }
     ensures used { IsUsed H.model (ReadAt ∷ []) (record { old = host.old; new = host.new }) }
-    ensures looks { Looks H.model (record { old = host.old; new = host.new }) (replies_fault result) }
+    ensures looks { LooksAtHost H.model (record { old = host.old; new = host.new }) (replies_fault result) }
 {
     match host.read_at(file, at, 1) {
         Ok(_) => Ok(Reply::End),

@@ -4,7 +4,7 @@ ghost use Rattle.xc_data.specs.declared.call.Call.TheVariants.{XRename};
 ghost use Rattle.xc_data.specs.declared.private.Private.{Private};
 ghost use Rattle.xc_host.specs.Uses.{Uses};
 ghost use Rattle.xc_calls.specs.Calls.{IsHostCall, PassedBy};
-ghost use Rattle.xc_file.specs.Naming.{IsAbsent, IsNamed, IsRename, RenamesOnce};
+ghost use Rattle.xc_file.specs.Naming.{IsAbsent, NamesFile, IsRename, RenamesOnce};
 
 use xc_compensate::Stack;
 use xc_data::{NoMemory, Reply, SharedName, Undo};
@@ -17,7 +17,7 @@ fn rename_recorded<H: Host>(
     from: &SharedName,
     to: &SharedName,
 ) -> Result<Reply, NoMemory>
-    requires there { IsTrue H.model.tells → IsNamed (H.model.contents host.old) from.now }
+    requires there { IsTrue H.model.tells → NamesFile (H.model.contents host.old) from.now }
     requires absent { IsTrue H.model.tells → IsAbsent (H.model.contents host.old) to.now }
     requires none { undo.old.ended ≡ [] }
     ensures uses { Uses H.model (record { old = host.old; new = host.new }) (RenamesOnce result) }

@@ -1,7 +1,7 @@
 ghost use Rattle.std.specs.Prelude.{◌≡◌, ◌<◌, ◌≤◌, ◌+◌, ◌^◌, true, false, length, take, cond, IsTrue};
 ghost use Rattle.xc_data.specs.Counts.{CountsFault};
-ghost use Rattle.xc_data.specs.declared.script.Kind.TheVariants.{WriteAt};
-ghost use Rattle.xc_file.specs.Passing.{IsThere};
+ghost use Rattle.xc_data.specs.declared.script.HostCallKind.TheVariants.{WriteAt};
+ghost use Rattle.xc_file.specs.Passing.{IsFileThere};
 ghost use Rattle.xc_host.specs.Contents.{file_in, wrote_front};
 ghost use Rattle.xc_host.specs.Uses.{Uses, MovesBy};
 
@@ -18,7 +18,7 @@ pub(crate) struct Written {
 /// Writes until all is written or a write fails.
 pub(crate) fn write_whole<H: Host>(host: &mut H, file: Num, at: u32, bytes: &[u8]) -> Written
     requires room { at + length bytes.now < 2 ^ 32 }
-    requires there { IsThere H.model host.old file }
+    requires there { IsFileThere H.model host.old file }
     requires inside { IsTrue H.model.tells → at + length bytes.now ≤ length (file_in (H.model.contents host.old) file) }
     ensures whole { result.fault ≡ false → result.done ≡ length bytes.now }
     ensures short { result.fault ≡ true → result.done < length bytes.now }

@@ -20,7 +20,7 @@ use Rattle.xc_flight.specs.Flight.{asked, effects}
 use Rattle.xc_flight.specs.State.{FlightState, active_at, IsActive, InFlight, AreSound, IsSoundFor, IsIdleSound, Flies, turned, entered}
 use Rattle.xc_flight.specs.Turns.{with_undone, after_abort}
 use Rattle.xc_flight.proofs.Frames.{ran_whole, all_back}
-use Rattle.xc_flight.proofs.Moving.{get_set_same, get_set_other, is_inside}
+use Rattle.xc_flight.proofs.Moving.{active_set_same, active_set_other, is_inside}
 use Rattle.xc_flight.proofs.Taking.{Coined, trail_coined}
 use Rattle.xc_flight.proofs.Undoing.{undoes}
 
@@ -67,11 +67,11 @@ module _ (s : FlightState) (job : ℕ) (t : Tx) (f : Flies s job t Undoing) wher
   pub abort_sound : (now : World) → AreSound s → AreMadeIn s.state (map (λ r. r.0) t.ended) → AreSound (entered s job (after_abort s.state t) now)
   abort_sound now sound made j u e =
       let s' = entered s job (after_abort s.state t) now in
-      let none : active_at s' job ≡ None = get_set_same s.active job None (is_inside s.active job t f.active) in
+      let none : active_at s' job ≡ None = active_set_same s.active job None (is_inside s.active job t f.active) in
       dite (ℕ_discrete j job)
       (λ (q : j ≡ job). let mine : IsActive s' job u = subst (λ k. IsActive s' k u) q e in absurd (cc (none, mine)))
       (λ (ne : j ≢ job).
-      let before : IsActive s j u = sym (get_set_other s.active job j None ne) ∙ e in
+      let before : IsActive s j u = sym (active_set_other s.active job j None ne) ∙ e in
       let two : t.number ≢ u.number = λ same. ne (f.all.single j job u t before f.active (sym same)) in
       remains-sound s.state u.began u.number t.ended made (ended_spare u.began u.number two) (sound j u before))
 

@@ -20,14 +20,14 @@ use Rattle.xc_world.specs.Effects.{whole}
 use Rattle.xc_world.specs.Sound.{IsSound}
 use Rattle.xc_world.specs.Laws.{AgreeAt}
 use Rattle.xc_world.specs.Own.{IsNumbered, AgreeOn, KeepsBut}
-use Rattle.xc_world.specs.Inner.{IsBlock}
+use Rattle.xc_world.specs.Inner.{IsInnerBlock}
 use Rattle.xc_world.proofs.Laws.{agree_back, agree_on, remains_keep, remains-words, given_alike, given_away, given_words, given_blocks, body_last, open_block}
 use Rattle.xc_flight.specs.Active.{Tx, Saved, Phase, Running, Undoing, Own, Covers}
 use Rattle.xc_flight.specs.Flight.{stood, noted, ran, asked, effects, left, returned, is_source, IsCopy, IsSaved, IsSourced, IsPhase, Inside, Flight}
 use Rattle.xc_flight.specs.State.{FlightState, IsActive, InFlight, turned}
 use Rattle.xc_flight.specs.Turns.{went_back, IsWayBack}
 use Rattle.xc_flight.proofs.Frames.{whole_of, all_front, all_back}
-use Rattle.xc_flight.proofs.Rows.{goes_on}
+use Rattle.xc_flight.proofs.Rows.{flight_goes_on}
 use Rattle.xc_flight.proofs.Bodies.{fits_more, asked_more, replies_count, asked_count}
 use Rattle.xc_flight.proofs.Taking.{Coined, trail_coined, given_reworded, taken_own, taken_elsewhere}
 use Rattle.xc_flight.proofs.Undoing.{a_source, no_source, all_away}
@@ -54,12 +54,12 @@ abbrev back_call : ℕ → CallWithAnswer
 back_call faults = record { call = call.Back; answer = answer.Undone faults }
 
 -- the copy of an open block
-record IsOpen (w : World) (t : Tx) (kept : Saved) : Type 0 where
+record IsOpenBlock (w : World) (t : Tx) (kept : Saved) : Type 0 where
   was : BodyResult
   is : (stood w t).saved ≡ Some was
   copy : IsCopy w t.number t.held was kept
 
-open_at : (w : World) (t : Tx) (kept : Saved) (b : Option BodyResult) → (stood w t).saved ≡ b → IsSaved w t.number t.held b (Some kept) → IsOpen w t kept
+open_at : (w : World) (t : Tx) (kept : Saved) (b : Option BodyResult) → (stood w t).saved ≡ b → IsSaved w t.number t.held b (Some kept) → IsOpenBlock w t kept
 open_at w t kept None e so = absurd so
 open_at w t kept (Some was) e so = record { was = was; is = e; copy = so }
 
@@ -69,7 +69,7 @@ module _ (s : FlightState) (job : ℕ) (t : Tx) (kept : Saved) (h : InFlight s) 
   inside_so : Inside s.state t
   inside_so = (h.flights job t active).inside
 
-  opened : IsOpen s.state t kept
+  opened : IsOpenBlock s.state t kept
   opened = open_at s.state t kept (stood s.state t).saved refl (subst (IsSaved s.state t.number t.held (stood s.state t).saved) is_open inside_so.saved)
 
   noted_all : ran s.state t ≡ noted s.state t
@@ -80,7 +80,7 @@ module _ (s : FlightState) (job : ℕ) (t : Tx) (kept : Saved) (h : InFlight s) 
       subst (λ l. IsTrue (body_fits s.state t.began t.number l)) (append-nil (asked_of t.calls t.replies))
       (subst (λ l. IsTrue (body_fits s.state t.began t.number (asked_of t.calls t.replies ++ l))) noted_so inside_so.fits)
 
-  block_so : IsBlock s.state opened.was (noted s.state t)
+  block_so : IsInnerBlock s.state opened.was (noted s.state t)
   block_so = open_block s.state t.began t.number (asked_of t.calls t.replies) sound fits_so opened.was opened.is
 
   -- its records are those at the save, and then the block's
@@ -112,7 +112,7 @@ module _ (s : FlightState) (job : ℕ) (t : Tx) (kept : Saved) (back : List Kept
   inside : Inside s.state t
   inside = flight.inside
 
-  abbrev here : IsOpen s.state t kept
+  abbrev here : IsOpenBlock s.state t kept
   here = opened s job t kept h active sound k.block k.noted
 
   all_noted : ran s.state t ≡ noted s.state t
@@ -121,7 +121,7 @@ module _ (s : FlightState) (job : ℕ) (t : Tx) (kept : Saved) (back : List Kept
   fits_before : IsTrue (body_fits s.state t.began t.number (asked_of t.calls t.replies))
   fits_before = fits_so s job t kept h active sound k.block k.noted
 
-  block : IsBlock s.state here.was (noted s.state t)
+  block : IsInnerBlock s.state here.was (noted s.state t)
   block = block_so s job t kept h active sound k.block k.noted
 
   -- what it took since the save is given back
@@ -270,7 +270,7 @@ module _ (s : FlightState) (job : ℕ) (t : Tx) (kept : Saved) (back : List Kept
   -- the end of a way back keeps all
   pub backs : InFlight (turned s job (Some (went_back t kept faults)) (given_back s.now back))
   backs =
-      goes_on s job t then (given_back s.now back) h active refl refl back_keeps (record {
+      flight_goes_on s job t then (given_back s.now back) h active refl refl back_keeps (record {
         inside = inside_then;
         owns = subst (λ (r : BodyResult). AgreeOn (Own t) (given_back s.now back) (record r.world { words = s.state.words })) (sym ran_then) owns_save;
         sources = tt;

@@ -16,14 +16,14 @@ use Rattle.xc_data.specs.declared.claim.Mode.TheVariants.{Shared, Exclusive}
 use Rattle.xc_data.specs.Claims.{is_object, is_exclusive, exclusive, compatible, objects, owned, holding, holding_one, held_of}
 use Rattle.xc_world.specs.Laws.{AgreeAt}
 use Rattle.xc_world.specs.Own.{IsNumbered, AgreeOn}
-use Rattle.xc_world.proofs.Laws.{found, agree_on, keeps_itself, objects_append, owned_append, has, held_seen, held_owned}
+use Rattle.xc_world.proofs.Laws.{found, agree_on, keeps_itself, objects_append, owned_append, contains_object, held_seen, held_owned}
 use Rattle.xc_data.proofs.Laws.{same_object}
 use Rattle.xc_world.specs.Run.{BodyResult}
 use Rattle.xc_world.specs.World.{World}
 use Rattle.xc_flight.specs.Active.{Tx, Running, Has, Own, Covers, HoldTheSame, IsBelow, Saved}
 use Rattle.xc_flight.specs.Flight.{ran, left, returned, IsPhase, stood, IsCopy, IsSaved, IsSourced}
 use Rattle.xc_flight.specs.State.{FlightState, active_at, IsActive, HasSome, OwnSome, HasAt, OwnAt, InFlight, turned}
-use Rattle.xc_flight.specs.Turns.{claiming, GoTogether, IsGranted, AreCompatible}
+use Rattle.xc_flight.specs.Turns.{claiming, GoTogether, MayBeGranted, AreIndependent}
 use Rattle.xc_flight.proofs.Basics.{own_decide, owns_has}
 use Rattle.xc_flight.proofs.Frames.{left_keeps}
 use Rattle.xc_flight.proofs.Moving.{has_it, own_it, it_owns}
@@ -104,7 +104,7 @@ merged_held old claims =
         (covers_through (held_of (old ++ claims)) (old ++ claims) some (held_covers (old ++ claims)).left c)
 
 -- ---- claims that go together
-in_list : (os : List Object) (o : Object) → has os o ≡ true → Contains os o
+in_list : (os : List Object) (o : Object) → contains_object os o ≡ true → Contains os o
 in_list os o e = Contains-from_any same_object o os e
 
 -- of each claim on an object
@@ -113,7 +113,7 @@ of_object P [] o Q all at f = (let lt = at.1 in absurd (omega (arith, lt)))
 of_object P (c ∷ cs) o Q all at f = first_or_later (is_object o c.object) refl (found (objects (c ∷ cs)) o at)
     (λ later. of_object P cs o Q (All-tail P c cs all) (in_list (objects cs) o later) f)
   where
-    first_or_later : (b : Bool) → is_object o c.object ≡ b → (b || has (objects cs) o) ≡ true → (has (objects cs) o ≡ true → Q) → Q
+    first_or_later : (b : Bool) → is_object o c.object ≡ b → (b || contains_object (objects cs) o) ≡ true → (contains_object (objects cs) o ≡ true → Q) → Q
     first_or_later true e is later = f c (All-head P c cs all) (sym (same_object o c.object e))
     first_or_later false e is later = later is
 
@@ -123,11 +123,13 @@ of_owned P [] o Q all at f = (let lt = at.1 in absurd (omega (arith, lt)))
 of_owned P (c ∷ cs) o Q all at f = by_mode (exclusive c) refl (found (owned (c ∷ cs)) o at)
     (λ later. of_owned P cs o Q (All-tail P c cs all) (in_list (owned cs) o later) f)
   where
-    first_or_later : (b : Bool) → exclusive c ≡ true → is_object o c.object ≡ b → (b || has (owned cs) o) ≡ true → (has (owned cs) o ≡ true → Q) → Q
+    first_or_later : (b : Bool) → exclusive c ≡ true → is_object o c.object ≡ b → (b || contains_object (owned cs) o) ≡ true
+        → (contains_object (owned cs) o ≡ true → Q) → Q
     first_or_later true x e is later = f c (All-head P c cs all) (sym (same_object o c.object e)) x
     first_or_later false x e is later = later is
 
-    by_mode : (b : Bool) → exclusive c ≡ b → has (cons_option (if b then Some c.object else None) (owned cs)) o ≡ true → (has (owned cs) o ≡ true → Q) → Q
+    by_mode : (b : Bool) → exclusive c ≡ b → contains_object (cons_option (if b then Some c.object else None) (owned cs)) o ≡ true
+        → (contains_object (owned cs) o ≡ true → Q) → Q
     by_mode true x is later = first_or_later (is_object o c.object) x refl is later
     by_mode false x is later = later is
 
@@ -147,7 +149,8 @@ goes_with c d lacks same = by_test (compatible c.mode d.mode) refl
     by_test false e = absurd (lacks (same, e))
 
 -- ---- a running transaction takes claims that are granted
-module _ (s : FlightState) (job : ℕ) (t : Tx) (claims held : List Claim) (h : InFlight s) (active : IsActive s job t) (granted : All (IsGranted s job) claims)
+module _ (s : FlightState) (job : ℕ) (t : Tx) (claims held : List Claim) (h : InFlight s) (active : IsActive s job t)
+    (granted : All (MayBeGranted s job) claims)
     (same : HoldTheSame held (t.held ++ claims)) where
   still_held : Covers held t.held
   still_held = covers_through held (t.held ++ claims) t.held same.left (front_held t.held claims)
@@ -173,18 +176,18 @@ module _ (s : FlightState) (job : ℕ) (t : Tx) (claims held : List Claim) (h : 
   -- no other has what is claimed exclusively
   new_owned : (j : ℕ) (u : Tx) (o : Object) → j ≢ job → IsActive s j u → Contains (owned claims) o → Has u o → ⊥
   new_owned j u o ne other at (inl holds) =
-      of_owned (IsGranted s job) claims o ⊥ granted at (λ c g one x.
+      of_owned (MayBeGranted s job) claims o ⊥ granted at (λ c g one x.
       of_object (GoTogether c) u.held o ⊥ (g.together j u ne other) holds (λ d k e. apart_modes c.mode d.mode (goes_with c d k (e ∙ sym one)) (inl x)))
   new_owned j u o ne other at (inr numbered) =
-      of_owned (IsGranted s job) claims o ⊥ granted at (λ c g one x. g.object.foreign j u ne other (subst (IsNumbered u.number) (sym one) numbered))
+      of_owned (MayBeGranted s job) claims o ⊥ granted at (λ c g one x. g.object.foreign j u ne other (subst (IsNumbered u.number) (sym one) numbered))
 
   -- and no other owns what is claimed
   new_held : (j : ℕ) (u : Tx) (o : Object) → j ≢ job → IsActive s j u → Contains (objects claims) o → Own u o → ⊥
   new_held j u o ne other at (inl holds) =
-      of_object (IsGranted s job) claims o ⊥ granted at (λ c g one.
+      of_object (MayBeGranted s job) claims o ⊥ granted at (λ c g one.
       of_owned (GoTogether c) u.held o ⊥ (g.together j u ne other) holds (λ d k e x. apart_modes c.mode d.mode (goes_with c d k (e ∙ sym one)) (inr x)))
   new_held j u o ne other at (inr numbered) =
-      of_object (IsGranted s job) claims o ⊥ granted at (λ c g one. g.object.foreign j u ne other (subst (IsNumbered u.number) (sym one) numbered))
+      of_object (MayBeGranted s job) claims o ⊥ granted at (λ c g one. g.object.foreign j u ne other (subst (IsNumbered u.number) (sym one) numbered))
 
   gains : (j : ℕ) (o : Object) → j ≢ job → Own (claiming t held) o → HasAt s j o → ⊥
   gains j o ne e q = by_tx (active_at s j) refl q
@@ -204,7 +207,7 @@ module _ (s : FlightState) (job : ℕ) (t : Tx) (claims held : List Claim) (h : 
 
   names : (o : Object) → Has (claiming t held) o → IsBelow s.next o
   names o e = ⊎_elim (λ (old : Has t o). h.names job o (has_it s job t o active old))
-      (λ (new : Contains (objects claims) o). of_object (IsGranted s job) claims o (IsBelow s.next o) granted new
+      (λ (new : Contains (objects claims) o). of_object (MayBeGranted s job) claims o (IsBelow s.next o) granted new
       (λ c g one. subst (IsBelow s.next) one g.object.below)) (has_before o e)
 
   -- nobody owned what it owns from now on
@@ -221,8 +224,8 @@ module _ (s : FlightState) (job : ℕ) (t : Tx) (claims held : List Claim) (h : 
       (λ (ne : j ≢ job). unowned o j ne new e))
 
   -- granted claims keep all
-  pub claimed : t.phase ≡ Running → InFlight (turned s job (Some (claiming t held)) s.now)
-  claimed phase =
+  pub claims_keep : t.phase ≡ Running → InFlight (turned s job (Some (claiming t held)) s.now)
+  claims_keep phase =
       let w = s.state in
       let t' = claiming t held in
       let f = h.flights job t active in
@@ -268,7 +271,7 @@ one_number m n (object.Name name) a b = absurd a
 one_number m n object.Jobs a b = absurd a
 
 -- what one of them owns the other has not
-pub claims_apart : (t u : Tx) → AreCompatible t u → (o : Object) → Own t o → Has u o → ⊥
+pub claims_apart : (t u : Tx) → AreIndependent t u → (o : Object) → Own t o → Has u o → ⊥
 claims_apart t u k o (inl a) (inl b) =
     of_owned (λ c. All (GoTogether c) u.held) t.held o ⊥ k.together a (λ c together one x.
     of_object (GoTogether c) u.held o ⊥ together b (λ d go e. apart_modes c.mode d.mode (goes_with c d go (e ∙ sym one)) (inl x)))

@@ -16,18 +16,18 @@ use Rattle.xc_world.specs.Laws.{AgreeAt, EndsAlike, late_objects}
 use Rattle.xc_world.specs.Own.{AgreeOn, LooksWithin}
 use Rattle.xc_world.proofs.Laws.{agree_back, late_alike, agreed, still_agree, keeps_itself, late_keeps, late_fits_alike}
 use Rattle.xc_flight.specs.Active.{Tx, Running, Committing, Has, Own}
-use Rattle.xc_flight.specs.Flight.{noted, ran, late_done, left, returned, IsCommitting, IsPhase, Inside, stood, IsSourced}
+use Rattle.xc_flight.specs.Flight.{noted, ran, late_done, left, returned, IsCommittingFlight, IsPhase, Inside, stood, IsSourced}
 use Rattle.xc_flight.specs.State.{FlightState, IsActive, InFlight, turned, entered}
-use Rattle.xc_flight.specs.Turns.{seen, in_phase, IsDoneLate, with_end, after_commit}
+use Rattle.xc_flight.specs.Turns.{world_seen, in_phase, IsDoneLate, with_end, after_commit}
 use Rattle.xc_flight.proofs.Basics.{owns_has}
 use Rattle.xc_flight.proofs.Worlds.{overlaid_count}
 use Rattle.xc_flight.proofs.Frames.{late_within, left_keeps, unstored}
-use Rattle.xc_flight.proofs.Rows.{goes_on, ends}
+use Rattle.xc_flight.proofs.Rows.{flight_goes_on, end_keeps}
 use Rattle.xc_flight.proofs.Calling.{is_running, sees, now_left}
 use Rattle.xc_flight.proofs.Bodies.{both_true, push_count}
 
 -- ---- a commit: its stores are written
-unwritten : (now : World) (t : Tx) → All (λ (s : ℕ × ℕ). Own t (object.Word s.0)) t.writes → (o : Object) → (Own t o → ⊥) → AgreeAt now (seen now t) o
+unwritten : (now : World) (t : Tx) → All (λ (s : ℕ × ℕ). Own t (object.Word s.0)) t.writes → (o : Object) → (Own t o → ⊥) → AgreeAt now (world_seen now t) o
 unwritten now t stored (object.Word k) lacks = unstored t now.words t.writes k stored lacks
 unwritten now t stored (object.Name name) lacks = refl
 unwritten now t stored (object.File q) lacks = refl
@@ -37,13 +37,13 @@ unwritten now t stored object.Jobs lacks = refl
 
 -- a commit keeps all
 pub commits : (s : FlightState) (job : ℕ) (t : Tx) → InFlight s → IsActive s job t → t.phase ≡ Running
-    → InFlight (turned s job (Some (in_phase t Committing)) (seen s.now t))
+    → InFlight (turned s job (Some (in_phase t Committing)) (world_seen s.now t))
 commits s job t h active phase =
     let w = s.state in
     let i = (h.flights job t active).inside in
     let p = is_running s job t h active phase in
     let none : (P : List LateEnd → Type 0) → P [] → P t.late_ends = λ P x. subst P (sym p.no_late_ends) x in
-    goes_on s job t (in_phase t Committing) (seen s.now t) h active refl refl
+    flight_goes_on s job t (in_phase t Committing) (world_seen s.now t) h active refl refl
     (record { others = unwritten s.now t p.stored; count = overlaid_count s.now.words t.writes; blocks = refl }) (record {
       inside = record {
         new = i.new;
@@ -63,8 +63,8 @@ commits s job t h active phase =
         };
         saved = i.saved;
       };
-      owns = λ o e. none (λ ends. AgreeAt (seen s.now t) (lates (ran w t).world (late_asked_of (take (length ends) (ran w t).late) ends)).world o)
-          (agree_back (ran w t).world (seen s.now t) o (sees s job t h active phase o (owns_has t o e)));
+      owns = λ o e. none (λ ends. AgreeAt (world_seen s.now t) (lates (ran w t).world (late_asked_of (take (length ends) (ran w t).late) ends)).world o)
+          (agree_back (ran w t).world (world_seen s.now t) o (sees s job t h active phase o (owns_has t o e)));
       sources = tt;
     })
 
@@ -122,7 +122,7 @@ front_count [] c rest = omega arith
 front_count (d ∷ front) c rest = let more = front_count front c rest in omega (arith, more)
 
 -- ---- a committing transaction
-is_committing : (w : World) (t : Tx) → Inside w t → t.phase ≡ Committing → IsCommitting w t
+is_committing : (w : World) (t : Tx) → Inside w t → t.phase ≡ Committing → IsCommittingFlight w t
 is_committing w t i phase = subst (IsPhase w t) phase i.phase
 
 -- its late calls are those that its body left
@@ -144,7 +144,7 @@ module _ (s : FlightState) (job : ℕ) (t : Tx) (c : LateCall) (a : LateAnswer) 
   inside : Inside s.state t
   inside = (h.flights job t active).inside
 
-  committing : IsCommitting s.state t
+  committing : IsCommittingFlight s.state t
   committing = is_committing s.state t inside phase
 
   split : (ran s.state t).late ≡ k.front ++ c ∷ k.rest
@@ -207,7 +207,7 @@ module _ (s : FlightState) (job : ℕ) (t : Tx) (c : LateCall) (a : LateAnswer) 
   pub does_late : InFlight (turned s job (Some (with_end t (late s.now c a).end)) (late s.now c a).world)
   does_late =
       let x = (ran s.state t).world in
-      goes_on s job t (with_end t (late s.now c a).end) (late s.now c a).world h active refl refl (late_keeps (Own t) s.now c a speaks.changes) (record {
+      flight_goes_on s job t (with_end t (late s.now c a).end) (late s.now c a).world h active refl refl (late_keeps (Own t) s.now c a speaks.changes) (record {
         inside = late_inside;
         owns = subst (λ p. AgreeOn (Own t) (returned (late s.now c a).world (with_end t (late s.now c a).end) p)
             (left s.state (with_end t (late s.now c a).end) p)) (sym phase)
@@ -230,11 +230,11 @@ left_run w t i phase all =
     (λ (r : BodyResult). (lates r.world (late_asked_of r.late t.late_ends)).world) same
 
 -- it enters
-pub committed : (s : FlightState) (job : ℕ) (t : Tx) → InFlight s → IsActive s job t → t.phase ≡ Committing → length t.late_ends ≡ length t.late
+pub commit_enters : (s : FlightState) (job : ℕ) (t : Tx) → InFlight s → IsActive s job t → t.phase ≡ Committing → length t.late_ends ≡ length t.late
     → InFlight (entered s job (after_commit s.state t) s.now)
-committed s job t h active phase all =
+commit_enters s job t h active phase all =
     let w = s.state in
     let f = h.flights job t active in
     subst (λ v. InFlight (entered s job v s.now)) (left_run w t f.inside phase all)
-    (ends s job t (left w t Committing) s.now h active (left_keeps w t f.inside Committing) (keeps_itself (Own t) s.now)
+    (end_keeps s job t (left w t Committing) s.now h active (left_keeps w t f.inside Committing) (keeps_itself (Own t) s.now)
     (subst (λ q. AgreeOn (Own t) (returned s.now t q) (left w t q)) phase f.owns))

@@ -13,16 +13,16 @@ use Rattle.xc_data.specs.Claims.{claim}
 use Rattle.xc_world.specs.World.{World, beginning}
 use Rattle.xc_flight.specs.Active.{Tx, num}
 use Rattle.xc_flight.specs.State.{FlightState, active_at, InFlight}
-use Rattle.xc_flight.specs.Turns.{starting, claiming, seen, noting, after_call, GoTogether}
-use Rattle.xc_flight.proofs.Rows.{starts, begins}
+use Rattle.xc_flight.specs.Turns.{starting, claiming, world_seen, noting_call, after_call, GoTogether}
+use Rattle.xc_flight.proofs.Rows.{starts, begin_keeps}
 
 -- a world of two words
-abbrev small : World
-small = record { words = 5 ∷ 6 ∷ []; names = map.empty; files = map.empty; pipes = map.empty; pairs = map.empty; started = []; blocks = [] }
+abbrev two_word_world : World
+two_word_world = record { words = 5 ∷ 6 ∷ []; names = map.empty; files = map.empty; pipes = map.empty; pairs = map.empty; started = []; blocks = [] }
 
 -- two jobs, none of which has a transaction
 abbrev idle : FlightState
-idle = record { state = small; now = small; active = None ∷ None ∷ []; next = 1 }
+idle = record { state = two_word_world; now = two_word_world; active = None ∷ None ∷ []; next = 1 }
 
 abbrev nothing_yet : Private
 nothing_yet = beginning []
@@ -42,26 +42,26 @@ two_begin =
           (num m k);
       pair = map.get-empty num_cmp (num m k);
     }) in
-    begins (record idle { active = Some (starting 1 nothing_yet) ∷ None ∷ []; next = 2 }) 1 nothing_yet
-    (begins idle 0 nothing_yet opening (omega arith) refl) (omega arith) refl
+    begin_keeps (record idle { active = Some (starting 1 nothing_yet) ∷ None ∷ []; next = 2 }) 1 nothing_yet
+    (begin_keeps idle 0 nothing_yet opening (omega arith) refl) (omega arith) refl
 
 -- one that holds the first word exclusively, and the second one shared
-abbrev first : Tx
-first = claiming (starting 1 nothing_yet) (claim Exclusive (object.Word 0) ∷ claim Shared (object.Word 1) ∷ [])
+abbrev first_tx : Tx
+first_tx = claiming (starting 1 nothing_yet) (claim Exclusive (object.Word 0) ∷ claim Shared (object.Word 1) ∷ [])
 
 abbrev store : CallWithAnswer
 store = record { call = call.Store 0 9; answer = answer.Fine }
 
 -- its store is noted, and waits: it sees it, and the station's words are as before
-pub a_store_waits : (after_call small first store).words ≡ 5 ∷ 6 ∷ []
+pub a_store_waits : (after_call two_word_world first_tx store).words ≡ 5 ∷ 6 ∷ []
 a_store_waits = refl
 
 -- and it sees it
-pub it_sees_its_store : (seen small (noting small first store ((0, 9) ∷ []))).words ≡ 9 ∷ 6 ∷ []
+pub it_sees_its_store : (world_seen two_word_world (noting_call two_word_world first_tx store ((0, 9) ∷ []))).words ≡ 9 ∷ 6 ∷ []
 it_sees_its_store = refl
 
 -- with this reply
-pub its_reply : (noting small first store ((0, 9) ∷ [])).replies ≡ reply.Done ∷ []
+pub its_reply : (noting_call two_word_world first_tx store ((0, 9) ∷ [])).replies ≡ reply.Done ∷ []
 its_reply = refl
 
 -- two may hold a word shared, and none holds it beside one that holds it exclusively

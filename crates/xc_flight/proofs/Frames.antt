@@ -18,7 +18,7 @@ use Rattle.xc_txmem.specs.Overlay.{overlaid}
 use Rattle.xc_world.specs.World.{World}
 use Rattle.xc_world.specs.Fits.{late_answer_of}
 use Rattle.xc_world.specs.Run.{BodyResult, BlockState, block_step, runs_on, opens, body, body_fits, lates, lates_fit, asked_of, late_asked_of}
-use Rattle.xc_world.specs.Ends.{Ending, standing_of, remains}
+use Rattle.xc_world.specs.Ends.{Ending, standing_part, remains}
 use Rattle.xc_world.specs.Effects.{whole}
 use Rattle.xc_world.specs.Laws.{AgreeAt, late_objects}
 use Rattle.xc_world.specs.Sound.{IsFree}
@@ -70,7 +70,7 @@ whole_of P [] all = All-nil (λ (e : Undo × ℕ). P e.0)
 whole_of P (u ∷ us) all = All-cons (λ (e : Undo × ℕ). P e.0) (u, 0) (whole us) (All-head P u us all) (whole_of P us (All-tail P u us all))
 
 one_remains : (Q : Undo × ℕ → Type 0) (u : Undo) (rest : List (Undo × ℕ)) → ((k : ℕ) → Q (u, k)) → All Q rest → (from : Option ℕ)
-    → All Q (cons_option (standing_of u from) rest)
+    → All Q (cons_option (standing_part u from) rest)
 one_remains Q u rest here all None = all
 one_remains Q u rest here all (Some k) = All-cons Q (u, k) rest (here k) all
 
@@ -102,19 +102,19 @@ pub effects_own : (w : World) (t : Tx) → Inside w t → All (IsOf (Own t)) (ef
 effects_own w t i = effects_of (λ u. All (Own t) (objects_of u)) w t i (trail_own w t i.covers)
 
 -- ---- late calls with their answers
-pub answered : (P : LateCall → Type 0) (calls : List LateCall) (ends : List LateEnd) → All P calls
+pub late_answered : (P : LateCall → Type 0) (calls : List LateCall) (ends : List LateEnd) → All P calls
     → All (λ (c : LateCall × LateAnswer). P c.0) (late_asked_of calls ends)
-answered P [] ends all = All-nil (λ (c : LateCall × LateAnswer). P c.0)
-answered P (c ∷ calls) [] all =
+late_answered P [] ends all = All-nil (λ (c : LateCall × LateAnswer). P c.0)
+late_answered P (c ∷ calls) [] all =
     All-cons (λ (x : LateCall × LateAnswer). P x.0) (c, late_answer.Fine) (late_asked_of calls []) (All-head P c calls all)
-    (answered P calls [] (All-tail P c calls all))
-answered P (c ∷ calls) (e ∷ ends) all =
+    (late_answered P calls [] (All-tail P c calls all))
+late_answered P (c ∷ calls) (e ∷ ends) all =
     All-cons (λ (x : LateCall × LateAnswer). P x.0) (c, late_answer_of e) (late_asked_of calls ends) (All-head P c calls all)
-    (answered P calls ends (All-tail P c calls all))
+    (late_answered P calls ends (All-tail P c calls all))
 
 done_within : (w : World) (t : Tx) → Covers t.held (ran w t).touched → All (LateWithin (Has t) (Own t)) (late_done w t)
 done_within w t covers =
-    answered (LooksWithin (Has t) (Own t)) (take (length t.late_ends) (ran w t).late) t.late_ends
+    late_answered (LooksWithin (Has t) (Own t)) (take (length t.late_ends) (ran w t).late) t.late_ends
     (All-take (LooksWithin (Has t) (Own t)) (length t.late_ends) (ran w t).late (late_within w t covers))
 
 -- ---- what it left differs from S in what it owns at most

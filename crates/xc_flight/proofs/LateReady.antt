@@ -20,9 +20,9 @@ use Rattle.xc_world.specs.Own.{LooksWithin}
 use Rattle.xc_world.proofs.Laws.{agreed, act_sound, late_fit, late_sound, act_keeps_ready, act_leaves_ready, late_keeps_ready, back_sound, body-sound}
 use Rattle.xc_world.proofs.Laws.{body-others_sound, Fits, fit_all, runs_keep}
 use Rattle.xc_flight.specs.Active.{Tx, Committing, Has, Own}
-use Rattle.xc_flight.specs.Flight.{asked, ran, late_done, done_late, left, Inside}
+use Rattle.xc_flight.specs.Flight.{asked, ran, late_done, late_result, left, Inside}
 use Rattle.xc_flight.specs.State.{FlightState, IsActive, InFlight}
-use Rattle.xc_flight.proofs.Frames.{ran_whole, answered, late_within}
+use Rattle.xc_flight.proofs.Frames.{ran_whole, late_answered, late_within}
 use Rattle.xc_flight.proofs.Ending.{one_of, ran_late, left_there}
 
 -- ---- of a body
@@ -88,7 +88,7 @@ pub run_sound : (w : World) (me you : Private) (tx ty : ℕ) (asked : List CallW
     → IsSound (run w me tx asked ends).late.world you ty
 run_sound w me you tx ty asked ends sound fit other =
     let r = body w me tx asked in
-    lates_sound r.world you ty (late_asked_of r.late ends) (answered (IsReady r.world) r.late ends
+    lates_sound r.world you ty (late_asked_of r.late ends) (late_answered (IsReady r.world) r.late ends
     (leaves_ready w me tx asked sound fit)) other
 
 -- ---- of a transaction
@@ -102,18 +102,18 @@ module _ (w : World) (t : Tx) (i : Inside w t) (sound : IsSound w t.began t.numb
   done_ready : AllReady (ran w t).world (late_done w t)
   done_ready =
       let r = ran w t in
-      answered (IsReady r.world) (take (length t.late_ends) r.late) t.late_ends
+      late_answered (IsReady r.world) (take (length t.late_ends) r.late) t.late_ends
       (All-take (IsReady r.world) (length t.late_ends) r.late ran_ready)
 
   -- what it did with its late calls so far keeps every other one sound
-  pub done_sound : (you : Private) (ty : ℕ) → ty ≢ t.number → IsSound w you ty → IsSound (done_late w t).world you ty
+  pub done_sound : (you : Private) (ty : ℕ) → ty ≢ t.number → IsSound w you ty → IsSound (late_result w t).world you ty
   done_sound you ty ne other =
       lates_sound (ran w t).world you ty (late_done w t) done_ready
       (subst (λ (r : BodyResult). IsSound r.world you ty) (ran_whole w t)
       (body-others_sound w t.began you t.number ty (asked t) sound i.fits other ne))
 
   -- and leaves the others ready
-  still_ready : (front : List LateCall) (c : LateCall) (rest : List LateCall) → (ran w t).late ≡ front ++ c ∷ rest → IsReady (done_late w t).world c
+  still_ready : (front : List LateCall) (c : LateCall) (rest : List LateCall) → (ran w t).late ≡ front ++ c ∷ rest → IsReady (late_result w t).world c
   still_ready front c rest split =
       let r = ran w t in
       let end = subst (λ (q : BodyResult). IsFit q.world) (ran_whole w t) (body-sound w t.began t.number (asked t) sound i.fits).world in

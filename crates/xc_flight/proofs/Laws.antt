@@ -28,12 +28,12 @@ pub use Rattle.xc_flight.proofs.Moving.{own_it}
 -- where nobody is active, the two worlds are one
 pub use Rattle.xc_flight.proofs.Moving.{all_free}
 -- the others stay
-pub use Rattle.xc_flight.proofs.Moving.{get_set_other}
+pub use Rattle.xc_flight.proofs.Moving.{active_set_other}
 -- ---- Rows: A transaction begins, goes on, claims or ends.
 -- it has and owns the same as before
-pub use Rattle.xc_flight.proofs.Rows.{goes_on}
+pub use Rattle.xc_flight.proofs.Rows.{flight_goes_on}
 -- a begin keeps all
-pub use Rattle.xc_flight.proofs.Rows.{begins}
+pub use Rattle.xc_flight.proofs.Rows.{begin_keeps}
 -- the start: nobody is active, and the station's world is the opening
 pub use Rattle.xc_flight.proofs.Rows.{starts}
 -- a job more changes nothing
@@ -55,10 +55,10 @@ pub use Rattle.xc_flight.proofs.Ending.{does_late}
 -- what it left is where its run leads
 pub use Rattle.xc_flight.proofs.Ending.{left_run}
 -- it enters
-pub use Rattle.xc_flight.proofs.Ending.{committed}
+pub use Rattle.xc_flight.proofs.Ending.{commit_enters}
 -- ---- Taking: What a body took from pipes and pairs: it owns them, and made none of them.
 -- how much is in the pipe or the pair of an item
-pub use Rattle.xc_flight.proofs.Taking.{filled}
+pub use Rattle.xc_flight.proofs.Taking.{amount_in}
 -- the same in worlds that agree there
 pub use Rattle.xc_flight.proofs.Taking.{filled_alike}
 -- after several
@@ -85,9 +85,9 @@ pub use Rattle.xc_flight.proofs.Undoing.{record_own}
 -- and took nothing from there
 pub use Rattle.xc_flight.proofs.Undoing.{not_taken}
 -- what it speaks of is there as its records tell: none of it was taken
-pub use Rattle.xc_flight.proofs.Undoing.{there}
+pub use Rattle.xc_flight.proofs.Undoing.{there_as_told}
 -- an aborted transaction, each of whose records has its end, gives back what it took and enters
-pub use Rattle.xc_flight.proofs.Undoing.{aborted}
+pub use Rattle.xc_flight.proofs.Undoing.{abort_enters}
 -- ---- Claiming: A claim is granted; and what a call touches is nobody else's new object.
 -- claims cover those at their end
 pub use Rattle.xc_flight.proofs.Claiming.{back_held}
@@ -96,7 +96,7 @@ pub use Rattle.xc_flight.proofs.Claiming.{covers_through}
 -- claims that are merged hold the same as the list of them
 pub use Rattle.xc_flight.proofs.Claiming.{merged_held}
 -- granted claims keep all
-pub use Rattle.xc_flight.proofs.Claiming.{claimed}
+pub use Rattle.xc_flight.proofs.Claiming.{claims_keep}
 -- ---- LateReady: The late calls of a transaction are ready: their objects are there.
 -- what it did with its late calls so far keeps every other one sound
 pub use Rattle.xc_flight.proofs.LateReady.{done_sound}
@@ -119,7 +119,7 @@ pub use Rattle.xc_flight.proofs.Together.{call_granted}
 -- a call whose claims have no rival is done and noted in one turn
 pub use Rattle.xc_flight.proofs.Together.{called_with_claims}
 -- what keeps all sound
-pub use Rattle.xc_flight.proofs.Together.{step_sound}
+pub use Rattle.xc_flight.proofs.Together.{turn_keeps_sound}
 -- a begin keeps all sound
 pub use Rattle.xc_flight.proofs.Together.{begin_sound}
 -- ---- Aborting: A transaction that turned back: its records can be undone, and its abort leaves all sound.

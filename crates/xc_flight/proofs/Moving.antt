@@ -109,8 +109,8 @@ module _ (s s' : FlightState) (job : ℕ) (h : InFlight s) (m : Move s s' job) w
       (λ (ne : j ≢ job). below_more s.next s'.next o m.rises (h.names j o (same_has j o ne q)))
 
   -- a move keeps what is true of all
-  pub moved : InFlight s'
-  moved =
+  pub move_keeps : InFlight s'
+  move_keeps =
       record {
         count = m.now.count ∙ h.count ∙ sym m.state.count;
         blocks = m.now.blocks ∙ h.blocks ∙ sym m.state.blocks;
@@ -128,18 +128,18 @@ pub all_free : (s : FlightState) → InFlight s → ((job : ℕ) → active_at s
 all_free s h none = worlds_same s.now s.state (λ o. h.free o (λ job e. subst (λ x. OwnSome x o) (none job) e)) h.blocks
 
 -- ---- the list of active transactions with one put
-pub get_set_same : (xs : List (Option Tx)) (i : ℕ) (x : Option Tx) → i < length xs → get_or (slice_set xs i x) i None ≡ x
-get_set_same [] i x lt = let no = lt in absurd (omega (arith, no))
-get_set_same (y ∷ ys) zero x lt = refl
-get_set_same (y ∷ ys) (suc i) x lt = get_set_same ys i x (omega (arith, lt))
+pub active_set_same : (xs : List (Option Tx)) (i : ℕ) (x : Option Tx) → i < length xs → get_or (slice_set xs i x) i None ≡ x
+active_set_same [] i x lt = let no = lt in absurd (omega (arith, no))
+active_set_same (y ∷ ys) zero x lt = refl
+active_set_same (y ∷ ys) (suc i) x lt = active_set_same ys i x (omega (arith, lt))
 
 -- the others stay
-pub get_set_other : (xs : List (Option Tx)) (i j : ℕ) (x : Option Tx) → j ≢ i → get_or (slice_set xs i x) j None ≡ get_or xs j None
-get_set_other [] i j x ne = refl
-get_set_other (y ∷ ys) zero zero x ne = absurd (ne refl)
-get_set_other (y ∷ ys) zero (suc j) x ne = refl
-get_set_other (y ∷ ys) (suc i) zero x ne = refl
-get_set_other (y ∷ ys) (suc i) (suc j) x ne = get_set_other ys i j x (λ e. ne (ap suc e))
+pub active_set_other : (xs : List (Option Tx)) (i j : ℕ) (x : Option Tx) → j ≢ i → get_or (slice_set xs i x) j None ≡ get_or xs j None
+active_set_other [] i j x ne = refl
+active_set_other (y ∷ ys) zero zero x ne = absurd (ne refl)
+active_set_other (y ∷ ys) zero (suc j) x ne = refl
+active_set_other (y ∷ ys) (suc i) zero x ne = refl
+active_set_other (y ∷ ys) (suc i) (suc j) x ne = active_set_other ys i j x (λ e. ne (ap suc e))
 
 -- a job with an active transaction is in the list
 pub is_inside : (xs : List (Option Tx)) (i : ℕ) (t : Tx) → get_or xs i None ≡ Some t → i < length xs

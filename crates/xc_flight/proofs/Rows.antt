@@ -17,7 +17,7 @@ use Rattle.xc_flight.specs.Flight.{Inside, Flight}
 use Rattle.xc_flight.specs.State.{FlightState, active_at, IsActive, HasSome, OwnSome, HasAt, OwnAt, InFlight, turned, entered}
 use Rattle.xc_flight.specs.Turns.{starting}
 use Rattle.xc_flight.proofs.Basics.{owns_has}
-use Rattle.xc_flight.proofs.Moving.{moved, has_it, own_it, it_has, it_owns, own_at_has, get_set_same, get_set_other, is_inside, one_active}
+use Rattle.xc_flight.proofs.Moving.{move_keeps, has_it, own_it, it_has, it_owns, own_at_has, active_set_same, active_set_other, is_inside, one_active}
 
 numbered_low : (n next : ℕ) (o : Object) → n < next → IsNumbered n o → IsBelow next o
 numbered_low n next (object.File q) lt e = omega (arith, lt, e)
@@ -41,7 +41,7 @@ module _ (s : FlightState) (job : ℕ) (t t' : Tx) (now' : World) (h : InFlight 
   in_list = is_inside s.active job t active
 
   -- what it has and owns grows, and goes together with what the others have and own
-  pub record Grows : Type 0 where
+  pub record OwnsMore : Type 0 where
     pub same : t'.number ≡ t.number
     pub own : (o : Object) → Own t o → Own t' o
     pub gains : (j : ℕ) (o : Object) → j ≢ job → Own t' o → HasAt s j o → ⊥
@@ -49,14 +49,14 @@ module _ (s : FlightState) (job : ℕ) (t t' : Tx) (now' : World) (h : InFlight 
     pub names : (o : Object) → Has t' o → IsBelow s.next o
 
   -- it goes on, and has and owns more
-  pub goes_on_with : Grows → KeepsBut (Own t) s.now now' → Flight s.state now' t' → InFlight (turned s job (Some t') now')
+  pub goes_on_with : OwnsMore → KeepsBut (Own t) s.now now' → Flight s.state now' t' → InFlight (turned s job (Some t') now')
   goes_on_with g keeps flight =
-      let is : active_at (turned s job (Some t') now') job ≡ Some t' = get_set_same s.active job (Some t') in_list in
+      let is : active_at (turned s job (Some t') now') job ≡ Some t' = active_set_same s.active job (Some t') in_list in
       let becomes : (u : Tx) → IsActive (turned s job (Some t') now') job u → t' ≡ u = λ u e. one_active (turned s job (Some t') now') job t' u is e in
-      moved s (turned s job (Some t') now') job h (record {
+      move_keeps s (turned s job (Some t') now') job h (record {
         state = keeps_itself (OwnAt s job) s.state;
         now = keeps_more (Own t) (OwnAt s job) s.now now' (λ o e. own_it s job t o active e) keeps;
-        others = λ j ne. get_set_other s.active job j (Some t') ne;
+        others = λ j ne. active_set_other s.active job j (Some t') ne;
         mine = λ u e. subst (Flight s.state now') (becomes u e) flight;
         gains = λ j o ne e q. g.gains j o ne (it_owns (turned s job (Some t') now') job t' o is e) q;
         joins = λ j o ne e q. g.joins j o ne (it_has (turned s job (Some t') now') job t' o is e) q;
@@ -69,8 +69,8 @@ module _ (s : FlightState) (job : ℕ) (t t' : Tx) (now' : World) (h : InFlight 
       })
 
   -- it has and owns the same as before
-  pub goes_on : t'.number ≡ t.number → t'.held ≡ t.held → KeepsBut (Own t) s.now now' → Flight s.state now' t' → InFlight (turned s job (Some t') now')
-  goes_on number held keeps flight =
+  pub flight_goes_on : t'.number ≡ t.number → t'.held ≡ t.held → KeepsBut (Own t) s.now now' → Flight s.state now' t' → InFlight (turned s job (Some t') now')
+  flight_goes_on number held keeps flight =
       let has : (o : Object) → Has t' o → Has t o = λ o e. subst (λ n. Sees n t.held o) number (subst (λ c. Sees t'.number c o) held e) in
       let own : (o : Object) → Own t' o → Own t o = λ o e. subst (λ n. Owns n t.held o) number (subst (λ c. Owns t'.number c o) held e) in
       goes_on_with (record {
@@ -82,19 +82,19 @@ module _ (s : FlightState) (job : ℕ) (t t' : Tx) (now' : World) (h : InFlight 
       }) keeps flight
 
 -- ---- it ends: what it owned is as the new state says
-pub ends : (s : FlightState) (job : ℕ) (t : Tx) (state now : World) → InFlight s → IsActive s job t → KeepsBut (Own t) s.state state
+pub end_keeps : (s : FlightState) (job : ℕ) (t : Tx) (state now : World) → InFlight s → IsActive s job t → KeepsBut (Own t) s.state state
     → KeepsBut (Own t) s.now now → AgreeOn (Own t) now state
     → InFlight (entered s job state now)
-ends s job t state now h active model host owned =
+end_keeps s job t state now h active model host owned =
     let s' = entered s job state now in
-    let none : active_at s' job ≡ None = get_set_same s.active job None (is_inside s.active job t active) in
+    let none : active_at s' job ≡ None = active_set_same s.active job None (is_inside s.active job t active) in
     let nobody : (u : Tx) → IsActive s' job u → ⊥ = λ u e. cc (none, e) in
     let away : (o : Object) → (IsBelow s.next o → ⊥) → AgreeAt s.state state o = λ o far. model.others o
     (λ e. far (h.names job o (has_it s job t o active (owns_has t o e)))) in
-    moved s s' job h (record {
+    move_keeps s s' job h (record {
       state = keeps_more (Own t) (OwnAt s job) s.state state (λ o e. own_it s job t o active e) model;
       now = keeps_more (Own t) (OwnAt s job) s.now now (λ o e. own_it s job t o active e) host;
-      others = λ j ne. get_set_other s.active job j None ne;
+      others = λ j ne. active_set_other s.active job j None ne;
       mine = λ u e. absurd (nobody u e);
       gains = λ j o ne e q. subst (λ x. OwnSome x o) none e;
       joins = λ j o ne e q. subst (λ x. HasSome x o) none e;
@@ -141,12 +141,12 @@ none_owned : (n : ℕ) (began : Private) (o : Object) → Own (starting n began)
 none_owned n began o e = none_held n began o (owns_has (starting n began) o e)
 
 -- a begin keeps all
-pub begins : (s : FlightState) (job : ℕ) (began : Private) → InFlight s → job < length s.active → active_at s job ≡ None
+pub begin_keeps : (s : FlightState) (job : ℕ) (began : Private) → InFlight s → job < length s.active → active_at s job ≡ None
     → InFlight (record s { active = slice_set s.active job (Some (starting s.next began)); next = s.next + 1 })
-begins s job began h lt idle =
+begin_keeps s job began h lt idle =
     let t = starting s.next began in
     let s' = record s { active = slice_set s.active job (Some t); next = s.next + 1 } in
-    let is : active_at s' job ≡ Some t = get_set_same s.active job (Some t) lt in
+    let is : active_at s' job ≡ Some t = active_set_same s.active job (Some t) lt in
     let becomes : (u : Tx) → IsActive s' job u → t ≡ u = λ u e. one_active s' job t u is e in
     let unowned : (o : Object) → OwnAt s job o → ⊥ = λ o e. subst (λ x. OwnSome x o) idle e in
     let unseen : (o : Object) (j : ℕ) → IsNumbered s.next o → HasAt s j o → ⊥ = λ o j e q. not_below s.next s.next o (omega arith) (h.names j o q) e in
@@ -155,10 +155,10 @@ begins s job began h lt idle =
       owns = λ o e. h.free o (λ j q. unseen o j (none_owned s.next began o e) (own_at_has s j o q));
       sources = tt;
     } in
-    moved s s' job h (record {
+    move_keeps s s' job h (record {
       state = keeps_itself (OwnAt s job) s.state;
       now = keeps_itself (OwnAt s job) s.now;
-      others = λ j ne. get_set_other s.active job j (Some t) ne;
+      others = λ j ne. active_set_other s.active job j (Some t) ne;
       mine = λ u e. subst (Flight s.state s.now) (becomes u e) flight;
       gains = λ j o ne e q. unseen o j (none_owned s.next began o (it_owns s' job t o is e)) q;
       joins = λ j o ne e q. unseen o j (none_held s.next began o (it_has s' job t o is e)) (own_at_has s j o q);

@@ -26,33 +26,33 @@ use Rattle.xc_world.specs.Laws.{AgreeAt}
 use Rattle.xc_world.specs.Own.{AgreeOn, IsNumbered}
 use Rattle.xc_world.proofs.Laws.{body-sound, body-others_sound}
 use Rattle.xc_flight.specs.Active.{Tx, Running, Committing, Has, num, IsBelow}
-use Rattle.xc_flight.specs.Flight.{noted, ran, asked, left, IsCommitting, IsPhase, Inside}
+use Rattle.xc_flight.specs.Flight.{noted, ran, asked, left, IsCommittingFlight, IsPhase, Inside}
 use Rattle.xc_flight.specs.State.{FlightState, IsActive, InFlight, AreSound, IsIdleSound, entered}
-use Rattle.xc_flight.specs.Turns.{IsOpen}
+use Rattle.xc_flight.specs.Turns.{IsOpenFor}
 use Rattle.xc_flight.proofs.Basics.{owns_has}
 use Rattle.xc_flight.proofs.Calling.{running_left, all_noted}
 use Rattle.xc_flight.proofs.Frames.{ran_whole, ran_keeps}
 use Rattle.xc_flight.proofs.LateReady.{run_sound}
-use Rattle.xc_flight.proofs.Moving.{has_it, own_it, get_set_same, get_set_other, is_inside}
+use Rattle.xc_flight.proofs.Moving.{has_it, own_it, active_set_same, active_set_other, is_inside}
 
 -- ---- what a call touches is in the world where its handles are known
-abbrev IsThere : World → Object → Type 0
-IsThere w o = is_there w o ≡ true
+abbrev IsObjectThere : World → Object → Type 0
+IsObjectThere w o = is_there w o ≡ true
 
-one_there : (w : World) (o : Object) → IsThere w o → All (IsThere w) (o ∷ [])
-one_there w o e = All-cons (IsThere w) o [] e (All-nil (IsThere w))
+one_there : (w : World) (o : Object) → IsObjectThere w o → All (IsObjectThere w) (o ∷ [])
+one_there w o e = All-cons (IsObjectThere w) o [] e (All-nil (IsObjectThere w))
 
-at_place : (w : World) (p : Place) → IsKnown w p → All (IsThere w) (object_at p)
-at_place w place.Vacant known = All-nil (IsThere w)
+at_place : (w : World) (p : Place) → IsKnown w p → All (IsObjectThere w) (object_at p)
+at_place w place.Vacant known = All-nil (IsObjectThere w)
 at_place w (place.File q at) known = one_there w (object.File q) known
 at_place w (place.Pipe q) known = one_there w (object.Pipe q) known
 at_place w (place.Pair q side) known = one_there w (object.Pair q) known.0
 
-two_names : (w : World) (a b : List ℕ) (same : Bool) → All (IsThere w) (if same then object.Name a ∷ [] else object.Name a ∷ object.Name b ∷ [])
+two_names : (w : World) (a b : List ℕ) (same : Bool) → All (IsObjectThere w) (if same then object.Name a ∷ [] else object.Name a ∷ object.Name b ∷ [])
 two_names w a b true = one_there w (object.Name a) refl
-two_names w a b false = All-cons (IsThere w) (object.Name a) (object.Name b ∷ []) refl (one_there w (object.Name b) refl)
+two_names w a b false = All-cons (IsObjectThere w) (object.Name a) (object.Name b ∷ []) refl (one_there w (object.Name b) refl)
 
-of_call : (w : World) (me : Private) (c : Call) → ((h : ℕ) → IsKnown w (place_of me.places h)) → All (IsThere w) (objects_of_call c me)
+of_call : (w : World) (me : Private) (c : Call) → ((h : ℕ) → IsKnown w (place_of me.places h)) → All (IsObjectThere w) (objects_of_call c me)
 of_call w me (call.Load at) known = one_there w (object.Word at) refl
 of_call w me (call.Store at value) known = one_there w (object.Word at) refl
 of_call w me (call.XOpen name) known = one_there w (object.Name name) refl
@@ -60,13 +60,13 @@ of_call w me (call.XCreate name) known = one_there w (object.Name name) refl
 of_call w me (call.XRead h n) known = at_place w (place_of me.places h) (known h)
 of_call w me (call.XWriteOvr h bytes) known = at_place w (place_of me.places h) (known h)
 of_call w me (call.XWriteSeq h bytes) known = at_place w (place_of me.places h) (known h)
-of_call w me (call.XSeek h to) known = All-nil (IsThere w)
+of_call w me (call.XSeek h to) known = All-nil (IsObjectThere w)
 of_call w me (call.XLen h) known = at_place w (place_of me.places h) (known h)
 of_call w me (call.XRename from to) known = two_names w from to (pointwise nat_eq from to)
-of_call w me (call.XClose h) known = All-nil (IsThere w)
-of_call w me call.XPipe known = All-nil (IsThere w)
+of_call w me (call.XClose h) known = All-nil (IsObjectThere w)
+of_call w me call.XPipe known = All-nil (IsObjectThere w)
 of_call w me (call.XReadPipe h n) known = at_place w (place_of me.places h) (known h)
-of_call w me call.XPair known = All-nil (IsThere w)
+of_call w me call.XPair known = All-nil (IsObjectThere w)
 of_call w me (call.XRecvmsg h) known = at_place w (place_of me.places h) (known h)
 of_call w me (call.XUnlink name slot) known = one_there w (object.Name name) refl
 of_call w me (call.XSync h slot) known = at_place w (place_of me.places h) (known h)
@@ -74,23 +74,23 @@ of_call w me (call.XWritePipe h bytes slot) known = at_place w (place_of me.plac
 of_call w me (call.XShutdown h slot) known = at_place w (place_of me.places h) (known h)
 of_call w me (call.XSendmsg h bytes slot) known = at_place w (place_of me.places h) (known h)
 of_call w me (call.XThreadCreate body slot) known = one_there w object.Jobs refl
-of_call w me call.Save known = All-nil (IsThere w)
-of_call w me call.Keep known = All-nil (IsThere w)
-of_call w me call.Back known = All-nil (IsThere w)
+of_call w me call.Save known = All-nil (IsObjectThere w)
+of_call w me call.Keep known = All-nil (IsObjectThere w)
+of_call w me call.Back known = All-nil (IsObjectThere w)
 
 touch_there : (w : World) (me : Private) (c : Call) (words : ℕ) → ((h : ℕ) → IsKnown w (place_of me.places h)) → (o : Object)
-    → Contains (touch c me words) o → IsThere w o
+    → Contains (touch c me words) o → IsObjectThere w o
 touch_there w me c words known o has = at (is_refused c me words) has
   where
-    at : (b : Bool) → Contains (if b then [] else objects_of_call c me) o → IsThere w o
+    at : (b : Bool) → Contains (if b then [] else objects_of_call c me) o → IsObjectThere w o
     at true has = (let lt = has.1 in absurd (omega (arith, lt)))
-    at false has = All-contains (IsThere w) (objects_of_call c me) o (of_call w me c known) has
+    at false has = All-contains (IsObjectThere w) (objects_of_call c me) o (of_call w me c known) has
 
 -- ---- a body's world has no object with the number of another, or one that is still to be given
 free_in : (w v : World) (q : Num) → AgreeAt w v (object.File q) → AgreeAt w v (object.Pipe q) → AgreeAt w v (object.Pair q) → IsFree w q → IsFree v q
 free_in w v q file pipe pair h = record { file = sym file ∙ h.file; pipe = sym pipe ∙ h.pipe; pair = sym pair ∙ h.pair }
 
-not_there : (w : World) (m : ℕ) (o : Object) → ((k : ℕ) → IsFree w (num m k)) → IsNumbered m o → IsThere w o → ⊥
+not_there : (w : World) (m : ℕ) (o : Object) → ((k : ℕ) → IsFree w (num m k)) → IsNumbered m o → IsObjectThere w o → ⊥
 not_there w m (object.File q) free e there = let none : finite.get w.files q ≡ None = subst (λ x. finite.get w.files (num x q.k) ≡ None) (sym e)
     (free q.k).file in cc (none, there)
 not_there w m (object.Pipe q) free e there = let none : finite.get w.pipes q ≡ None = subst (λ x. finite.get w.pipes (num x q.k) ≡ None) (sym e)
@@ -101,7 +101,7 @@ not_there w m (object.Word at) free e there = e
 not_there w m (object.Name name) free e there = e
 not_there w m object.Jobs free e there = e
 
-below_or : (next : ℕ) (w : World) (o : Object) → ((m k : ℕ) → next ≤ m → IsFree w (num m k)) → IsThere w o → IsBelow next o
+below_or : (next : ℕ) (w : World) (o : Object) → ((m k : ℕ) → next ≤ m → IsFree w (num m k)) → IsObjectThere w o → IsBelow next o
 below_or next w (object.File q) free there = ⊎_elim (λ (lt : q.tx < next). lt) (λ (le : next ≤ q.tx). absurd
     (not_there w q.tx (object.File q) (λ k. free q.tx k le) refl there)) (cases_lt q.tx next)
 below_or next w (object.Pipe q) free there = ⊎_elim (λ (lt : q.tx < next). lt) (λ (le : next ≤ q.tx). absurd
@@ -144,7 +144,7 @@ module _ (s : FlightState) (job : ℕ) (t : Tx) (h : InFlight s) (active : IsAct
 
   -- what a call touches is open to it
   pub touches_open : IsSound s.state t.began t.number → ran s.state t ≡ noted s.state t → (c : Call) (words : ℕ) (o : Object)
-      → Contains (touch c t.me words) o → IsOpen s job o
+      → Contains (touch c t.me words) o → IsOpenFor s job o
   touches_open sound same c words o e =
       let there = touch_there (ran s.state t).world t.me c words (ran_sound sound same).handles o e in
       record {
@@ -165,7 +165,7 @@ module _ (s : FlightState) (job : ℕ) (t : Tx) (h : InFlight s) (sound : AreSou
   fit : IsTrue (body_fits s.state t.began t.number (asked_of t.calls t.replies))
   fit =
       let i = (h.flights job t active).inside in
-      let p : IsCommitting s.state t = subst (IsPhase s.state t) phase i.phase in
+      let p : IsCommittingFlight s.state t = subst (IsPhase s.state t) phase i.phase in
       subst (λ l. IsTrue (body_fits s.state t.began t.number l)) (append-nil (asked_of t.calls t.replies))
       (subst (λ l. IsTrue (body_fits s.state t.began t.number (asked_of t.calls t.replies ++ l))) p.all_noted i.fits)
 
@@ -181,9 +181,9 @@ module _ (s : FlightState) (job : ℕ) (t : Tx) (h : InFlight s) (sound : AreSou
       (λ (q : j ≡ job). absurd (cc (
         subst (λ k. IsActive (entered s job (run s.state t.began t.number
             (asked_of t.calls t.replies) t.late_ends).late.world now) k u) q e,
-        get_set_same s.active job None (is_inside s.active job t active),
+        active_set_same s.active job None (is_inside s.active job t active),
       )))
-      (λ (ne : j ≢ job). let before : IsActive s j u = sym (get_set_other s.active job j None ne) ∙ e in
+      (λ (ne : j ≢ job). let before : IsActive s j u = sym (active_set_other s.active job j None ne) ∙ e in
       others_sound u.began u.number (λ z. ne (h.single j job u t before active z)) (sound j u before))
 
   -- for the jobs that have none

@@ -29,7 +29,7 @@ use Rattle.xc_world.specs.Effects.{whole}
 use Rattle.xc_world.specs.Sound.{IsSound, IsFree}
 use Rattle.xc_world.specs.Laws.{AgreeAt}
 use Rattle.xc_world.specs.Own.{IsNumbered}
-use Rattle.xc_world.proofs.Laws.{remains_keep, body_returns, Any, State, any_all, runs_keep, remains-words}
+use Rattle.xc_world.proofs.Laws.{remains_keep, body_returns, Any, BlockHolds, any_all, runs_keep, remains-words}
 use Rattle.xc_flight.specs.Active.{Tx, Own, num}
 use Rattle.xc_flight.specs.Flight.{ran, asked, Inside}
 use Rattle.xc_flight.proofs.Basics.{own_decide}
@@ -61,7 +61,7 @@ taken_solid (call.XReadPipe h n) me (reply.Got bytes) = bytes_solid (place_of me
 taken_solid (call.XRecvmsg h) me (reply.Got bytes) = message_solid (place_of me.places h) bytes
 taken_solid _ me _ = All-nil Solid
 
-all_solid : (tx : ℕ) (b : BlockState) (asked : List CallWithAnswer) → State tx Any (λ r. All Solid r.taken) b → All Solid (runs_on tx b asked).now.taken
+all_solid : (tx : ℕ) (b : BlockState) (asked : List CallWithAnswer) → BlockHolds tx Any (λ r. All Solid r.taken) b → All Solid (runs_on tx b asked).now.taken
 all_solid tx b asked so =
     (runs_keep tx Any (λ r. All Solid r.taken) (record {
       plain = λ r c fit solid. All-append Solid r.taken _ solid (taken_solid c.call r.me _);
@@ -69,9 +69,9 @@ all_solid tx b asked so =
     }) b asked (any_all tx b asked) so).now
 
 -- ---- how much is in the pipe or the pair of an item
-abbrev pub filled : World → KeptItem → ℕ
-filled w (Bytes num bytes) = length (pipe_of w num).held
-filled w (Message num side bytes) = length (pair_of w num).first + length (pair_of w num).second
+abbrev pub amount_in : World → KeptItem → ℕ
+amount_in w (Bytes num bytes) = length (pipe_of w num).held
+amount_in w (Message num side bytes) = length (pair_of w num).first + length (pair_of w num).second
 
 abbrev in_pipe : Option Pipe → ℕ
 in_pipe o = length (unwrap_or o empty_pipe).held
@@ -80,7 +80,7 @@ abbrev in_pair : Option Pair → ℕ
 in_pair o = length (unwrap_or o empty_pair).first + length (unwrap_or o empty_pair).second
 
 -- the same in worlds that agree there
-pub filled_alike : (w v : World) (k : KeptItem) → AgreeAt w v (item_object k) → filled w k ≡ filled v k
+pub filled_alike : (w v : World) (k : KeptItem) → AgreeAt w v (item_object k) → amount_in w k ≡ amount_in v k
 filled_alike w v (Bytes num bytes) e = ap in_pipe e
 filled_alike w v (Message num side bytes) e = ap in_pair e
 
@@ -99,7 +99,7 @@ some_length : (bytes : List ℕ) → (length bytes == 0) ≡ false → 0 < lengt
 some_length [] e = cc e
 some_length (b ∷ bytes) e = omega arith
 
-gives_more : (w : World) (t : KeptItem) → Solid t → filled w t < filled (gives w t) t
+gives_more : (w : World) (t : KeptItem) → Solid t → amount_in w t < amount_in (gives w t) t
 gives_more w (Bytes num bytes) solid =
     let held = (pipe_of w num).held in
     let lt = some_length bytes solid in
@@ -111,7 +111,7 @@ gives_more w (Message num side bytes) solid =
     let put = ap in_pair (get-insert_same num_total num_exact w.pairs num (with_waiting (pair_of w num) side (bytes ∷ waiting (pair_of w num) side))) in
     omega (arith, lt, put)
 
-gives_no_less : (w : World) (t k : KeptItem) → filled w k ≤ filled (gives w t) k
+gives_no_less : (w : World) (t k : KeptItem) → amount_in w k ≤ amount_in (gives w t) k
 gives_no_less w (Bytes num bytes) (Bytes q more) =
     let held = (pipe_of w num).held in
     let sum = length-append bytes held in
@@ -129,12 +129,12 @@ gives_no_less w (Message num side bytes) (Message q other more) =
       | inr e ↦ (let put = ap in_pair e in omega (arith, put))
     ]
 
-given_no_less : (w : World) (ts : List KeptItem) (k : KeptItem) → filled w k ≤ filled (given_back w ts) k
+given_no_less : (w : World) (ts : List KeptItem) (k : KeptItem) → amount_in w k ≤ amount_in (given_back w ts) k
 given_no_less w [] k = omega arith
 given_no_less w (t ∷ ts) k = let a = given_no_less w ts k in let b = gives_no_less (given_back w ts) t k in omega (arith, a, b)
 
 abbrev IsFuller : World → World → KeptItem → Type 0
-IsFuller w v k = filled w k < filled v k
+IsFuller w v k = amount_in w k < amount_in v k
 
 all_fuller : (w : World) (ts : List KeptItem) → All Solid ts → All (IsFuller w (given_back w ts)) ts
 all_fuller w [] solid = All-nil (IsFuller w w)
@@ -146,12 +146,12 @@ all_fuller w (t ∷ ts) solid =
     (all_fuller w ts (All-tail Solid t ts solid)))
 
 -- ---- in what records leave, the pipes and pairs that they made are empty
-moved_filled : (w : World) (from to : List ℕ) (o : Option Num) (k : KeptItem) → filled (move_name w from to o) k ≡ filled w k
+moved_filled : (w : World) (from to : List ℕ) (o : Option Num) (k : KeptItem) → amount_in (move_name w from to o) k ≡ amount_in w k
 moved_filled w from to None k = refl
 moved_filled w from to (Some q) (Bytes num bytes) = refl
 moved_filled w from to (Some q) (Message num side bytes) = refl
 
-effect_empty : (w : World) (u : Undo) (j : ℕ) (k : KeptItem) → filled w k ≡ 0 → filled (with_effect w u j) k ≡ 0
+effect_empty : (w : World) (u : Undo) (j : ℕ) (k : KeptItem) → amount_in w k ≡ 0 → amount_in (with_effect w u j) k ≡ 0
 effect_empty w (undo.Moved from to) j k e = moved_filled w from to (finite.get w.names from) k ∙ e
 effect_empty w (undo.NewPipe n) j (Bytes num bytes) e = elim (get-insert_cases num_total num_exact w.pipes n num empty_pipe) [
   | inl same ↦ ap in_pipe same.1
@@ -171,12 +171,12 @@ effect_empty w (undo.Made name file) j (Bytes num bytes) e = e
 effect_empty w (undo.Made name file) j (Message num side bytes) e = e
 
 -- after several
-pub remains_empty : (w : World) (us : List (Undo × ℕ)) (k : KeptItem) → filled w k ≡ 0 → filled (with_remains w us) k ≡ 0
+pub remains_empty : (w : World) (us : List (Undo × ℕ)) (k : KeptItem) → amount_in w k ≡ 0 → amount_in (with_remains w us) k ≡ 0
 remains_empty w [] k e = e
 remains_empty w ((u, j) ∷ us) k e = remains_empty (with_effect w u j) us k (effect_empty w u j k e)
 
 -- and what has a number that nothing has is empty
-pub new_empty : (w : World) (n : ℕ) (k : KeptItem) → ((i : ℕ) → IsFree w (num n i)) → IsNumbered n (item_object k) → filled w k ≡ 0
+pub new_empty : (w : World) (n : ℕ) (k : KeptItem) → ((i : ℕ) → IsFree w (num n i)) → IsNumbered n (item_object k) → amount_in w k ≡ 0
 new_empty w n (Bytes q bytes) free e = ap in_pipe (subst (λ tx. finite.get w.pipes (num tx q.k) ≡ None) (sym e) (free q.k).pipe)
 new_empty w n (Message q side bytes) free e = ap in_pair (subst (λ tx. finite.get w.pairs (num tx q.k) ≡ None) (sym e) (free q.k).pair)
 
@@ -228,7 +228,7 @@ recorded_coined w me tx call.XPipe r = pipe_coined me tx r
 recorded_coined w me tx call.XPair r = pair_coined me tx r
 recorded_coined w me tx _ r = All-nil (Coined tx)
 
-all_coined : (tx : ℕ) (b : BlockState) (asked : List CallWithAnswer) → State tx Any (λ r. All (Coined tx) r.trail) b
+all_coined : (tx : ℕ) (b : BlockState) (asked : List CallWithAnswer) → BlockHolds tx Any (λ r. All (Coined tx) r.trail) b
     → All (Coined tx) (runs_on tx b asked).now.trail
 all_coined tx b asked so =
     (runs_keep tx Any (λ r. All (Coined tx) r.trail) (record {
@@ -266,10 +266,11 @@ module _ (w : World) (t : Tx) (i : Inside w t) (sound : IsSound w t.began t.numb
       let solid = subst (λ (r : BodyResult). All Solid r.taken) (ran_whole w t)
       (all_solid t.number (opens w t.began) (asked t) (record { now = All-nil Solid; saved = tt })) in
       All-weaker (IsFuller (ran w t).world (given_back (ran w t).world (ran w t).taken)) (IsFuller (ran w t).world (with_remains w (whole (ran w t).trail)))
-      (λ k lt. same_filled k (ap (λ x. filled x k) returns) lt) (ran w t).taken (all_fuller (ran w t).world (ran w t).taken solid)
+      (λ k lt. same_filled k (ap (λ x. amount_in x k) returns) lt) (ran w t).taken (all_fuller (ran w t).world (ran w t).taken solid)
     where
       same_filled : (k : KeptItem)
-          → filled (given_back (ran w t).world (ran w t).taken) k ≡ filled (record (with_remains w (whole (ran w t).trail)) { words = (ran w t).world.words }) k
+          → amount_in (given_back (ran w t).world (ran w t).taken) k
+          ≡ amount_in (record (with_remains w (whole (ran w t).trail)) { words = (ran w t).world.words }) k
           → IsFuller (ran w t).world (given_back (ran w t).world (ran w t).taken) k → IsFuller (ran w t).world (with_remains w (whole (ran w t).trail)) k
       same_filled (Bytes num bytes) e lt = omega (arith, e, lt)
       same_filled (Message num side bytes) e lt = omega (arith, e, lt)

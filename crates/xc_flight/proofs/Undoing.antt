@@ -26,10 +26,10 @@ use Rattle.xc_data.proofs.Laws.{same_object, itself}
 use Rattle.xc_flight.specs.Active.{Tx, Running, Undoing, Own, Has, Covers}
 use Rattle.xc_flight.specs.Flight.{ran, effects, left, returned, IsPhase, Inside, stood, noted, is_source, IsSourced}
 use Rattle.xc_flight.specs.State.{FlightState, IsActive, InFlight, turned, entered}
-use Rattle.xc_flight.specs.Turns.{in_phase, MayDo, wanting, after_call, with_undone}
+use Rattle.xc_flight.specs.Turns.{in_phase, MayDo, wanting_memory, after_call, with_undone}
 use Rattle.xc_flight.proofs.Basics.{owns_has}
 use Rattle.xc_flight.proofs.Frames.{trail_own, left_keeps, all_front}
-use Rattle.xc_flight.proofs.Rows.{goes_on, ends}
+use Rattle.xc_flight.proofs.Rows.{flight_goes_on, end_keeps}
 use Rattle.xc_flight.proofs.Calling.{is_running, running_left, after_keeps, fits_then, step_trail, step_taken, step_covers, step_stands}
 use Rattle.xc_flight.proofs.Taking.{Coined, trail_coined, returns_left, taken_own, taken_elsewhere}
 
@@ -99,7 +99,7 @@ turns_back s job t h active phase sound =
       phase = p.no_late_ends;
       saved = i.saved;
     } in
-    goes_on s job t (in_phase t Undoing) s.now h active refl refl (keeps_itself (Own t) s.now) (record {
+    flight_goes_on s job t (in_phase t Undoing) s.now h active refl refl (keeps_itself (Own t) s.now) (record {
       inside = i';
       owns = turn s.state s.now (in_phase t Undoing) i' sound p.none (λ o e. running_left s job t h active phase o (owns_has t o e));
       sources = λ o e. running_left s job t h active phase o (owns_has t o e.0);
@@ -108,11 +108,11 @@ turns_back s job t h active phase sound =
 -- the call did its part, and then memory ran out
 pub wants : (s : FlightState) (job : ℕ) (t : Tx) (c : CallWithAnswer) → InFlight s → IsActive s job t → t.phase ≡ Running → MayDo s.now t c
     → IsSound s.state t.began t.number
-    → InFlight (turned s job (Some (wanting s.now t c)) (after_call s.now t c))
+    → InFlight (turned s job (Some (wanting_memory s.now t c)) (after_call s.now t c))
 wants s job t c h active phase k sound =
     let i = (h.flights job t active).inside in
     let p = is_running s job t h active phase in
-    let t' = wanting s.now t c in
+    let t' = wanting_memory s.now t c in
     let is : ran s.state t' ≡ step t.number (noted s.state t) c =
     marked_now c.call (stood s.state t).saved (step t.number (noted s.state t) c) k.ahead in
     let i' : Inside s.state t' = record {
@@ -130,7 +130,7 @@ wants s job t c h active phase k sound =
     let stands : AgreeOn (Has t) (after_call s.now t c) (record (ran s.state t').world { words = s.state.words }) =
     λ o e. subst (λ (r : BodyResult). AgreeAt (after_call s.now t c) (record r.world { words = s.state.words }) o) (sym is)
     (step_stands s job t c h active phase k o e) in
-    goes_on s job t t' (after_call s.now t c) h active refl refl (after_keeps s job t c h active phase k) (record {
+    flight_goes_on s job t t' (after_call s.now t c) h active refl refl (after_keeps s job t c h active phase k) (record {
       inside = i';
       owns = turn s.state (after_call s.now t c) t' i' sound p.none (λ o e. stands o (owns_has t o e));
       sources = λ o e. stands o (owns_has t o e.0);
@@ -196,15 +196,16 @@ module _ (s : FlightState) (job : ℕ) (t : Tx) (older : List Undo) (u : Undo) (
       t.taken (subst (All (λ k. IsNumbered t.number (item_object k) → ⊥)) inside.taken (taken_elsewhere s.state t inside sound))
 
   -- what it speaks of is there as its records tell: none of it was taken
-  pub there : (o : Object) → Contains (objects_of u) o → AgreeAt s.now (with_remains s.state (effects t)) o
-  there o at =
+  pub there_as_told : (o : Object) → Contains (objects_of u) o → AgreeAt s.now (with_remains s.state (effects t)) o
+  there_as_told o at =
       agree_on s.now (given_back s.now t.taken) (with_remains s.state (effects t)) o (given_away s.now t.taken o (not_taken o at))
       (owns o (All-contains (Own t) (objects_of u) o record_own at))
 
   both : GoAlike (objects_of u) s.now (with_remains s.state (effects t)) (undone_to s.now u end) (undone_to (with_remains s.state (effects t)) u end)
   both =
       undone_to_alike s.now (with_remains s.state (effects t)) u end
-      (All-weaker (Contains (objects_of u)) (AgreeAt s.now (with_remains s.state (effects t))) there (objects_of u) (All-contains_itself (objects_of u)))
+      (All-weaker (Contains (objects_of u)) (AgreeAt s.now (with_remains s.state (effects t))) there_as_told (objects_of u)
+      (All-contains_itself (objects_of u)))
 
   undone_there : AgreeOn (Own t) (given_back (undone_to s.now u end) t.taken) (undone_to (with_remains s.state (effects t)) u end)
   undone_there o e =
@@ -226,7 +227,7 @@ module _ (s : FlightState) (job : ℕ) (t : Tx) (older : List Undo) (u : Undo) (
       let i = inside in
       let now' = undone_to s.now u end in
       let t' = with_undone t older u end in
-      goes_on s job t t' now' h active refl refl
+      flight_goes_on s job t t' now' h active refl refl
       (record {
         others = λ o lacks. both.left.others o (λ at. lacks (All-contains (Own t)
             (objects_of u) o record_own at));
@@ -254,15 +255,15 @@ module _ (s : FlightState) (job : ℕ) (t : Tx) (older : List Undo) (u : Undo) (
       })
 
 -- ---- an aborted transaction, each of whose records has its end, gives back what it took and enters
-pub aborted : (s : FlightState) (job : ℕ) (t : Tx) → InFlight s → IsActive s job t → t.phase ≡ Undoing → IsSound s.state t.began t.number → t.pending ≡ []
+pub abort_enters : (s : FlightState) (job : ℕ) (t : Tx) → InFlight s → IsActive s job t → t.phase ≡ Undoing → IsSound s.state t.began t.number → t.pending ≡ []
     → InFlight (entered s job (with_remains s.state (remains t.ended)) (given_back s.now t.taken))
-aborted s job t h active phase sound none =
+abort_enters s job t h active phase sound none =
     let f = h.flights job t active in
     let ts = t.taken in
     let now' = given_back s.now ts in
     let same : effects t ≡ remains t.ended = ap (λ us. whole us ++ remains t.ended) none in
     subst (λ es. InFlight (entered s job (with_remains s.state es) now')) same
-    (ends s job t (with_remains s.state (effects t)) now' h active (left_keeps s.state t f.inside Undoing) (record {
+    (end_keeps s job t (with_remains s.state (effects t)) now' h active (left_keeps s.state t f.inside Undoing) (record {
       others = λ o lacks. given_away s.now ts o (All-weaker (λ k. Own t (item_object k)) (λ k. item_object k ≢ o)
           (λ k own e. lacks (subst (Own t) e own)) ts (subst (All (λ k. Own t (item_object k))) f.inside.taken (taken_own s.state t f.inside sound)));
       count = ap length (given_words s.now ts);

@@ -43,8 +43,8 @@ abbrev pub late_done : World → Tx → List (LateCall × LateAnswer)
 late_done w t = late_asked_of (take (length t.late_ends) (ran w t).late) t.late_ends
 
 -- where they lead
-abbrev pub done_late : World → Tx → LateResult
-done_late w t = lates (ran w t).world (late_done w t)
+abbrev pub late_result : World → Tx → LateResult
+late_result w t = lates (ran w t).world (late_done w t)
 
 -- what stands of its records: those with no end yet, whole, and of the others what remains
 abbrev pub effects : Tx → List (Undo × ℕ)
@@ -54,7 +54,7 @@ effects t = whole t.pending ++ remains t.ended
 -- the world that tells what it left at what it owns: a commit has to come before its stores count
 abbrev pub left : World → Tx → Phase → World
 left w t Running = record (ran w t).world { words = w.words }
-left w t Committing = (done_late w t).world
+left w t Committing = (late_result w t).world
 left w t Undoing = with_remains w (effects t)
 
 -- the world that is to be so: while it undoes, what it took from pipes and pairs is still to be given back
@@ -65,7 +65,7 @@ returned now t Committing = now
 
 -- ---- what each phase says
 -- a running one: its stores wait
-pub record IsRunning (w : World) (t : Tx) : Type 0 where
+pub record IsRunningFlight (w : World) (t : Tx) : Type 0 where
   pub none : t.ended ≡ []
   pub all_noted : t.unnoted ≡ []
   pub no_late_ends : t.late_ends ≡ []
@@ -74,18 +74,18 @@ pub record IsRunning (w : World) (t : Tx) : Type 0 where
   pub stored : All (λ s. Own t (object.Word s.0)) t.writes
 
 -- a committing one: its late calls so far ended as their ends tell
-pub record IsCommitting (w : World) (t : Tx) : Type 0 where
+pub record IsCommittingFlight (w : World) (t : Tx) : Type 0 where
   pub none : t.ended ≡ []
   pub all_noted : t.unnoted ≡ []
   -- the ends so far are those of its first late calls
   pub few : length t.late_ends ≤ length t.late
-  pub ends : (done_late w t).ends ≡ t.late_ends
+  pub ends : (late_result w t).ends ≡ t.late_ends
   pub fits : IsTrue (lates_fit (ran w t).world (late_done w t))
 
 -- a transaction in a phase
 abbrev pub IsPhase : World → Tx → Phase → Type 0
-IsPhase w t Running = IsRunning w t
-IsPhase w t Committing = IsCommitting w t
+IsPhase w t Running = IsRunningFlight w t
+IsPhase w t Committing = IsCommittingFlight w t
 IsPhase w t Undoing = t.late_ends ≡ []
 
 -- ---- an open block

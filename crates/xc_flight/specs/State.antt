@@ -115,5 +115,5 @@ abbrev pub entered : FlightState → ℕ → World → World → FlightState
 entered s job state now = record s { state = state; now = now; active = slice_set s.active job None }
 
 -- a job more, which has none
-abbrev pub joined : FlightState → FlightState
-joined s = record s { active = s.active ++ None ∷ [] }
+abbrev pub job_joined : FlightState → FlightState
+job_joined s = record s { active = s.active ++ None ∷ [] }

@@ -58,7 +58,7 @@ abbrev pub claiming : Tx → List Claim → Tx
 claiming t held = record t { held = held }
 
 -- no other active transaction made the object, and it has no number that is still to be given
-pub record IsOpen (s : FlightState) (job : ℕ) (o : Object) : Type 0 where
+pub record IsOpenFor (s : FlightState) (job : ℕ) (o : Object) : Type 0 where
   pub below : IsBelow s.next o
   pub foreign : (j : ℕ) (u : Tx) → j ≢ job → IsActive s j u → IsNumbered u.number o → ⊥
 
@@ -67,16 +67,16 @@ abbrev pub GoTogether : Claim → Claim → Type 0
 GoTogether c d = Clash c d → ⊥
 
 -- a job's claim goes together with all that others hold
-abbrev pub HasNoRival : FlightState → ℕ → Claim → Type 0
-HasNoRival s job c = (j : ℕ) (u : Tx) → j ≢ job → IsActive s j u → All (GoTogether c) u.held
+abbrev pub FitsOthers : FlightState → ℕ → Claim → Type 0
+FitsOthers s job c = (j : ℕ) (u : Tx) → j ≢ job → IsActive s j u → All (GoTogether c) u.held
 
 -- it may be granted
-pub record IsGranted (s : FlightState) (job : ℕ) (c : Claim) : Type 0 where
-  pub object : IsOpen s job c.object
-  pub together : HasNoRival s job c
+pub record MayBeGranted (s : FlightState) (job : ℕ) (c : Claim) : Type 0 where
+  pub object : IsOpenFor s job c.object
+  pub together : FitsOthers s job c
 
 -- the claims of two transactions go together, and neither has what the other made
-pub record AreCompatible (t u : Tx) : Type 0 where
+pub record AreIndependent (t u : Tx) : Type 0 where
   pub numbers : t.number ≢ u.number
   pub together : All (λ c. All (GoTogether c) u.held) t.held
   pub foreign : (o : Object) → Has t o → IsNumbered u.number o → ⊥
@@ -84,39 +84,39 @@ pub record AreCompatible (t u : Tx) : Type 0 where
 
 -- ---- it makes a call
 -- what it sees: the station's world, its stores laid over the words
-abbrev pub seen : World → Tx → World
-seen now t = record now { words = overlaid now.words t.writes }
+abbrev pub world_seen : World → Tx → World
+world_seen now t = record now { words = overlaid now.words t.writes }
 
 -- the call's step in what it sees
 abbrev pub did : World → Tx → CallWithAnswer → Stepped
-did now t asked = act (seen now t) t.me t.number asked.call asked.answer
+did now t asked = act (world_seen now t) t.me t.number asked.call asked.answer
 
 -- the record of the call, where it leaves one
-abbrev pub leaving : World → Tx → CallWithAnswer → List Undo
-leaving now t asked = recorded (seen now t) t.me t.number asked.call (did now t asked).reply
+abbrev pub record_of_call : World → Tx → CallWithAnswer → List Undo
+record_of_call now t asked = recorded (world_seen now t) t.me t.number asked.call (did now t asked).reply
 
 -- what it took from a pipe or a pair
-abbrev pub taking : World → Tx → CallWithAnswer → List KeptItem
-taking now t asked = taken_by asked.call t.me (did now t asked).reply
+abbrev pub taken_by_call : World → Tx → CallWithAnswer → List KeptItem
+taken_by_call now t asked = taken_by asked.call t.me (did now t asked).reply
 
 -- what a save keeps of it
 abbrev pub copy_of : Tx → Saved
 copy_of t = record { places = t.me.places; writes = t.writes; late = t.late; trail = t.pending; taken = t.taken }
 
 -- the block that a call opens or closes: a save's copy is that of the transaction after it
-abbrev pub saved_by : Call → Option Saved → Saved → Option Saved
-saved_by call.Save kept copy = Some copy
-saved_by call.Keep kept copy = None
-saved_by call.Back kept copy = None
+abbrev pub saved_after : Call → Option Saved → Saved → Option Saved
+saved_after call.Save kept copy = Some copy
+saved_after call.Keep kept copy = None
+saved_after call.Back kept copy = None
 -- any other call is made in the block that is open, also one yet to come
-saved_by _ kept copy = kept
+saved_after _ kept copy = kept
 
 -- the transaction with the call noted, and with these stores
-abbrev pub noting : World → Tx → CallWithAnswer → List (ℕ × ℕ) → Tx
-noting now t asked writes =
+abbrev pub noting_call : World → Tx → CallWithAnswer → List (ℕ × ℕ) → Tx
+noting_call now t asked writes =
     let s = did now t asked in
-    let pending = t.pending ++ leaving now t asked in
-    let taken = t.taken ++ taking now t asked in
+    let pending = t.pending ++ record_of_call now t asked in
+    let taken = t.taken ++ taken_by_call now t asked in
     let late = t.late ++ kept_call asked.call t.me s.reply in
     record t {
       me = s.me;
@@ -126,7 +126,8 @@ noting now t asked writes =
       pending = pending;
       taken = taken;
       late = late;
-      saved = saved_by asked.call t.saved (record { places = s.me.places; writes = writes; late = late; trail = pending; taken = taken });
+      saved = saved_after asked.call t.saved
+          (record { places = s.me.places; writes = writes; late = late; trail = pending; taken = taken });
     }
 
 -- the station's world after it: its stores wait
@@ -136,7 +137,7 @@ after_call now t asked = record (did now t asked).world { words = now.words }
 -- a call may be made: it doesn't go back, its answer fits, and its claims are held
 pub record MayDo (now : World) (t : Tx) (asked : CallWithAnswer) : Type 0 where
   pub ahead : is_back asked.call ≡ false
-  pub fit : IsTrue (fits (seen now t) t.me t.number asked.call asked.answer)
+  pub fit : IsTrue (fits (world_seen now t) t.me t.number asked.call asked.answer)
   pub covers : Covers t.held (claims_of asked.call t.me (length now.words))
 
 -- it is noted: the answer is read off the reply, and these are the stores with its own
@@ -146,13 +147,13 @@ pub record IsNoted (now : World) (t : Tx) (asked : CallWithAnswer) (writes : Lis
   pub stored : All (λ s. Own t (object.Word s.0)) writes
 
 -- the call did its part, and memory ran out for its reply: it isn't noted, and the transaction turns back
-abbrev pub wanting : World → Tx → CallWithAnswer → Tx
-wanting now t asked =
+abbrev pub wanting_memory : World → Tx → CallWithAnswer → Tx
+wanting_memory now t asked =
     record t {
       phase = Undoing;
       unnoted = asked ∷ [];
-      pending = t.pending ++ leaving now t asked;
-      taken = t.taken ++ taking now t asked;
+      pending = t.pending ++ record_of_call now t asked;
+      taken = t.taken ++ taken_by_call now t asked;
     }
 
 -- ---- it commits, or turns back

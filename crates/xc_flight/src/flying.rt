@@ -5,7 +5,7 @@ ghost use Rattle.xc_world.specs.Own.{KeepsBut};
 ghost use Rattle.xc_flight.specs.Active.{Tx, Own, Has, num};
 ghost use Rattle.xc_world.specs.Sound.{IsFree};
 ghost use Rattle.xc_flight.specs.Flight.{Flight};
-ghost use Rattle.xc_flight.specs.State.{FlightState, InFlight, Move, active_at, IsActive, turned, joined};
+ghost use Rattle.xc_flight.specs.State.{FlightState, InFlight, Move, active_at, IsActive, turned, job_joined};
 
 /// A move of one transaction, which changes what it owns alone, keeps the flight of every other that
 /// has none of this.
@@ -45,5 +45,5 @@ pub fn an_opening_is_in_flight()
 
 /// A job more, which has no transaction, changes nothing.
 pub fn a_job_more_keeps_all()
-    ensures { (s : FlightState) → InFlight s → InFlight (joined s) }
+    ensures { (s : FlightState) → InFlight s → InFlight (job_joined s) }
 {}

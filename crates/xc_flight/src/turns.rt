@@ -10,8 +10,9 @@ ghost use Rattle.xc_world.specs.Fits.{fits, is_back};
 ghost use Rattle.xc_world.specs.Sound.{IsFree, IsReady};
 ghost use Rattle.xc_data.specs.Claims.{holding, held_of};
 ghost use Rattle.xc_flight.specs.Active.{Tx, Saved, num, Own, Has, HoldTheSame, Running, Committing, Undoing};
-ghost use Rattle.xc_flight.specs.Turns.{starting, seen, claiming, IsGranted, IsOpen, HasNoRival, AreCompatible, MayDo, IsNoted, noting};
-ghost use Rattle.xc_flight.specs.Turns.{went_back, IsWayBack, after_call, in_phase, IsDoneLate, with_end, wanting, with_undone};
+ghost use Rattle.xc_flight.specs.Turns.{starting, world_seen, claiming, MayBeGranted, IsOpenFor, FitsOthers, AreIndependent, MayDo};
+ghost use Rattle.xc_flight.specs.Turns.{IsNoted, noting_call};
+ghost use Rattle.xc_flight.specs.Turns.{went_back, IsWayBack, after_call, in_phase, IsDoneLate, with_end, wanting_memory, with_undone};
 ghost use Rattle.xc_flight.specs.Turns.{after_commit, after_abort};
 ghost use Rattle.xc_data.specs.declared.entry.KeptItem.{KeptItem};
 ghost use Rattle.xc_world.specs.Run.{given_back};
@@ -34,20 +35,20 @@ pub fn a_begin_keeps_all()
 
 /// Claims that go together keep two transactions apart.
 pub fn compatible_claims_are_apart()
-    ensures { (t u : Tx) → AreCompatible t u → (o : Object) → Own t o → Has u o → ⊥ }
+    ensures { (t u : Tx) → AreIndependent t u → (o : Object) → Own t o → Has u o → ⊥ }
 {}
 
 /// What a call of a running transaction touches no other active one has made, and its number, where
 /// it has one, was given.
 pub fn a_call_touches_no_new_object_of_another()
     ensures { (s : FlightState) (job : ℕ) (t : Tx) → Flies s job t Running → IsSoundFor s.state t
-        → (call : Call) (words : ℕ) (o : Object) → Contains (touch call t.me words) o → IsOpen s job o }
+        → (call : Call) (words : ℕ) (o : Object) → Contains (touch call t.me words) o → IsOpenFor s job o }
 {}
 
 /// The claims of a call of a running transaction may be granted where they have no rival.
 pub fn claims_without_a_rival_may_be_granted()
     ensures { (s : FlightState) (job : ℕ) (t : Tx) (call : Call) (words : ℕ) → Flies s job t Running → IsSoundFor s.state t
-        → All (HasNoRival s job) (claims_of call t.me words) → All (IsGranted s job) (claims_of call t.me words) }
+        → All (FitsOthers s job) (claims_of call t.me words) → All (MayBeGranted s job) (claims_of call t.me words) }
 {}
 
 /// Claims that are merged into what is held of others hold the same as all of them.
@@ -58,13 +59,13 @@ pub fn merged_claims_hold_the_same()
 /// Claims that go together with all that others hold may be granted to a running transaction: one
 /// that it holds shared becomes exclusive too.
 pub fn a_claim_keeps_all()
-    ensures { (s : FlightState) (job : ℕ) (t : Tx) (claims held : List Claim) → Flies s job t Running → All (IsGranted s job) claims
+    ensures { (s : FlightState) (job : ℕ) (t : Tx) (claims held : List Claim) → Flies s job t Running → All (MayBeGranted s job) claims
         → HoldTheSame held (t.held ++ claims) → InFlight (turned s job (Some (claiming t held)) s.now) }
 {}
 
 /// What a running transaction has it sees as its body left it.
 pub fn what_one_has_it_sees()
-    ensures { (s : FlightState) (job : ℕ) (t : Tx) → Flies s job t Running → AgreeOn (Has t) (ran s.state t).world (seen s.now t) }
+    ensures { (s : FlightState) (job : ℕ) (t : Tx) → Flies s job t Running → AgreeOn (Has t) (ran s.state t).world (world_seen s.now t) }
 {}
 
 /// No object has a number that a running transaction is still to give.
@@ -77,30 +78,31 @@ pub fn what_it_will_make_is_absent()
 pub fn a_call_keeps_all()
     ensures { (s : FlightState) (job : ℕ) (t : Tx) (asked : CallWithAnswer) (writes : List (ℕ × ℕ)) → Flies s job t Running
         → MayDo s.now t asked → IsNoted s.now t asked writes
-        → InFlight (turned s job (Some (noting s.now t asked writes)) (after_call s.now t asked)) }
+        → InFlight (turned s job (Some (noting_call s.now t asked writes)) (after_call s.now t asked)) }
 {}
 
 /// A call whose claims have no rival, done and noted in one turn, keeps all.
 pub fn a_call_with_claims_keeps_all()
     ensures { (s : FlightState) (job : ℕ) (t : Tx) (asked : CallWithAnswer) (held : List Claim) (writes : List (ℕ × ℕ))
         → Flies s job t Running
-        → IsSoundFor s.state t → is_back asked.call ≡ false → All (HasNoRival s job) (claims_of asked.call t.me (length s.now.words))
+        → IsSoundFor s.state t → is_back asked.call ≡ false → All (FitsOthers s job) (claims_of asked.call t.me (length s.now.words))
         → HoldTheSame held (t.held ++ claims_of asked.call t.me (length s.now.words))
-        → IsTrue (fits (seen s.now t) t.me t.number asked.call asked.answer) → IsNoted s.now (claiming t held) asked writes
-        → InFlight (turned s job (Some (noting s.now (claiming t held) asked writes)) (after_call s.now t asked)) }
+        → IsTrue (fits (world_seen s.now t) t.me t.number asked.call asked.answer) → IsNoted s.now (claiming t held) asked writes
+        → InFlight (turned s job (Some (noting_call s.now (claiming t held) asked writes)) (after_call s.now t asked)) }
 {}
 
 /// A call that did its part before memory ran out for its reply turns its transaction back, and
 /// keeps all: what it left is undone with the rest.
 pub fn a_call_without_memory_keeps_all()
     ensures { (s : FlightState) (job : ℕ) (t : Tx) (asked : CallWithAnswer) → Flies s job t Running
-        → MayDo s.now t asked → IsSoundFor s.state t → InFlight (turned s job (Some (wanting s.now t asked)) (after_call s.now t asked)) }
+        → MayDo s.now t asked → IsSoundFor s.state t
+        → InFlight (turned s job (Some (wanting_memory s.now t asked)) (after_call s.now t asked)) }
 {}
 
 /// A commit writes its stores.
 pub fn a_commit_keeps_all()
     ensures { (s : FlightState) (job : ℕ) (t : Tx) → Flies s job t Running
-        → InFlight (turned s job (Some (in_phase t Committing)) (seen s.now t)) }
+        → InFlight (turned s job (Some (in_phase t Committing)) (world_seen s.now t)) }
 {}
 
 /// What a late call of a committed transaction needs is in the station's world, whoever holds it.

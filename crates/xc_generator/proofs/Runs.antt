@@ -4,7 +4,7 @@ use Rattle.std.proofs.Common.{ℕ, zero, suc, List, [], append_assoc, append-nil
 use Rattle.std.specs.Prelude.{codes}
 use Rattle.std.specs.Fmt.{decimal}
 use Rattle.xc_generator.specs.Draws.{next, state, drawn}
-use Rattle.xc_generator.specs.Generated.{texts, transfer, transfer_lines, transaction, job_lines}
+use Rattle.xc_generator.specs.Generated.{texts, transfer, transfer_lines, transaction, generated_job_lines}
 use Rattle.xc_generator.specs.declared.transfer.Transfer.{Transfer}
 
 -- what is left of texts begins with the first one
@@ -81,7 +81,7 @@ next_state seed now new k is more =
 
 -- after k jobs the lines of the next one
 pub next_job : (seed now k : ℕ) → now ≡ state seed (75 * k)
-    → codes "job g" ++ decimal (k + 1) ++ codes "\n" ++ texts (transaction now) 0 25 ++ codes "end\n" ≡ job_lines seed (k + 1)
+    → codes "job g" ++ decimal (k + 1) ++ codes "\n" ++ texts (transaction now) 0 25 ++ codes "end\n" ≡ generated_job_lines seed (k + 1)
 next_job seed now k is =
     let draws : 75 * k ≡ 3 * (25 * k) = omega arith in
     let from : 25 * k + 0 ≡ 25 * (k + 1 - 1) = omega arith in
@@ -96,14 +96,14 @@ next_job_state seed now new k is more =
     more ∙ ap (λ s. state s 75) is ∙ state_after seed (75 * k) 75 ∙ ap (state seed) job_more
 
 -- a text was printed, and what is left is less by it
-pub goes_on : (text : ℕ → List ℕ) (first k n : ℕ) (out new all : List ℕ) → k < n → new ≡ out ++ text first
+pub text_printed : (text : ℕ → List ℕ) (first k n : ℕ) (out new all : List ℕ) → k < n → new ≡ out ++ text first
     → out ++ texts text first (n - k) ≡ all → new ++ texts text (first + 1) (n - (k + 1)) ≡ all
-goes_on text first k n out new all below printed before =
+text_printed text first k n out new all below printed before =
     ap (λ bs. bs ++ texts text (first + 1) (n - (k + 1))) printed
     ∙ append_assoc out (text first) (texts text (first + 1) (n - (k + 1)))
     ∙ ap (λ bs. out ++ bs) (sym (texts_begin text first k n below)) ∙ before
 
 -- all texts were printed
-pub ends : (text : ℕ → List ℕ) (first k n : ℕ) (out all : List ℕ) → n ≤ k → out ++ texts text first (n - k) ≡ all → out ≡ all
-ends text first k n out all at before =
+pub texts_printed : (text : ℕ → List ℕ) (first k n : ℕ) (out all : List ℕ) → n ≤ k → out ++ texts text first (n - k) ≡ all → out ≡ all
+texts_printed text first k n out all at before =
     sym (append-nil out) ∙ ap (λ bs. out ++ bs) (sym (texts_end text first k n at)) ∙ before

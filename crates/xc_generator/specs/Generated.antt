@@ -10,8 +10,8 @@ texts text first zero = []
 texts text first (suc n) = text first ++ texts text (first + 1) n
 
 -- the line that gives a word its first value
-abbrev pub word_line : ℕ → List ℕ
-word_line index = codes "word " ++ decimal index ++ codes " 1000\n"
+abbrev pub generated_word_line : ℕ → List ℕ
+generated_word_line index = codes "word " ++ decimal index ++ codes " 1000\n"
 
 -- the transaction takes the amount out of a word that has it
 abbrev pub taking_lines : Transfer → List ℕ
@@ -43,10 +43,11 @@ abbrev pub transaction : ℕ → ℕ → List ℕ
 transaction seed k = transfer_lines (transfer seed k)
 
 -- the job of a number, counted from 1, has 25 transactions
-abbrev pub job_lines : ℕ → ℕ → List ℕ
-job_lines seed number = codes "job g" ++ decimal number ++ codes "\n" ++ texts (transaction seed) (25 * (number - 1)) 25 ++ codes "end\n"
+abbrev pub generated_job_lines : ℕ → ℕ → List ℕ
+generated_job_lines seed number =
+    codes "job g" ++ decimal number ++ codes "\n" ++ texts (transaction seed) (25 * (number - 1)) 25 ++ codes "end\n"
 
 -- the script of a seed
 abbrev pub generated : ℕ → List ℕ
-generated seed = codes "words 64\n" ++ texts word_line 0 64 ++ codes "file log\n"
-    ++ texts (job_lines seed) 1 20
+generated seed = codes "words 64\n" ++ texts generated_word_line 0 64 ++ codes "file log\n"
+    ++ texts (generated_job_lines seed) 1 20

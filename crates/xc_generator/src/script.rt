@@ -1,8 +1,8 @@
 ghost use Rattle.std.specs.Prelude.{◌≡◌, ◌++◌, ◌*◌, codes, IfOk, OnOk, string_bytes};
 ghost use Rattle.std.specs.Fmt.{decimal};
 ghost use Rattle.xc_generator.specs.Draws.{state};
-ghost use Rattle.xc_generator.specs.Generated.{word_line, taking_lines, giving_lines, logging_lines, transfer_lines};
-ghost use Rattle.xc_generator.specs.Generated.{texts, transaction, job_lines, generated};
+ghost use Rattle.xc_generator.specs.Generated.{generated_word_line, taking_lines, giving_lines, logging_lines, transfer_lines};
+ghost use Rattle.xc_generator.specs.Generated.{texts, transaction, generated_job_lines, generated};
 
 use crate::draws::Draws;
 use crate::transfer::Transfer;
@@ -10,7 +10,7 @@ use std::alloc::Global;
 use xc_data::{NoMemory, Text};
 
 fn push_words(out: &mut String, count: u64) -> Result<(), NoMemory>
-    ensures { OnOk result (string_bytes out.new ≡ string_bytes out.old ++ texts word_line 0 count) }
+    ensures { OnOk result (string_bytes out.new ≡ string_bytes out.old ++ texts generated_word_line 0 count) }
 {
     for index in 0..count {
         write!(out, "word {index} 1000\n")?;
@@ -80,7 +80,7 @@ fn push_job(out: &mut String, draws: &mut Draws, number: u64) -> Result<(), NoMe
 
 #[tactic(auto, using(crate::proofs::Runs::state_begins))]
 fn push_jobs(out: &mut String, seed: u64, count: u64) -> Result<(), NoMemory>
-    ensures { OnOk result (string_bytes out.new ≡ string_bytes out.old ++ texts (job_lines seed) 1 count) }
+    ensures { OnOk result (string_bytes out.new ≡ string_bytes out.old ++ texts (generated_job_lines seed) 1 count) }
 {
     let mut draws = Draws { state: seed };
     for before in 0..count {

@@ -44,11 +44,11 @@ stands_or_not n (x ∷ xs) =
     ]
 
 -- the numbers from one on, so many
-abbrev AreWithin : ℕ → ℕ → List ℕ → Type 0
-AreWithin from m xs = AllByRecursion (λ k. (from ≤ k) × (k < from + m)) xs
+abbrev AreNumbersWithin : ℕ → ℕ → List ℕ → Type 0
+AreNumbersWithin from m xs = AllByRecursion (λ k. (from ≤ k) × (k < from + m)) xs
 
 -- those that differ from the first are behind it
-behind_first : (from m : ℕ) (xs : List ℕ) → AreWithin from (suc m) xs → AllByRecursion (λ k. nat_eq from k ≡ false) xs → AreWithin (from + 1) m xs
+behind_first : (from m : ℕ) (xs : List ℕ) → AreNumbersWithin from (suc m) xs → AllByRecursion (λ k. nat_eq from k ≡ false) xs → AreNumbersWithin (from + 1) m xs
 behind_first from m [] within apart = tt
 behind_first from m (x ∷ xs) within apart =
     let (above, below) = within.0 in
@@ -85,7 +85,7 @@ fills_without from m xs fills =
     }
 
 -- different numbers within bounds do
-fills_up : (from m : ℕ) (xs : List ℕ) → IsDistinct nat_eq xs → AreWithin from m xs → FillsUp from m xs
+fills_up : (from m : ℕ) (xs : List ℕ) → IsDistinct nat_eq xs → AreNumbersWithin from m xs → FillsUp from m xs
 fills_up from zero [] differ within = record { few = omega arith; all = λ full. IsPermutation-refl [] }
 fills_up from zero (x ∷ xs) differ within = let (above, below) = within.0 in absurd (omega (arith, above, below))
 fills_up from (suc m) xs differ within =
@@ -120,7 +120,7 @@ numbers_differ journal are =
     ne_eqb (get_or (numbers_of journal) i d) (get_or (numbers_of journal) j d) other)
 
 -- they are within 1 and the length
-numbers_within : (journal : List Entry) → AreNumbered (length journal) (entry_begins journal) → AreWithin 1 (length journal) (numbers_of journal)
+numbers_within : (journal : List Entry) → AreNumbered (length journal) (entry_begins journal) → AreNumbersWithin 1 (length journal) (numbers_of journal)
 numbers_within journal are =
     recursion_from_All (λ k. (1 ≤ k) × (k < 1 + length journal)) (numbers_of journal) (λ i d low.
     let size = length-map journal (λ (e : Entry). e.tx) in

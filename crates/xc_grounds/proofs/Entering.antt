@@ -7,7 +7,7 @@ use Rattle.std.specs.declared.option.Option.TheVariants.{None, Some}
 use Rattle.std.proofs.lemmas.Bool.{cases_eq}
 use Rattle.std.proofs.lemmas.Option.{slice_get-get_or}
 use Rattle.std.proofs.Math.ListN.{length-set}
-use Rattle.xc_grounds.specs.Places.{AreEntered, HasPlaces, IsFree}
+use Rattle.xc_grounds.specs.Places.{AreEntered, HasPlaces, IsUnusedNumber}
 use Rattle.xc_grounds.proofs.Fronts.{in_front, of_front}
 
 -- the number at a place of the table
@@ -16,7 +16,7 @@ Found begins number place = (b : ℕ × ℕ) × (slice_get begins place ≡ Some
 
 -- each place in it is one of those that were entered
 found_more : (begins : List (ℕ × ℕ)) (k : ℕ) (b : ℕ × ℕ) (table : List (Option ℕ)) → HasPlaces (take k begins) table → slice_get begins k ≡ Some b
-    → IsFree table b.0 → (number place : ℕ) → get_or (set table b.0 (Some k)) number None ≡ Some place → Found (take (k + 1) begins) number place
+    → IsUnusedNumber table b.0 → (number place : ℕ) → get_or (set table b.0 (Some k)) number None ≡ Some place → Found (take (k + 1) begins) number place
 found_more begins k b table has at free number place e =
     elim (cases_eq number b.0) [
       | inl same ↦
@@ -32,7 +32,8 @@ found_more begins k b table has at free number place e =
 
 -- each that was entered has its place in it
 there_more : (begins : List (ℕ × ℕ)) (k : ℕ) (b : ℕ × ℕ) (table : List (Option ℕ)) → HasPlaces (take k begins) table → slice_get begins k ≡ Some b
-    → IsFree table b.0 → (place : ℕ) (c : ℕ × ℕ) → slice_get (take (k + 1) begins) place ≡ Some c → get_or (set table b.0 (Some k)) c.0 None ≡ Some place
+    → IsUnusedNumber table b.0 → (place : ℕ) (c : ℕ × ℕ) → slice_get (take (k + 1) begins) place ≡ Some c
+    → get_or (set table b.0 (Some k)) c.0 None ≡ Some place
 there_more begins k b table has at free place c stands =
     let (before, stood) = of_front (k + 1) begins place c stands in
     elim (cases_eq place k) [
@@ -48,7 +49,7 @@ there_more begins k b table has at free place c stands =
 
 -- the table has the places of one number more
 pub entered_more : (begins : List (ℕ × ℕ)) (k : ℕ) (b : ℕ × ℕ) (table : List (Option ℕ)) → HasPlaces (take k begins) table → slice_get begins k ≡ Some b
-    → IsFree table b.0 → HasPlaces (take (k + 1) begins) (set table b.0 (Some k))
+    → IsUnusedNumber table b.0 → HasPlaces (take (k + 1) begins) (set table b.0 (Some k))
 entered_more begins k b table has at free =
     record {
       none = get_or-set_other table b.0 0 (Some k) None (λ e. let above = free.above in absurd (omega (arith, above, e))) ∙ has.none;
@@ -58,7 +59,7 @@ entered_more begins k b table has at free =
 
 -- what the table has after an entry whose number was free
 pub entered_free : (begins : List (ℕ × ℕ)) (k : ℕ) (b : ℕ × ℕ) (table new : List (Option ℕ)) (was : Bool) → HasPlaces (take k begins) table
-    → slice_get begins k ≡ Some b → Decides was (IsFree table b.0) → new ≡ (if was then set table b.0 (Some k) else table) → was ≡ true
+    → slice_get begins k ≡ Some b → Decides was (IsUnusedNumber table b.0) → new ≡ (if was then set table b.0 (Some k) else table) → was ≡ true
     → HasPlaces (take (k + 1) begins) new × (length new ≡ length table)
 entered_free begins k b table new was has at says is free =
     let same : new ≡ set table b.0 (Some k) = is ∙ ap (λ t. if t then set table b.0 (Some k) else table) free in (
@@ -68,7 +69,7 @@ entered_free begins k b table new was has at says is free =
 
 -- so many were entered where the next one's number isn't free
 pub entered_all : (begins : List (ℕ × ℕ)) (k : ℕ) (table new : List (Option ℕ)) (was : Bool) → HasPlaces (take k begins) table → k < length begins
-    → Decides was (IsFree table (get_or begins k (0, 0)).0)
+    → Decides was (IsUnusedNumber table (get_or begins k (0, 0)).0)
     → new ≡ (if was then set table (get_or begins k (0, 0)).0 (Some k) else table) → was ≡ false
     → AreEntered begins (length table) k new
 entered_all begins k table new was has low says is taken =
@@ -80,6 +81,6 @@ entered_all begins k table new was has low says is taken =
       has = subst (HasPlaces (take k begins)) (sym same) has;
       stopped = λ c at free.
           let one : b ≡ c = let there = slice_get-get_or begins k (0, 0) low in cc (at, there) in
-          let was_free = says.1 (subst (λ (d : ℕ × ℕ). IsFree table d.0) (sym one) (subst (λ t. IsFree t c.0) same free)) in
+          let was_free = says.1 (subst (λ (d : ℕ × ℕ). IsUnusedNumber table d.0) (sym one) (subst (λ t. IsUnusedNumber t c.0) same free)) in
           cc (was_free, taken);
     }

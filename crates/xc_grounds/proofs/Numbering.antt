@@ -9,7 +9,7 @@ use Rattle.std.proofs.lemmas.List.Elements.{All-take}
 use Rattle.xc_data.proofs.Laws.{get_map}
 use Rattle.xc_model.specs.Grounds.{Part}
 use Rattle.xc_grounds.specs.Numbered.{AreInOrder, AreNumbered, IsFirstMisnumbered, part_begin, part_begins}
-use Rattle.xc_grounds.specs.Places.{AreEntered, HasPlaces, IsFirstDisordered, IsFree}
+use Rattle.xc_grounds.specs.Places.{AreEntered, HasPlaces, IsFirstDisordered, IsUnusedNumber}
 use Rattle.xc_grounds.proofs.Entering.{entered_free}
 use Rattle.xc_grounds.proofs.Fronts.{in_front, of_front}
 use Rattle.xc_grounds.proofs.Orders.{number_within, one_place}
@@ -62,7 +62,7 @@ unused_there begins count entered table has b last numbered (Some place) is =
 
 -- a right number that comes next is free
 pub free_there : (begins : List (ℕ × ℕ)) (count entered : ℕ) (table : List (Option ℕ)) → HasPlaces (take entered begins) table → length table ≡ count + 1
-    → (b : ℕ × ℕ) → slice_get (take (entered + 1) begins) entered ≡ Some b → AreNumbered count (take (entered + 1) begins) → IsFree table b.0
+    → (b : ℕ × ℕ) → slice_get (take (entered + 1) begins) entered ≡ Some b → AreNumbered count (take (entered + 1) begins) → IsUnusedNumber table b.0
 free_there begins count entered table has size b last numbered =
     let low = slice_get_within (take (entered + 1) begins) entered b last in
     let (above, below) = subst (λ (a : ℕ × ℕ). (1 ≤ a.0) × (a.0 ≤ count)) (get_or_from_slice_get (take (entered + 1) begins) entered b b last)
@@ -98,7 +98,7 @@ front_right begins count k are =
 -- where numbers are right, the table has the place of one part more
 pub part_entered : (parts : List Part) (k : ℕ) (part : Part) (table new : List (Option ℕ)) (was : Bool) → AreNumbered (length parts) (part_begins parts)
     → HasPlaces (take k (part_begins parts)) table → length table ≡ length parts + 1 → slice_get parts k ≡ Some part
-    → Decides was (IsFree table part.number) → new ≡ (if was then set table part.number (Some k) else table)
+    → Decides was (IsUnusedNumber table part.number) → new ≡ (if was then set table part.number (Some k) else table)
     → HasPlaces (take (k + 1) (part_begins parts)) new × (length new ≡ length parts + 1)
 part_entered parts k part table new was are has size stands says is =
     let begins = part_begins parts in

@@ -11,7 +11,7 @@ pub record HasPlaces (begins : List (ℕ × ℕ)) (table : List (Option ℕ)) : 
   pub there : (place : ℕ) (b : ℕ × ℕ) → slice_get begins place ≡ Some b → get_or table b.0 None ≡ Some place
 
 -- a number of the table that has no place yet
-pub record IsFree (table : List (Option ℕ)) (number : ℕ) : Type 0 where
+pub record IsUnusedNumber (table : List (Option ℕ)) (number : ℕ) : Type 0 where
   pub above : 1 ≤ number
   pub within : number < length table
   pub unused : get_or table number None ≡ None
@@ -21,7 +21,7 @@ pub record AreEntered (begins : List (ℕ × ℕ)) (size count : ℕ) (table : L
   pub within : count ≤ length begins
   pub same : length table ≡ size
   pub has : HasPlaces (take count begins) table
-  pub stopped : (b : ℕ × ℕ) → slice_get begins count ≡ Some b → IsFree table b.0 → ⊥
+  pub stopped : (b : ℕ × ℕ) → slice_get begins count ≡ Some b → IsUnusedNumber table b.0 → ⊥
 
 -- the transaction of this number began then
 pub record IsBegin (begins : List (ℕ × ℕ)) (number began : ℕ) : Type 0 where

@@ -1,6 +1,6 @@
 ghost use Rattle.std.specs.Bool.{Decides};
 ghost use Rattle.std.specs.Prelude.{◌≡◌, ◌+◌, ◌<◌, ◌^◌, [], IfOk, None, Some, get_or, if◌then◌else◌, length, slice_set};
-ghost use Rattle.xc_grounds.specs.Places.{HasPlaces, IsFree};
+ghost use Rattle.xc_grounds.specs.Places.{HasPlaces, IsUnusedNumber};
 
 use std::alloc::Global;
 use xc_data::NoMemory;
@@ -31,7 +31,7 @@ impl Places {
 
     /// Gives a number its place, where it is free, and says whether it was.
     pub(crate) fn enter(&mut self, number: u32, place: u32) -> bool
-        ensures free { Decides result (IsFree self.old.by_number.items number) }
+        ensures free { Decides result (IsUnusedNumber self.old.by_number.items number) }
         ensures table { self.new.by_number.items
             ≡ (if result then slice_set self.old.by_number.items number (Some place) else self.old.by_number.items) }
     {

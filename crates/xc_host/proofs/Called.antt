@@ -3,7 +3,7 @@ use Rattle.std.proofs.Common.{ℕ, zero, suc, ◌+◌, ◌<◌, List, [], ◌∷
 use Rattle.std.proofs.lemmas.List.{replicate_more}
 use Rattle.std.proofs.lemmas.List.Sums.{sum_by-append}
 use Rattle.xc_data.specs.Counts.{RisesBy}
-use Rattle.xc_data.specs.declared.script.Kind.{Kind}
+use Rattle.xc_data.specs.declared.script.HostCallKind.{HostCallKind}
 use Rattle.xc_host.specs.Cause.{IsCalled, counts_for, times}
 use Rattle.xc_host.specs.Model.{HostModel, IsUsed}
 use Rattle.xc_host.specs.Uses.{Uses, MovesBy}
@@ -17,7 +17,7 @@ rises_sum (suc m) (suc n) a b c h k =
     subst (λ x. RisesBy x a c) (let e : suc (m + suc n) ≡ suc m + suc n = omega arith in e) all
 
 -- calls, and others after them
-pub called_then : (made more : List Kind) (a b c : Kind → ℕ) → IsCalled made a b → IsCalled more b c → IsCalled (made ++ more) a c
+pub called_then : (made more : List HostCallKind) (a b c : HostCallKind → ℕ) → IsCalled made a b → IsCalled more b c → IsCalled (made ++ more) a c
 called_then made more a b c first then kind =
     subst (λ n. RisesBy n (a kind) (c kind)) (sym (sum_by-append (λ k. cond (counts_for kind k) 1 0) made more))
     (rises_sum (times kind made) (times kind more) (a kind) (b kind) (c kind) (first kind) (then kind))
@@ -28,7 +28,7 @@ module _ {H : Type 0} (model : HostModel H) where
   unused a = record { called = λ kind. refl; plan = refl }
 
   -- a host that was used once more
-  pub used_then : (made more : List Kind) (a b c : H) → IsUsed model made (record { old = a; new = b })
+  pub used_then : (made more : List HostCallKind) (a b c : H) → IsUsed model made (record { old = a; new = b })
       → IsUsed model more (record { old = b; new = c }) → IsUsed model (made ++ more) (record { old = a; new = c })
   used_then made more a b c first then = record {
     called = called_then made more (model.calls a) (model.calls b) (model.calls c) first.called then.called;
@@ -36,14 +36,14 @@ module _ {H : Type 0} (model : HostModel H) where
   }
 
   -- one more call of the same kind
-  pub used_again : (n : ℕ) (kind : Kind) (a b c : H) → IsUsed model (replicate n kind) (record { old = a; new = b })
+  pub used_again : (n : ℕ) (kind : HostCallKind) (a b c : H) → IsUsed model (replicate n kind) (record { old = a; new = b })
       → IsUsed model (kind ∷ []) (record { old = b; new = c }) → IsUsed model (replicate (n + 1) kind) (record { old = a; new = c })
   used_again n kind a b c first then =
       subst (λ made. IsUsed model made (record { old = a; new = c })) (replicate_more n kind)
       (used_then (replicate n kind) (kind ∷ []) a b c first then)
 
   -- one more call of a kind moved some bytes
-  pub moves_more : (kind : Kind) (done others now : ℕ) (a b c : H) → done < now → Uses model (record { old = a; new = b }) (MovesBy kind done others)
+  pub moves_more : (kind : HostCallKind) (done others now : ℕ) (a b c : H) → done < now → Uses model (record { old = a; new = b }) (MovesBy kind done others)
       → IsUsed model (kind ∷ []) (record { old = b; new = c }) → Uses model (record { old = a; new = c }) (MovesBy kind now others)
   moves_more kind done others now a b c more so_far last =
       let (count, moved, is) = so_far.named in
@@ -56,7 +56,7 @@ module _ {H : Type 0} (model : HostModel H) where
       }
 
   -- one more call of a kind moved none
-  pub moves_none : (kind : Kind) (done others : ℕ) (a b c : H) → Uses model (record { old = a; new = b }) (MovesBy kind done others)
+  pub moves_none : (kind : HostCallKind) (done others : ℕ) (a b c : H) → Uses model (record { old = a; new = b }) (MovesBy kind done others)
       → IsUsed model (kind ∷ []) (record { old = b; new = c }) → Uses model (record { old = a; new = c }) (MovesBy kind done (others + 1))
   moves_none kind done others a b c so_far last =
       let (count, moved, is) = so_far.named in

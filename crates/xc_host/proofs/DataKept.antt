@@ -14,8 +14,8 @@ use Rattle.xc_host.specs.Pairs.{sent_from}
 use Rattle.xc_host.specs.Pipes.{put_front, put_into, shut_in, taken_from, with_new_pipe}
 
 -- what is there is there after a change of nothing
-pub keeps_itself : (c : Contents) → KeepsData c c
-keeps_itself c = record { pipes = λ num is. is; pairs = λ num is. is }
+pub data_keeps_itself : (c : Contents) → KeepsData c c
+data_keeps_itself c = record { pipes = λ num is. is; pairs = λ num is. is }
 
 -- and after two changes that keep all
 pub keeps_then : (c d e : Contents) → KeepsData c d → KeepsData d e → KeepsData c e
@@ -35,7 +35,7 @@ keeps_put c at bytes = record { pipes = λ num is. still_there c.pipes at num _ 
 
 -- none, or some
 pub keeps_front : (c : Contents) (at : Num) (bytes : List ℕ) → KeepsData c (put_front c at bytes)
-keeps_front c at [] = keeps_itself c
+keeps_front c at [] = data_keeps_itself c
 keeps_front c at (b ∷ bs) = keeps_put c at (b ∷ bs)
 
 -- bytes that are taken
@@ -54,7 +54,7 @@ keeps_sent c at side bytes = record { pipes = λ num is. is; pairs = λ num is. 
 pub keeps_shut : (c : Contents) (o : Object) → KeepsData c (shut_in c o)
 keeps_shut c (object.Pipe at) = record { pipes = λ num is. still_there c.pipes at num _ is; pairs = λ num is. is }
 keeps_shut c (object.Pair at) = record { pipes = λ num is. is; pairs = λ num is. still_there c.pairs at num _ is }
-keeps_shut c (object.Word n) = keeps_itself c
-keeps_shut c (object.Name name) = keeps_itself c
-keeps_shut c (object.File num) = keeps_itself c
-keeps_shut c object.Jobs = keeps_itself c
+keeps_shut c (object.Word n) = data_keeps_itself c
+keeps_shut c (object.Name name) = data_keeps_itself c
+keeps_shut c (object.File num) = data_keeps_itself c
+keeps_shut c object.Jobs = data_keeps_itself c

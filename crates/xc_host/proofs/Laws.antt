@@ -27,7 +27,7 @@ pub use Rattle.xc_host.proofs.Called.{moves_none}
 pub use Rattle.xc_host.proofs.PipeSteps.{front_put}
 -- ---- DataKept: Calls of a host that keep each pipe and each pair.
 -- what is there is there after a change of nothing
-pub use Rattle.xc_host.proofs.DataKept.{keeps_itself}
+pub use Rattle.xc_host.proofs.DataKept.{data_keeps_itself}
 -- and after two changes that keep all
 pub use Rattle.xc_host.proofs.DataKept.{keeps_then}
 -- none, or some

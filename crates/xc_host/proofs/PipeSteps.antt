@@ -47,10 +47,10 @@ front_put c num done more bytes some le =
     put_front-put c num (take done bytes) (take more (drop done bytes)) (omega (arith, count)) ∙ ap (put_front c num) (sym (take-add done more bytes))
 
 -- ---- bytes that are taken
-abbrev without_front : Pipe → ℕ → Pipe
-without_front pipe n = record pipe { held = drop n pipe.held }
+abbrev pipe_without_front : Pipe → ℕ → Pipe
+pipe_without_front pipe n = record pipe { held = drop n pipe.held }
 
 take-take : (c : Contents) (num : Num) (m n : ℕ) → taken_from (taken_from c num m) num n ≡ taken_from c num (m + n)
 take-take c num m n =
-    twice c num (without_front (pipe_in c num) m) (λ p. without_front p n)
+    twice c num (pipe_without_front (pipe_in c num) m) (λ p. pipe_without_front p n)
     ∙ ap (λ held. with_it c num (record (pipe_in c num) { held = held })) (drop-drop n m (pipe_in c num).held)

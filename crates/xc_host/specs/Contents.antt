@@ -77,8 +77,8 @@ abbrev pub with_contents : World → Contents → World
 with_contents w c = record w { names = c.names; files = c.files; pipes = c.pipes; pairs = c.pairs }
 
 -- ---- an opening
-abbrev pub nothing : Contents
-nothing = record { names = map.empty; files = map.empty; pipes = map.empty; pairs = map.empty }
+abbrev pub no_contents : Contents
+no_contents = record { names = map.empty; files = map.empty; pipes = map.empty; pairs = map.empty }
 
 -- a world of these contents alone
 abbrev pub world_of : Contents → World
@@ -86,7 +86,7 @@ world_of c = record { words = []; names = c.names; files = c.files; pipes = c.pi
 
 -- exactly these objects, numbered in their order
 abbrev pub opened : List Opened → Contents
-opened objects = contents_of (with_all_opened (world_of nothing) 0 objects)
+opened objects = contents_of (with_all_opened (world_of no_contents) 0 objects)
 
 -- a prologue with a line that only a scripted host can follow
 abbrev pub needs_scripted : Prologue → Bool

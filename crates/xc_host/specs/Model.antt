@@ -2,7 +2,7 @@
 use Rattle.std.specs.Prelude.{◌≡◌, ℕ, Bool, [], ◌∷◌, List, Option, Result, IfOk, OnErr, IsTrue}
 use Rattle.xc_data.specs.Counts.{CountsFault}
 use Rattle.xc_data.specs.declared.script.FaultLine.{FaultLine}
-use Rattle.xc_data.specs.declared.script.Kind.{Kind}
+use Rattle.xc_data.specs.declared.script.HostCallKind.{HostCallKind}
 use Rattle.xc_data.specs.declared.script.Prologue.{Prologue}
 use Rattle.xc_data.specs.Step.{Step}
 use Rattle.xc_host.specs.Cause.{is_fault, IsCalled}
@@ -29,18 +29,18 @@ pub record HostModel (H : Type 0) : Type 0 where
   -- how often it has answered a fault; at the last value of a u64 it stays
   pub fault_count : H → ℕ
   -- how many calls of each kind it has had since it was opened; at the last value of a u64 a count stays
-  pub calls : H → Kind → ℕ
+  pub calls : H → HostCallKind → ℕ
   -- what the prologue said with which it was opened last
   pub plan : H → Plan
 
 -- it was called so, with so many faults, and follows the same plan
-pub record IsUsed {H : Type 0} (model : HostModel H) (made : List Kind) (step : Step H) : Type 0 where
+pub record IsUsed {H : Type 0} (model : HostModel H) (made : List HostCallKind) (step : Step H) : Type 0 where
   pub called : IsCalled made (model.calls step.old) (model.calls step.new)
   pub plan : model.plan step.new ≡ model.plan step.old
 
 -- one call of a host. Over one that tells, its contents after an answer are what the effect makes of those before, and where
 -- the call failed they are as before. The count of faults rises exactly where it answers a fault
-pub record Answers {H T : Type 0} (model : HostModel H) (kind : Kind) (step : Step H) (answer : Result T HostErr)
+pub record Answers {H T : Type 0} (model : HostModel H) (kind : HostCallKind) (step : Step H) (answer : Result T HostErr)
     (effect : T → Contents → Contents) : Type 0 where
   pub used : IsUsed model (kind ∷ []) step
   pub cause : CountsFault (is_fault answer) (model.fault_count step.old) (model.fault_count step.new)

@@ -52,8 +52,8 @@ without_pipe c num = record c { pipes = map.remove c.pipes num }
 
 -- ---- what a call says of a pipe
 -- how many bytes it holds, and whether it is shut
-abbrev pub state_of : Pipe → HostState
-state_of pipe = record { held = length pipe.held; shut = pipe.shut }
+abbrev pub pipe_state : Pipe → HostState
+pipe_state pipe = record { held = length pipe.held; shut = pipe.shut }
 
 -- what a take gives: a front of the bytes; Empty where none is held and the pipe isn't shut, and End where none is and it is
 abbrev pub IsTakenOf : Pipe → Took → Type 0

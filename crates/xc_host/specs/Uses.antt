@@ -10,8 +10,8 @@ use Rattle.xc_data.specs.declared.call.LateEnd.{LateEnd}
 use Rattle.xc_data.specs.declared.call.LateEnd.TheVariants as late_end
 use Rattle.xc_data.specs.declared.call.Reply.{Reply}
 use Rattle.xc_data.specs.declared.call.Reply.TheVariants as reply
-use Rattle.xc_data.specs.declared.script.Kind.{Kind}
-use Rattle.xc_data.specs.declared.script.Kind.TheVariants as kind
+use Rattle.xc_data.specs.declared.script.HostCallKind.{HostCallKind}
+use Rattle.xc_data.specs.declared.script.HostCallKind.TheVariants as kind
 use Rattle.xc_data.specs.declared.undo.Undo.{Undo}
 use Rattle.xc_data.specs.declared.undo.Undo.TheVariants.{Bytes, Tail, Made, Moved, NewPipe, NewPair}
 use Rattle.xc_data.specs.declared.undo.UndoEnd.{UndoEnd}
@@ -25,7 +25,7 @@ pub record MayMove (n count : ℕ) : Type 0 where
   pub least : 1 ≤ n → 1 ≤ count
 
 -- calls of one kind moved so many bytes piece by piece, and so many others among them moved none
-abbrev pub MovesBy : Kind → ℕ → ℕ → List Kind → Type 0
+abbrev pub MovesBy : HostCallKind → ℕ → ℕ → List HostCallKind → Type 0
 MovesBy kind done others made = (count : ℕ) × MayMove done count × (made ≡ replicate (others + count) kind)
 
 -- ---- a call of a transaction
@@ -44,7 +44,7 @@ TakesFor n reply.End count = count ≡ 1
 TakesFor n r count = MayMove n count
 
 -- so many old bytes are read, and then so many calls write
-abbrev pub overwrites : ℕ → ℕ → List Kind
+abbrev pub overwrites : ℕ → ℕ → List HostCallKind
 overwrites reads writes = kind.Len ∷ replicate reads kind.ReadAt ++ replicate writes kind.WriteAt
 
 -- how often an overwrite of n bytes reads and writes; nothing is written before the old bytes are there
@@ -62,13 +62,13 @@ AppendsFor n (reply.Fault (suc done)) count = (2 ≤ count) × (count ≤ done +
 AppendsFor n r count = count ≡ 0
 
 -- what a create makes: a fault stops it at either call
-abbrev pub CreatesFor : Reply → List Kind → Type 0
+abbrev pub CreatesFor : Reply → List HostCallKind → Type 0
 CreatesFor (reply.Made h) made = made ≡ kind.Lookup ∷ kind.Create ∷ []
 CreatesFor (reply.Fault n) made = (made ≡ kind.Lookup ∷ []) ⊎ (made ≡ kind.Lookup ∷ kind.Create ∷ [])
 CreatesFor r made = made ≡ kind.Lookup ∷ []
 
 -- the same of a rename
-abbrev pub RenamesFor : Reply → List Kind → Type 0
+abbrev pub RenamesFor : Reply → List HostCallKind → Type 0
 RenamesFor reply.Done made = made ≡ kind.Lookup ∷ kind.Lookup ∷ kind.Rename ∷ []
 RenamesFor reply.NoName made = made ≡ kind.Lookup ∷ []
 RenamesFor (reply.Fault n) made =
@@ -76,12 +76,12 @@ RenamesFor (reply.Fault n) made =
 RenamesFor r made = made ≡ kind.Lookup ∷ kind.Lookup ∷ []
 
 -- a receipt asks the host once, and not where it got a message that is kept
-abbrev pub ReceiptsFor : Reply → List Kind → Type 0
+abbrev pub ReceiptsFor : Reply → List HostCallKind → Type 0
 ReceiptsFor (reply.Got message) made = (made ≡ []) ⊎ (made ≡ kind.Recv ∷ [])
 ReceiptsFor r made = made ≡ kind.Recv ∷ []
 
 -- what a call makes that no check refused; one that isn't named makes none
-abbrev pub CallsFor : Call → Reply → List Kind → Type 0
+abbrev pub CallsFor : Call → Reply → List HostCallKind → Type 0
 CallsFor (call.XOpen name) r made = made ≡ kind.Lookup ∷ []
 CallsFor (call.XCreate name) r made = CreatesFor r made
 CallsFor (call.XRead h n) r made = (count : ℕ) × ReadsFor n r count × (made ≡ replicate count kind.ReadAt)
@@ -100,13 +100,13 @@ CallsFor (call.XRecvmsg h) r made = ReceiptsFor r made
 CallsFor c r made = made ≡ []
 
 -- what a call makes; one that a check refused makes none
-abbrev pub CallsOf : Option Reply → Call → Reply → List Kind → Type 0
+abbrev pub CallsOf : Option Reply → Call → Reply → List HostCallKind → Type 0
 CallsOf (Some refused) c r made = made ≡ []
 CallsOf None c r made = CallsFor c r made
 
 -- ---- where memory ran out after some of them
 -- the kinds of calls that it makes, in the order in which it begins with them
-abbrev pub StopsFor : Call → List Kind → Type 0
+abbrev pub StopsFor : Call → List HostCallKind → Type 0
 StopsFor (call.XOpen name) made = made ≡ kind.Lookup ∷ []
 StopsFor (call.XCreate name) made = (made ≡ kind.Lookup ∷ []) ⊎ (made ≡ kind.Lookup ∷ kind.Create ∷ [])
 StopsFor (call.XRead h n) made = (count : ℕ) × MayMove n count × (made ≡ replicate count kind.ReadAt)
@@ -121,7 +121,7 @@ StopsFor c made = made ≡ []
 
 -- ---- a late call
 -- what an unlink makes that ended so
-abbrev pub UnlinksFor : LateEnd → List Kind → Type 0
+abbrev pub UnlinksFor : LateEnd → List HostCallKind → Type 0
 UnlinksFor late_end.Done made = made ≡ kind.Lookup ∷ kind.Unlink ∷ []
 UnlinksFor (late_end.Fault n) made = (made ≡ kind.Lookup ∷ []) ⊎ (made ≡ kind.Lookup ∷ kind.Unlink ∷ [])
 UnlinksFor end made = made ≡ kind.Lookup ∷ []
@@ -137,14 +137,14 @@ PutsFor n (late_end.NoMemory (suc done)) count = (2 ≤ count) × (count ≤ don
 PutsFor n end count = count ≡ 0
 
 -- what a message's sending makes that ended so: after the look at what waits for the other side, one call
-abbrev pub SendsFor : LateEnd → List Kind → Type 0
+abbrev pub SendsFor : LateEnd → List HostCallKind → Type 0
 SendsFor late_end.Done made = made ≡ kind.PairState ∷ kind.Send ∷ []
 SendsFor (late_end.Fault n) made = (made ≡ kind.PairState ∷ []) ⊎ (made ≡ kind.PairState ∷ kind.Send ∷ [])
 SendsFor (late_end.NoMemory n) made = made ≡ kind.PairState ∷ kind.Send ∷ []
 SendsFor end made = made ≡ kind.PairState ∷ []
 
 -- what a late call makes; one that isn't named makes none
-abbrev pub LatesFor : LateCall → LateEnd → List Kind → Type 0
+abbrev pub LatesFor : LateCall → LateEnd → List HostCallKind → Type 0
 LatesFor (late.Unlink name) end made = UnlinksFor end made
 LatesFor (late.Sync num) end made = made ≡ kind.Sync ∷ []
 LatesFor (late.WritePipe num bytes) end made =
@@ -155,7 +155,7 @@ LatesFor c end made = made ≡ []
 
 -- ---- a compensation
 -- the kind that takes a record back
-abbrev pub back_kind : Undo → Kind
+abbrev pub back_kind : Undo → HostCallKind
 back_kind (Bytes file at before after n) = kind.Restore
 back_kind (Tail file from after n) = kind.Cut
 back_kind (Made name num) = kind.Uncreate
@@ -169,19 +169,19 @@ PartsOf (Bytes file at before after n) done count = MayMove done count
 PartsOf u done count = count ≡ done
 
 -- how much of a record this end restored
-abbrev pub restored : Undo → UndoEnd → ℕ
-restored (Bytes file at before after n) (Undone faults) = n
-restored u (Undone faults) = 1
-restored u (Failed done faults) = done
-restored u (Blocked by) = 0
+abbrev pub restored_part : Undo → UndoEnd → ℕ
+restored_part (Bytes file at before after n) (Undone faults) = n
+restored_part u (Undone faults) = 1
+restored_part u (Failed done faults) = done
+restored_part u (Blocked by) = 0
 
 -- what a compensation makes: calls of one kind, one for each fault and one for each part
-abbrev pub BacksFor : Undo → UndoEnd → List Kind → Type 0
-BacksFor u end made = (count : ℕ) × PartsOf u (restored u end) count × (made ≡ replicate (end_faults end + count) (back_kind u))
+abbrev pub BacksFor : Undo → UndoEnd → List HostCallKind → Type 0
+BacksFor u end made = (count : ℕ) × PartsOf u (restored_part u end) count × (made ≡ replicate (end_faults end + count) (back_kind u))
 
 -- ---- a host that was used
 -- it follows the same plan, and was called so
-pub record Uses {H : Type 0} (model : HostModel H) (step : Step H) (IsMade : List Kind → Type 0) : Type 0 where
-  pub made : List Kind
+pub record Uses {H : Type 0} (model : HostModel H) (step : Step H) (IsMade : List HostCallKind → Type 0) : Type 0 where
+  pub made : List HostCallKind
   pub named : IsMade made
   pub used : IsUsed model made step

@@ -1,17 +1,17 @@
 ghost use Rattle.std.specs.Prelude.{◌≡◌, ◌<◌, [], ◌∷◌};
-ghost use Rattle.xc_data.specs.Kinds.{place_of};
+ghost use Rattle.xc_data.specs.Kinds.{kind_place};
 ghost use Rattle.xc_host.specs.Cause.{IsCalled};
-ghost use Rattle.xc_host.specs.Counting.{no_calls, calls_of, next_of, with_call};
+ghost use Rattle.xc_host.specs.Counting.{no_calls, calls_of, next_call_number, with_call};
 
 use std::marker::Model;
-use xc_data::Kind;
+use xc_data::HostCallKind;
 
 /// How many kinds of calls there are.
 pub const KINDS: usize = 25;
 
 /// A kind's place in the list of kinds.
-pub fn place_of(kind: Kind) -> usize
-    ensures value { result ≡ place_of kind }
+pub fn place_of(kind: HostCallKind) -> usize
+    ensures value { result ≡ kind_place kind }
     ensures bound { result < 25 }
 {
     kind as usize
@@ -41,27 +41,27 @@ impl KindCounts {
     }
 
     /// The number of the next call of this kind, from 1.
-    pub fn next(&self, kind: Kind) -> u64
-        ensures { result ≡ next_of kind self.now }
+    pub fn next(&self, kind: HostCallKind) -> u64
+        ensures { result ≡ next_call_number kind self.now }
     {
         self.of(kind).saturating_add(1)
     }
 
     /// How many calls there were of this kind.
-    pub fn of(&self, kind: Kind) -> u64
+    pub fn of(&self, kind: HostCallKind) -> u64
         ensures { result ≡ calls_of self.now kind }
     {
         self.counts[place_of(kind)]
     }
 
     /// One call of this kind more.
-    pub fn count(&mut self, kind: Kind)
+    pub fn count(&mut self, kind: HostCallKind)
         ensures state { self.new ≡ with_call kind self.old }
         ensures called { IsCalled (kind ∷ []) (calls_of self.old) (calls_of self.new) }
     {
         let number = self.next(kind);
-        let all = self.next(Kind::Any);
+        let all = self.next(HostCallKind::Any);
         self.counts[place_of(kind)] = number;
-        self.counts[place_of(Kind::Any)] = all;
+        self.counts[place_of(HostCallKind::Any)] = all;
     }
 }

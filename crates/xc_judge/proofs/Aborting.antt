@@ -33,8 +33,8 @@ use Rattle.xc_machine.proofs.Laws.{remains_words}
 use Rattle.xc_model.specs.Course.{Course, Standing, after_course, course_abort, course_outcome, course_standing, standing_abort, standing_of}
 use Rattle.xc_model.specs.EntryEnds.{AreLeft, AreLeftBy, AreRecords}
 use Rattle.xc_model.specs.Progress.{words_left}
-use Rattle.xc_judge.specs.Judged.{IsNumbered}
-use Rattle.xc_judge.proofs.Committing.{led}
+use Rattle.xc_judge.specs.Judged.{IsInSomeTurn}
+use Rattle.xc_judge.proofs.Committing.{course_of}
 use Rattle.xc_judge.proofs.Recording.{each_recorded}
 
 -- ---- the records of one transaction make nothing that another is still to make
@@ -159,12 +159,12 @@ after_abort c e f report started outcome =
     ∙ ap (λ (x : Outcome). record (course_outcome c f e x) { entered = c.entered + 1; words = words_left c.words e.calls x }) outcome
 
 -- what the code has after it is what the entry leads to
-pub aborted : (w x : World) (hs : List (List Place)) (js jobs : List Standing) (n : ℕ) (e : Entry) (report : Report)
+pub abort_led : (w x : World) (hs : List (List Place)) (js jobs : List Standing) (n : ℕ) (e : Entry) (report : Report)
     → x ≡ with_remains w (remains report.records)
     → ((f : Standing) → slice_get js (e.job - 1) ≡ Some f → jobs ≡ slice_set js (e.job - 1) (standing_abort n f e report.cause))
-    → IsNumbered (led w hs js n) e → e.outcome ≡ Aborted report → led x hs jobs (n + 1) ≡ after_course (led w hs js n) e
-aborted w x hs js jobs n e report world changed numbered outcome =
-    let c : Course = led w hs js n in
+    → IsInSomeTurn (course_of w hs js n) e → e.outcome ≡ Aborted report → course_of x hs jobs (n + 1) ≡ after_course (course_of w hs js n) e
+abort_led w x hs js jobs n e report world changed numbered outcome =
+    let c : Course = course_of w hs js n in
     let f = numbered.standing in
     let jobs_now = changed f numbered.in_turn.started in
     let words : x.words ≡ w.words = ap (λ (v : World). v.words) world ∙ remains_words w (remains report.records) in

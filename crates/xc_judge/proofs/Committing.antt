@@ -13,7 +13,7 @@ use Rattle.xc_data.specs.declared.private.Private.{Private}
 use Rattle.xc_data.specs.declared.script.Outline.{Outline}
 use Rattle.xc_script.specs.Blocks.{kept_calls}
 use Rattle.xc_world.specs.Run.{asked_of, body, late_asked_of}
-use Rattle.xc_world.specs.Opening.{bare, opening, opening_handles}
+use Rattle.xc_world.specs.Opening.{bare_world, opening, opening_handles}
 use Rattle.xc_world.specs.Sound.{IsSound}
 use Rattle.xc_world.specs.World.{State, World}
 use Rattle.xc_world.proofs.Laws.{body-sound, body-others_sound, opening_words}
@@ -24,7 +24,7 @@ use Rattle.xc_model.specs.EntryEnds.{IsCommit}
 use Rattle.xc_model.specs.Machine.{IsPlayedBody}
 use Rattle.xc_model.specs.Progress.{body_of, private_of, run_of, started_blocks, words_left}
 use Rattle.xc_model.specs.WordCalls.{words_behind}
-use Rattle.xc_judge.specs.Judged.{IsNumbered}
+use Rattle.xc_judge.specs.Judged.{IsInSomeTurn}
 use Rattle.xc_judge.specs.Ran.{IsLedOn}
 use Rattle.xc_judge.proofs.Lates.{lates_words}
 use Rattle.xc_judge.proofs.PlainReplies.{body_words}
@@ -40,8 +40,8 @@ played_from s e all =
     record { fits = both.0; replies = both.1 }
 
 -- late calls that end as recorded are those of a commit
-pub commit_from : (s : State) (e : Entry) (late : List LateEnd) → AreEnded (body_of s e).world (body_of s e).late late → IsCommit s e late
-commit_from s e late all =
+pub commit_from_lates : (s : State) (e : Entry) (late : List LateEnd) → AreEnded (body_of s e).world (body_of s e).late late → IsCommit s e late
+commit_from_lates s e late all =
     let both = to_lates (body_of s e).world (body_of s e).late late all in
     record { ends = both.1; late_fits = both.0 }
 
@@ -58,41 +58,41 @@ after_commit c e f late started outcome =
     ∙ ap (λ (x : Outcome). record (course_outcome c f e x) { entered = c.entered + 1; words = words_left c.words e.calls x }) outcome
 
 -- where a journal led, by the parts that the code has
-abbrev pub led : World → List (List Place) → List Standing → ℕ → Course
-led w hs js n = record { state = record { world = w; handles = hs }; jobs = js; entered = n; words = w.words }
+abbrev pub course_of : World → List (List Place) → List Standing → ℕ → Course
+course_of w hs js n = record { state = record { world = w; handles = hs }; jobs = js; entered = n; words = w.words }
 
 module _ (w : World) (hs : List (List Place)) (js : List Standing) (n : ℕ) (e : Entry) (late : List LateEnd) where
   -- the blocks of the jobs that it started
-  abbrev pub blocks : List (List ℕ)
-  blocks = started_blocks (kept_calls e.calls e.replies) late
+  abbrev pub started_here : List (List ℕ)
+  started_here = started_blocks (kept_calls e.calls e.replies) late
 
   -- its private state at its begin
   abbrev pub me_at : Private
   me_at = private_of (record { world = w; handles = hs }) e.job
 
   -- what the code has after it
-  pub record HasCommitted (m : Private) (x : World) (handles : List (List Place)) (jobs : List Standing) : Type 0 where
+  pub record StandsCommitted (m : Private) (x : World) (handles : List (List Place)) (jobs : List Standing) : Type 0 where
     pub me_is : m ≡ (body w me_at e.tx (asked_of e.calls e.replies)).me
     pub world_is : x ≡ led_by (body w me_at e.tx (asked_of e.calls e.replies)).world (body w me_at e.tx (asked_of e.calls e.replies)).late late
-    pub handles_are : handles ≡ slice_set hs (e.job - 1) m.places ++ replicate (length blocks) m.places
+    pub handles_are : handles ≡ slice_set hs (e.job - 1) m.places ++ replicate (length started_here) m.places
     pub jobs_are : (f : Standing) → slice_get js (e.job - 1) ≡ Some f
-        → jobs ≡ slice_set js (e.job - 1) (standing_anew f.block (n + 1)) ++ map (λ block. standing_anew block (n + 1)) blocks
+        → jobs ≡ slice_set js (e.job - 1) (standing_anew f.block (n + 1)) ++ map (λ block. standing_anew block (n + 1)) started_here
 
   -- that is what the entry leads to
-  pub committed : (m : Private) (x : World) (handles : List (List Place)) (jobs : List Standing) → HasCommitted m x handles jobs
-      → IsNumbered (led w hs js n) e → e.outcome ≡ Committed late → IsPlayedBody (record { world = w; handles = hs }) e
-      → IsCommit (record { world = w; handles = hs }) e late → led x handles jobs (n + 1) ≡ after_course (led w hs js n) e
-  committed m x handles jobs has numbered outcome played ended =
+  pub commit_led : (m : Private) (x : World) (handles : List (List Place)) (jobs : List Standing) → StandsCommitted m x handles jobs
+      → IsInSomeTurn (course_of w hs js n) e → e.outcome ≡ Committed late → IsPlayedBody (record { world = w; handles = hs }) e
+      → IsCommit (record { world = w; handles = hs }) e late → course_of x handles jobs (n + 1) ≡ after_course (course_of w hs js n) e
+  commit_led m x handles jobs has numbered outcome played ended =
       let s : State = record { world = w; handles = hs } in
-      let c : Course = led w hs js n in
+      let c : Course = course_of w hs js n in
       let f = numbered.standing in
       let r = body w me_at e.tx (asked_of e.calls e.replies) in
       let world : x ≡ (run_of s e late).late.world = has.world_is ∙ led_to r.world r.late late (ended_from s e late ended) in
       let words : x.words ≡ words_behind w.words e.calls =
       ap (λ (v : World). v.words) world ∙ lates_words r.world (late_asked_of r.late late)
       ∙ body_words w me_at e.tx e.calls e.replies (replayed_from s e played) in
-      let places : handles ≡ slice_set hs (e.job - 1) r.me.places ++ replicate (length blocks) r.me.places =
-      has.handles_are ∙ ap (λ (q : Private). slice_set hs (e.job - 1) q.places ++ replicate (length blocks) q.places) has.me_is in
+      let places : handles ≡ slice_set hs (e.job - 1) r.me.places ++ replicate (length started_here) r.me.places =
+      has.handles_are ∙ ap (λ (q : Private). slice_set hs (e.job - 1) q.places ++ replicate (length started_here) q.places) has.me_is in
       let jobs_now = has.jobs_are f numbered.in_turn.started in
       (λ i. record { state = record { world = world i; handles = places i }; jobs = jobs_now i; entered = n + 1; words = words i })
       ∙ sym (after_commit c e f late numbered.in_turn.started outcome)
@@ -104,9 +104,9 @@ module _ (w : World) (hs : List (List Place)) (js : List Standing) (n : ℕ) (e 
       → handles ≡ slice_set hs at m.places ++ replicate count m.places
       → ((f : Standing) → slice_get js at ≡ Some f
       → jobs ≡ slice_set js at (standing_anew f.block (n + 1)) ++ map (λ block. standing_anew block (n + 1)) started)
-      → HasCommitted m x handles jobs
+      → StandsCommitted m x handles jobs
   has_committed calls replies m x handles jobs started at count so calls_are replies_are place started_is count_is handles_are jobs_are =
-      let began : started ≡ blocks = started_is ∙ (λ i. started_blocks (kept_calls (calls_are i) (replies_are i)) late) in
+      let began : started ≡ started_here = started_is ∙ (λ i. started_blocks (kept_calls (calls_are i) (replies_are i)) late) in
       let places = m.places in
       record {
         me_is = so.me_is;
@@ -150,7 +150,7 @@ as_many_jobs hs handles js changed jobs p at count since f started same handles_
 -- what the code has is where a journal begins
 pub opened_course : (outline : Outline) (w : World) (hs : List (List Place)) (js : List Standing) → w ≡ opening outline
     → hs ≡ replicate (length outline.jobs) (opening_handles outline) → js ≡ map (λ name. standing_anew name 0) outline.jobs
-    → led w hs js 0 ≡ opening_course outline
+    → course_of w hs js 0 ≡ opening_course outline
 opened_course outline w hs js world handles jobs =
-    let words : w.words ≡ outline.words = ap (λ (v : World). v.words) world ∙ opening_words (bare outline) 0 outline.prologue.objects in
+    let words : w.words ≡ outline.words = ap (λ (v : World). v.words) world ∙ opening_words (bare_world outline) 0 outline.prologue.objects in
     λ i. record { state = record { world = world i; handles = handles i }; jobs = jobs i; entered = 0; words = words i }

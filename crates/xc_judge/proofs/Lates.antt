@@ -15,34 +15,34 @@ use Rattle.xc_world.specs.World.{World, pipe_of, pair_of, waiting, other_side}
 use Rattle.xc_world.proofs.Laws.{chosen_so}
 
 -- the words stay
-abbrev KeepsWords : World → Ended → Type 0
-KeepsWords w s = s.world.words ≡ w.words
+abbrev LeavesWords : World → Ended → Type 0
+LeavesWords w s = s.world.words ≡ w.words
 
 -- a file that goes keeps the words
-unlinked_words : (w : World) (name : List ℕ) (found : Option Num) → KeepsWords w (unlinked w name found)
+unlinked_words : (w : World) (name : List ℕ) (found : Option Num) → LeavesWords w (unlinked w name found)
 unlinked_words w name None = refl
 unlinked_words w name (Some num) = refl
 
 -- and so does what is shut
-shut_words : (w : World) (o : Object) → KeepsWords w (shut_down w o)
+shut_words : (w : World) (o : Object) → LeavesWords w (shut_down w o)
 shut_words w (object.Pipe num) = refl
 shut_words w (object.Pair num) = refl
 shut_words w _ = refl
 
 -- a late call that is done keeps them
-fine_words : (w : World) (c : LateCall) → KeepsWords w (late_fine w c)
+fine_words : (w : World) (c : LateCall) → LeavesWords w (late_fine w c)
 fine_words w (Unlink name) = unlinked_words w name (map.get w.names name)
 fine_words w (Sync num) = refl
 fine_words w (WritePipe num bytes) =
-    chosen_so (KeepsWords w) (pipe_of w num).shut _ _ (λ _. refl)
-    (λ _. chosen_so (KeepsWords w) (nat_lt (room (pipe_of w num)) (length bytes)) _ _ (λ _. refl) (λ _. refl))
+    chosen_so (LeavesWords w) (pipe_of w num).shut _ _ (λ _. refl)
+    (λ _. chosen_so (LeavesWords w) (nat_lt (room (pipe_of w num)) (length bytes)) _ _ (λ _. refl) (λ _. refl))
 fine_words w (Shutdown o) = shut_words w o
 fine_words w (Send num side bytes) =
-    chosen_so (KeepsWords w) (pair_of w num).shut _ _ (λ _. refl)
-    (λ _. chosen_so (KeepsWords w) (nat_le 8 (length (waiting (pair_of w num) (other_side side)))) _ _ (λ _. refl) (λ _. refl))
+    chosen_so (LeavesWords w) (pair_of w num).shut _ _ (λ _. refl)
+    (λ _. chosen_so (LeavesWords w) (nat_le 8 (length (waiting (pair_of w num) (other_side side)))) _ _ (λ _. refl) (λ _. refl))
 fine_words w (Thread body) =
-    chosen_so (KeepsWords w) (not (is_block w body)) _ _ (λ _. refl)
-    (λ _. chosen_so (KeepsWords w) (nat_le 1000 (length w.started)) _ _ (λ _. refl) (λ _. refl))
+    chosen_so (LeavesWords w) (not (is_block w body)) _ _ (λ _. refl)
+    (λ _. chosen_so (LeavesWords w) (nat_le 1000 (length w.started)) _ _ (λ _. refl) (λ _. refl))
 
 -- one that stops keeps them
 stopped_words : (w : World) (c : LateCall) (n : ℕ) → (stopped w c n).words ≡ w.words
@@ -51,7 +51,7 @@ stopped_words w (WritePipe num bytes) n =
 stopped_words w _ n = refl
 
 -- any late call does
-late_words : (w : World) (c : LateCall) (a : LateAnswer) → KeepsWords w (late w c a)
+late_words : (w : World) (c : LateCall) (a : LateAnswer) → LeavesWords w (late w c a)
 late_words w c late_answer.Fine = fine_words w c
 late_words w c (late_answer.Fault n) = stopped_words w c n
 late_words w c (late_answer.NoMemory n) = stopped_words w c n

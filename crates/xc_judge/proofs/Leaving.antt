@@ -20,14 +20,14 @@ use Rattle.xc_compensate.specs.Records.{covered, covers}
 use Rattle.xc_model.specs.EntryEnds.{AreLeftBy}
 use Rattle.xc_world.specs.Act.{act, done, faulty, fine}
 use Rattle.xc_world.specs.Act.Files.{append_at, overwrite_at}
-use Rattle.xc_world.specs.Act.Step.{Stepped, counted}
+use Rattle.xc_world.specs.Act.Step.{Stepped, bytes_counted}
 use Rattle.xc_world.specs.Checks.{is_bad_handle, is_bad_word, is_refused, is_too_big, is_too_much}
 use Rattle.xc_world.specs.Fits.{asks_host, is_done, is_write, may_stop}
 use Rattle.xc_world.specs.Run.{begins}
 use Rattle.xc_world.specs.Trail.{append_record, done_of, overwrite_record, recorded}
 use Rattle.xc_world.specs.World.{World, file_of}
 use Rattle.xc_world.proofs.Laws.{act_cases, chosen_so, refusal-none}
-use Rattle.xc_judge.specs.Left.{IsFront, whole_records}
+use Rattle.xc_judge.specs.Left.{IsWriteFront, whole_records}
 use Rattle.xc_judge.proofs.Recording.{each_recorded}
 use Rattle.xc_judge.proofs.Stopped.{append_fault, overwrite_fault, undone_leaves_none}
 
@@ -53,7 +53,7 @@ covered_own (NewPair num) = refl
 -- a record of a front of what this one covers whole
 pub record FromWhole (u v : Undo) : Type 0 where
   pub is : u ≡ covered v (covers u)
-  pub front : IsFront (covers u) v
+  pub front : IsWriteFront (covers u) v
   pub full : IsFull v
 
 -- one that is left is such, of what the call leaves whole
@@ -92,11 +92,11 @@ record OfWrite (records : ℕ → List Undo) (all n : ℕ) (u : Undo) : Type 0 w
   is : (k : ℕ) → (k == 0) ≡ false → records k ≡ covered u k ∷ []
   full : n ≡ all → IsFull u
   size : covers u ≡ n
-  front : (k : ℕ) → 1 ≤ k → k ≤ n → IsFront k u
-  within : (k : ℕ) → IsFront k u → (1 ≤ k) × (k ≤ n)
+  front : (k : ℕ) → 1 ≤ k → k ≤ n → IsWriteFront k u
+  within : (k : ℕ) → IsWriteFront k u → (1 ≤ k) × (k ≤ n)
 
 -- a call that writes: the records of so many bytes, and how many it is to write
-record Writes (w : World) (me : Private) (tx : ℕ) (c : Call) : Type 0 where
+record IsWriting (w : World) (me : Private) (tx : ℕ) (c : Call) : Type 0 where
   records : ℕ → List Undo
   all : ℕ
   write : is_write c ≡ true
@@ -181,7 +181,7 @@ append_done w me h bytes _ u = λ e. cc e
 
 -- an overwrite writes so
 overwrite_writes : (w : World) (me : Private) (tx h : ℕ) (bytes : List ℕ)
-    → Writes w me tx (call.XWriteOvr h bytes)
+    → IsWriting w me tx (call.XWriteOvr h bytes)
 overwrite_writes w me tx h bytes =
     let p = place_of me.places h in
     record {
@@ -198,7 +198,7 @@ overwrite_writes w me tx h bytes =
 
 -- and so does an append
 append_writes : (w : World) (me : Private) (tx h : ℕ) (bytes : List ℕ)
-    → Writes w me tx (call.XWriteSeq h bytes)
+    → IsWriting w me tx (call.XWriteSeq h bytes)
 append_writes w me tx h bytes =
     let p = place_of me.places h in
     record {
@@ -224,11 +224,11 @@ passed_all false false false false w x y z s e = refl
 
 -- so it acts
 act_passed : (w : World) (me : Private) (tx : ℕ) (c : Call) (a : Answer) → is_refused c me (length w.words) ≡ false
-    → act w me tx c a ≡ counted c (done w me tx c a)
+    → act w me tx c a ≡ bytes_counted c (done w me tx c a)
 act_passed w me tx c a e =
-    passed_all (is_bad_handle c me) (is_too_big c) (is_too_much c me) (is_bad_word c (length w.words)) _ _ _ _ (counted c (done w me tx c a)) e
+    passed_all (is_bad_handle c me) (is_too_big c) (is_too_much c me) (is_bad_word c (length w.words)) _ _ _ _ (bytes_counted c (done w me tx c a)) e
 
-module _ (w : World) (me : Private) (tx : ℕ) (c : Call) (so : Writes w me tx c) where
+module _ (w : World) (me : Private) (tx : ℕ) (c : Call) (so : IsWriting w me tx c) where
   -- one that left a record whole was not refused, and was done
   record IsDone (v : Undo) : Type 0 where
     passed : is_refused c me (length w.words) ≡ false
@@ -263,7 +263,7 @@ module _ (w : World) (me : Private) (tx : ℕ) (c : Call) (so : Writes w me tx c
       ∙ ap (λ r. so.records (done_of so.all r)) (so.stops n)
 
   -- each front of what it leaves whole may be left
-  write_left : (k : ℕ) (v : Undo) → v ∷ [] ≡ whole_records w me tx c → IsFront k v → AreLeftBy (begins w me) tx c (covered v k ∷ [])
+  write_left : (k : ℕ) (v : Undo) → v ∷ [] ≡ whole_records w me tx c → IsWriteFront k v → AreLeftBy (begins w me) tx c (covered v k ∷ [])
   write_left k v whole front = by_length (nat_lt k so.all) refl
     where
       all_done : IsDone v
@@ -324,16 +324,16 @@ module _ (w : World) (me : Private) (tx : ℕ) (c : Call) (so : Writes w me tx c
 
 -- ---- calls that don't write
 -- a record that is none of a write
-abbrev IsOther : Undo → Type 0
-IsOther (Bytes file at before after n) = ⊥
-IsOther (Tail file from after n) = ⊥
-IsOther (Made name num) = Unit {0}
-IsOther (Moved from to) = Unit {0}
-IsOther (NewPipe num) = Unit {0}
-IsOther (NewPair num) = Unit {0}
+abbrev IsNoWrite : Undo → Type 0
+IsNoWrite (Bytes file at before after n) = ⊥
+IsNoWrite (Tail file from after n) = ⊥
+IsNoWrite (Made name num) = Unit {0}
+IsNoWrite (Moved from to) = Unit {0}
+IsNoWrite (NewPipe num) = Unit {0}
+IsNoWrite (NewPair num) = Unit {0}
 
 -- all of it is a front of it, of any number of bytes
-other_front : (k : ℕ) (u : Undo) → IsOther u → (covered u k ≡ u) × IsFront k u × IsFull u
+other_front : (k : ℕ) (u : Undo) → IsNoWrite u → (covered u k ≡ u) × IsWriteFront k u × IsFull u
 other_front k (Bytes file at before after n) is = absurd is
 other_front k (Tail file from after n) is = absurd is
 other_front k (Made name num) is = (refl, tt, tt)
@@ -344,10 +344,10 @@ other_front k (NewPair num) is = (refl, tt, tt)
 -- records of which the first is none of a write
 abbrev AreOther : List Undo → Type 0
 AreOther [] = Unit {0}
-AreOther (u ∷ us) = IsOther u
+AreOther (u ∷ us) = IsNoWrite u
 
 -- such is that of any call that writes nothing
-recorded_other : (w : World) (me : Private) (tx : ℕ) (c : Call) (r : Reply) (u : Undo) → is_write c ≡ false → u ∷ [] ≡ recorded w me tx c r → IsOther u
+recorded_other : (w : World) (me : Private) (tx : ℕ) (c : Call) (r : Reply) (u : Undo) → is_write c ≡ false → u ∷ [] ≡ recorded w me tx c r → IsNoWrite u
 recorded_other w me tx c r u write e =
     subst AreOther (sym e) (each_recorded AreOther w me tx c r (record {
       none = tt;
@@ -390,13 +390,13 @@ other_from w me tx c u write (inr (answer.Undone n, fit, left)) = let none = lef
 
 -- ---- any call
 -- each front of what it leaves whole may be left
-pub front_left : (w : World) (me : Private) (tx : ℕ) (c : Call) (k : ℕ) (v : Undo) → v ∷ [] ≡ whole_records w me tx c → IsFront k v
+pub front_left_by : (w : World) (me : Private) (tx : ℕ) (c : Call) (k : ℕ) (v : Undo) → v ∷ [] ≡ whole_records w me tx c → IsWriteFront k v
     → AreLeftBy (begins w me) tx c (covered v k ∷ [])
-front_left w me tx (call.XWriteOvr h bytes) k v whole front =
+front_left_by w me tx (call.XWriteOvr h bytes) k v whole front =
     write_left w me tx (call.XWriteOvr h bytes) (overwrite_writes w me tx h bytes) k v whole front
-front_left w me tx (call.XWriteSeq h bytes) k v whole front =
+front_left_by w me tx (call.XWriteSeq h bytes) k v whole front =
     write_left w me tx (call.XWriteSeq h bytes) (append_writes w me tx h bytes) k v whole front
-front_left w me tx c k v whole front = other_left w me tx c k v refl whole
+front_left_by w me tx c k v whole front = other_left w me tx c k v refl whole
 
 -- and each record that is left is such a front
 pub left_from : (w : World) (me : Private) (tx : ℕ) (c : Call) (u : Undo) → AreLeftBy (begins w me) tx c (u ∷ []) → LeftFrom w me tx c u

@@ -9,14 +9,14 @@ use Rattle.xc_data.specs.declared.undo.Undo.{Undo}
 use Rattle.xc_data.specs.declared.undo.Undo.TheVariants.{Bytes, Tail, Made, Moved, NewPipe, NewPair}
 use Rattle.xc_data.specs.declared.undo.UndoEnd.{UndoEnd}
 use Rattle.xc_data.specs.declared.undo.UndoEnd.TheVariants.{Undone, Failed}
-use Rattle.xc_lines.specs.declared.shown.Standing.{Standing}
+use Rattle.xc_lines.specs.declared.shown.EffectShown.{EffectShown}
 use Rattle.xc_compensate.specs.Records.{covered, covers}
 use Rattle.xc_model.specs.EntryEnds.{AreLeftBy}
 use Rattle.xc_script.specs.declared.ask.Ask.TheVariants as ask
 use Rattle.xc_world.specs.Run.{begins}
 use Rattle.xc_world.specs.World.{World}
-use Rattle.xc_judge.specs.Left.{AreAlike, IsFront, IsLeftLast, IsNotLeft, IsShownLast, NewestShown, count_shown, whole_records}
-use Rattle.xc_judge.proofs.Leaving.{FromWhole, IsFull, LeftFrom, front_left, left_from}
+use Rattle.xc_judge.specs.Left.{AreAlike, IsWriteFront, IsLeftLast, IsNotLeft, IsShownLast, NewestShown, count_shown, whole_records}
+use Rattle.xc_judge.proofs.Leaving.{FromWhole, IsFull, LeftFrom, front_left_by, left_from}
 
 -- equal records are alike
 alike_same : (u v : Undo) (end : UndoEnd) → u ≡ v → AreAlike u v end
@@ -33,15 +33,16 @@ alike_undone k faults (NewPipe num) = record { objects = refl; kinds = refl; eff
 alike_undone k faults (NewPair num) = record { objects = refl; kinds = refl; effects = refl; legal = λ tries way so. so }
 
 -- what is shown where so many bytes are restored, after so many faults
-abbrev failed_so : ℕ → ℕ → Option Standing → NewestShown
+abbrev failed_so : ℕ → ℕ → Option EffectShown → NewestShown
 failed_so done faults effect = record { end = Failed done faults; effect = effect }
 
 -- what is shown where all was undone, after so many faults
-abbrev undone_so : ℕ → Option Standing → NewestShown
+abbrev undone_so : ℕ → Option EffectShown → NewestShown
 undone_so faults effect = record { end = Undone faults; effect = effect }
 
 -- of one that failed the restored bytes and those that stand are all that it covers
-count_front : (k done faults : ℕ) (effect : Option Standing) (v : Undo) → IsFront k v → IsFull v → IsShownLast (covered v k) (failed_so done faults effect)
+count_front : (k done faults : ℕ) (effect : Option EffectShown) (v : Undo) → IsWriteFront k v → IsFull v
+    → IsShownLast (covered v k) (failed_so done faults effect)
     → covers (covered v k) ≡ count_shown done effect
 count_front k done faults effect (Bytes file at before after n) front full shown =
     let few = shown.legal.2 in
@@ -66,13 +67,13 @@ count_front k done faults effect (NewPair num) front full shown =
     let none = shown.legal.2 in let e = ap (count_shown done) (shown.stands 0 refl) in omega (arith, none, e)
 
 -- so it is of a record that is left
-count_from : (u v : Undo) (done faults : ℕ) (effect : Option Standing) → FromWhole u v → IsShownLast u (failed_so done faults effect)
+count_from : (u v : Undo) (done faults : ℕ) (effect : Option EffectShown) → FromWhole u v → IsShownLast u (failed_so done faults effect)
     → covers u ≡ count_shown done effect
 count_from u v done faults effect from shown =
     ap covers from.is
     ∙ count_front (covers u) done faults effect v from.front from.full (subst (λ z. IsShownLast z (failed_so done faults effect)) from.is shown)
 
-module _ (w : World) (me : Private) (tx : ℕ) (c : Call) (effect : Option Standing) where
+module _ (w : World) (me : Private) (tx : ℕ) (c : Call) (effect : Option EffectShown) where
   -- a call leaves one record whole
   same_whole : (v : Undo) (u : Undo) → whole_records w me tx c ≡ v ∷ [] → (from : LeftFrom w me tx c u) → from.whole ≡ v
   same_whole v u whole from = let both : from.whole ∷ [] ≡ v ∷ [] = from.left ∙ whole in cc both
@@ -91,10 +92,10 @@ module _ (w : World) (me : Private) (tx : ℕ) (c : Call) (effect : Option Stand
 
   -- the front of one that failed
   pub left_failed : (done faults : ℕ) (v x : Undo) → whole_records w me tx c ≡ v ∷ [] → x ≡ covered v (count_shown done effect)
-      → IsFront (count_shown done effect) v → IsLeftLast (begins w me) tx (ask.Call c) (failed_so done faults effect) x
+      → IsWriteFront (count_shown done effect) v → IsLeftLast (begins w me) tx (ask.Call c) (failed_so done faults effect) x
   left_failed done faults v x whole is front =
       record {
-        left = subst (λ (z : Undo). AreLeftBy (begins w me) tx c (z ∷ [])) (sym is) (front_left w me tx c (count_shown done effect) v (sym whole) front);
+        left = subst (λ (z : Undo). AreLeftBy (begins w me) tx c (z ∷ [])) (sym is) (front_left_by w me tx c (count_shown done effect) v (sym whole) front);
         alike = λ u left shown.
             let from = left_from w me tx c u left in
             let count = count_from u from.whole done faults effect from.from shown in
@@ -103,12 +104,12 @@ module _ (w : World) (me : Private) (tx : ℕ) (c : Call) (effect : Option Stand
       }
 
   -- it has no such front
-  pub not_failed : (done faults : ℕ) (v : Undo) → whole_records w me tx c ≡ v ∷ [] → (IsFront (count_shown done effect) v → ⊥)
+  pub not_failed : (done faults : ℕ) (v : Undo) → whole_records w me tx c ≡ v ∷ [] → (IsWriteFront (count_shown done effect) v → ⊥)
       → IsNotLeft (begins w me) tx (ask.Call c) (failed_so done faults effect)
   not_failed done faults v whole none u left shown =
       let from = left_from w me tx c u left in
       let count = count_from u from.whole done faults effect from.from shown in
-      none (subst (IsFront (count_shown done effect)) (same_whole v u whole from) (subst (λ k. IsFront k from.whole) count from.from.front))
+      none (subst (IsWriteFront (count_shown done effect)) (same_whole v u whole from) (subst (λ k. IsWriteFront k from.whole) count from.from.front))
 
   -- it leaves none at all
   pub not_whole : (end : UndoEnd) → whole_records w me tx c ≡ [] → IsNotLeft (begins w me) tx (ask.Call c) (record { end = end; effect = effect })
@@ -119,10 +120,10 @@ module _ (w : World) (me : Private) (tx : ℕ) (c : Call) (effect : Option Stand
 
   -- where the code found a front, or none
   pub by_front : (done faults : ℕ) (v : Undo) (k : ℕ) (found : Option Undo) → whole_records w me tx c ≡ v ∷ [] → k ≡ count_shown done effect
-      → MatchOption found (IsFront k v → ⊥) (λ x. (x ≡ covered v k) × IsFront k v)
+      → MatchOption found (IsWriteFront k v → ⊥) (λ x. (x ≡ covered v k) × IsWriteFront k v)
       → MatchOption found (IsNotLeft (begins w me) tx (ask.Call c) (failed_so done faults effect))
       (IsLeftLast (begins w me) tx (ask.Call c) (failed_so done faults effect))
   by_front done faults v k None whole count none =
-      not_failed done faults v whole (subst (λ n. IsFront n v → ⊥) count none)
+      not_failed done faults v whole (subst (λ n. IsWriteFront n v → ⊥) count none)
   by_front done faults v k (Some x) whole count some =
-      left_failed done faults v x whole (some.0 ∙ ap (λ n. covered v n) count) (subst (λ n. IsFront n v) count some.1)
+      left_failed done faults v x whole (some.0 ∙ ap (λ n. covered v n) count) (subst (λ n. IsWriteFront n v) count some.1)

@@ -6,7 +6,6 @@ mod Committing
 mod Recording
 mod Aborting
 mod Replying
-mod Blocking
 mod Behind
 mod Newest
 mod Parts
@@ -20,3 +19,4 @@ mod Rerun
 mod Tracing
 mod Reporting
 mod Showing
+pub mod Laws

@@ -17,7 +17,7 @@ use Rattle.xc_data.specs.Calls.{is_late, is_kept, bytes_of}
 use Rattle.xc_data.specs.Private.{place_of, lowest_vacant}
 use Rattle.xc_world.specs.Act.{act, done, fine, faulty}
 use Rattle.xc_world.specs.Act.Step.{Stepped, step_to, storing_call}
-use Rattle.xc_world.specs.Act.Names.{opened, created, renamed}
+use Rattle.xc_world.specs.Act.Names.{open_step, create_step, rename_step}
 use Rattle.xc_world.specs.Act.Files.{read_at, overwrite_at, append_at, seek_at, len_at, overwrite_short, append_short}
 use Rattle.xc_world.specs.Act.Pipes.{new_pipe, read_pipe_at, pair_made, new_pair, received, receive_at}
 use Rattle.xc_world.specs.Checks.{is_bad_handle, is_too_big, is_too_much, is_refused}
@@ -28,78 +28,78 @@ use Rattle.xc_model.specs.WordCalls.{is_word_call, word_reply, words_after}
 
 -- ---- calls that reply at once, and are not on words
 -- a step that leaves the words, and that is no late one
-record Stays (w : World) (s : Stepped) : Type 0 where
+record LeavesWordsNow (w : World) (s : Stepped) : Type 0 where
   words : s.world.words ≡ w.words
   now : is_late s.reply ≡ false
 
 -- a reply alone
-stays : (w : World) (me : Private) (r : Reply) → is_late r ≡ false → Stays w (step_to w me r)
+stays : (w : World) (me : Private) (r : Reply) → is_late r ≡ false → LeavesWordsNow w (step_to w me r)
 stays w me r e = record { words = refl; now = e }
 
 -- a file that is opened
-opened_stays : (w : World) (me : Private) (found : Option Num) (vacant : Option ℕ) → Stays w (opened w me found vacant)
+opened_stays : (w : World) (me : Private) (found : Option Num) (vacant : Option ℕ) → LeavesWordsNow w (open_step w me found vacant)
 opened_stays w me None vacant = stays w me _ refl
 opened_stays w me (Some num) (Some h) = stays w _ _ refl
 opened_stays w me (Some num) None = stays w me _ refl
 
 -- one that is made
 created_stays : (w : World) (me : Private) (tx : ℕ) (name : List ℕ) (found : Option Num) (vacant : Option ℕ)
-    → Stays w (created w me tx name (found, vacant))
+    → LeavesWordsNow w (create_step w me tx name (found, vacant))
 created_stays w me tx name (Some num) vacant = stays w me _ refl
 created_stays w me tx name None (Some h) = record { words = refl; now = refl }
 created_stays w me tx name None None = stays w me _ refl
 
 -- one that takes another name
-renamed_stays : (w : World) (me : Private) (from to : List ℕ) (found there : Option Num) → Stays w (renamed w me from to (found, there))
+renamed_stays : (w : World) (me : Private) (from to : List ℕ) (found there : Option Num) → LeavesWordsNow w (rename_step w me from to (found, there))
 renamed_stays w me from to None there = stays w me _ refl
 renamed_stays w me from to (Some num) (Some other) = stays w me _ refl
 renamed_stays w me from to (Some num) None = record { words = refl; now = refl }
 
 -- bytes that are read
-read_stays : (w : World) (me : Private) (h n : ℕ) (p : Place) → Stays w (read_at w me h n p)
+read_stays : (w : World) (me : Private) (h n : ℕ) (p : Place) → LeavesWordsNow w (read_at w me h n p)
 read_stays w me h n (place.File num at) =
-    chosen_so (Stays w) (n == 0) _ _ (λ _. stays w me _ refl) (λ _.
-    chosen_so (Stays w) (nat_le (length (file_of w num)) at) _ _ (λ _. stays w me _ refl) (λ _. stays w _ _ refl))
+    chosen_so (LeavesWordsNow w) (n == 0) _ _ (λ _. stays w me _ refl) (λ _.
+    chosen_so (LeavesWordsNow w) (nat_le (length (file_of w num)) at) _ _ (λ _. stays w me _ refl) (λ _. stays w _ _ refl))
 read_stays w me h n _ = stays w me _ refl
 
 -- bytes that are overwritten
-overwrite_stays : (w : World) (me : Private) (h : ℕ) (bytes : List ℕ) (p : Place) → Stays w (overwrite_at w me h bytes p)
+overwrite_stays : (w : World) (me : Private) (h : ℕ) (bytes : List ℕ) (p : Place) → LeavesWordsNow w (overwrite_at w me h bytes p)
 overwrite_stays w me h bytes (place.File num at) =
-    chosen_so (Stays w) (length bytes == 0) _ _ (λ _. stays w me _ refl) (λ _.
-    chosen_so (Stays w) _ _ _ (λ _. stays w me _ refl) (λ _. record { words = refl; now = refl }))
+    chosen_so (LeavesWordsNow w) (length bytes == 0) _ _ (λ _. stays w me _ refl) (λ _.
+    chosen_so (LeavesWordsNow w) _ _ _ (λ _. stays w me _ refl) (λ _. record { words = refl; now = refl }))
 overwrite_stays w me h bytes _ = stays w me _ refl
 
 -- bytes that are appended
-append_stays : (w : World) (me : Private) (h : ℕ) (bytes : List ℕ) (p : Place) → Stays w (append_at w me h bytes p)
+append_stays : (w : World) (me : Private) (h : ℕ) (bytes : List ℕ) (p : Place) → LeavesWordsNow w (append_at w me h bytes p)
 append_stays w me h bytes (place.File num at) =
-    chosen_so (Stays w) (length bytes == 0) _ _ (λ _. stays w me _ refl) (λ _.
-    chosen_so (Stays w) _ _ _ (λ _. stays w me _ refl) (λ _. record { words = refl; now = refl }))
+    chosen_so (LeavesWordsNow w) (length bytes == 0) _ _ (λ _. stays w me _ refl) (λ _.
+    chosen_so (LeavesWordsNow w) _ _ _ (λ _. stays w me _ refl) (λ _. record { words = refl; now = refl }))
 append_stays w me h bytes _ = stays w me _ refl
 
 -- a place that is sought
-seek_stays : (w : World) (me : Private) (h to : ℕ) (p : Place) → Stays w (seek_at w me h to p)
-seek_stays w me h to (place.File num at) = chosen_so (Stays w) _ _ _ (λ _. stays w me _ refl) (λ _. stays w _ _ refl)
+seek_stays : (w : World) (me : Private) (h to : ℕ) (p : Place) → LeavesWordsNow w (seek_at w me h to p)
+seek_stays w me h to (place.File num at) = chosen_so (LeavesWordsNow w) _ _ _ (λ _. stays w me _ refl) (λ _. stays w _ _ refl)
 seek_stays w me h to _ = stays w me _ refl
 
 -- a length that is asked
-len_stays : (w : World) (me : Private) (p : Place) → Stays w (len_at w me p)
+len_stays : (w : World) (me : Private) (p : Place) → LeavesWordsNow w (len_at w me p)
 len_stays w me (place.File num at) = stays w me _ refl
 len_stays w me _ = stays w me _ refl
 
 -- an overwrite that met a fault
-overwrite_short_stays : (w : World) (me : Private) (h : ℕ) (p : Place) (bytes : List ℕ) (n : ℕ) → Stays w (overwrite_short w me (h, p) bytes n)
+overwrite_short_stays : (w : World) (me : Private) (h : ℕ) (p : Place) (bytes : List ℕ) (n : ℕ) → LeavesWordsNow w (overwrite_short w me (h, p) bytes n)
 overwrite_short_stays w me h (place.File num at) bytes n =
-    chosen_so (Stays w) (n == 0) _ _ (λ _. stays w me _ refl) (λ _. record { words = refl; now = refl })
+    chosen_so (LeavesWordsNow w) (n == 0) _ _ (λ _. stays w me _ refl) (λ _. record { words = refl; now = refl })
 overwrite_short_stays w me h _ bytes n = stays w me _ refl
 
 -- an append that met one
-append_short_stays : (w : World) (me : Private) (h : ℕ) (p : Place) (bytes : List ℕ) (n : ℕ) → Stays w (append_short w me (h, p) bytes n)
+append_short_stays : (w : World) (me : Private) (h : ℕ) (p : Place) (bytes : List ℕ) (n : ℕ) → LeavesWordsNow w (append_short w me (h, p) bytes n)
 append_short_stays w me h (place.File num at) bytes n =
-    chosen_so (Stays w) (n == 0) _ _ (λ _. stays w me _ refl) (λ _. record { words = refl; now = refl })
+    chosen_so (LeavesWordsNow w) (n == 0) _ _ (λ _. stays w me _ refl) (λ _. record { words = refl; now = refl })
 append_short_stays w me h _ bytes n = stays w me _ refl
 
 -- a pipe that is made
-new_pipe_stays : (w : World) (me : Private) (tx : ℕ) (vacant : Option ℕ) → Stays w (new_pipe w me tx vacant)
+new_pipe_stays : (w : World) (me : Private) (tx : ℕ) (vacant : Option ℕ) → LeavesWordsNow w (new_pipe w me tx vacant)
 new_pipe_stays w me tx (Some h) = record { words = refl; now = refl }
 new_pipe_stays w me tx None = stays w me _ refl
 
@@ -109,35 +109,35 @@ end_or_empty true = refl
 end_or_empty false = refl
 
 -- bytes that are taken from a pipe
-read_pipe_stays : (w : World) (me : Private) (n : ℕ) (p : Place) → Stays w (read_pipe_at w me n p)
+read_pipe_stays : (w : World) (me : Private) (n : ℕ) (p : Place) → LeavesWordsNow w (read_pipe_at w me n p)
 read_pipe_stays w me n (place.Pipe num) =
-    chosen_so (Stays w) (n == 0) _ _ (λ _. stays w me _ refl) (λ _.
-    chosen_so (Stays w) (length (pipe_of w num).held == 0) _ _ (λ _. stays w me _ (end_or_empty (pipe_of w num).shut))
+    chosen_so (LeavesWordsNow w) (n == 0) _ _ (λ _. stays w me _ refl) (λ _.
+    chosen_so (LeavesWordsNow w) (length (pipe_of w num).held == 0) _ _ (λ _. stays w me _ (end_or_empty (pipe_of w num).shut))
     (λ _. record { words = refl; now = refl }))
 read_pipe_stays w me n _ = stays w me _ refl
 
 -- a second handle of a pair
-pair_made_stays : (w : World) (me : Private) (tx h : ℕ) (vacant : Option ℕ) → Stays w (pair_made w me tx h vacant)
+pair_made_stays : (w : World) (me : Private) (tx h : ℕ) (vacant : Option ℕ) → LeavesWordsNow w (pair_made w me tx h vacant)
 pair_made_stays w me tx h (Some g) = record { words = refl; now = refl }
 pair_made_stays w me tx h None = stays w me _ refl
 
 -- a pair that is made
-new_pair_stays : (w : World) (me : Private) (tx : ℕ) (vacant : Option ℕ) → Stays w (new_pair w me tx vacant)
+new_pair_stays : (w : World) (me : Private) (tx : ℕ) (vacant : Option ℕ) → LeavesWordsNow w (new_pair w me tx vacant)
 new_pair_stays w me tx (Some h) = pair_made_stays w _ tx h (lowest_vacant _)
 new_pair_stays w me tx None = stays w me _ refl
 
 -- a message, or none
-received_stays : (w : World) (me : Private) (num : Num) (side : ℕ) (messages : List (List ℕ)) → Stays w (received w me num side messages)
+received_stays : (w : World) (me : Private) (num : Num) (side : ℕ) (messages : List (List ℕ)) → LeavesWordsNow w (received w me num side messages)
 received_stays w me num side [] = stays w me _ (end_or_empty (pair_of w num).shut)
 received_stays w me num side (m ∷ messages) = record { words = refl; now = refl }
 
 -- a message that is taken
-receive_stays : (w : World) (me : Private) (p : Place) → Stays w (receive_at w me p)
+receive_stays : (w : World) (me : Private) (p : Place) → LeavesWordsNow w (receive_at w me p)
 receive_stays w me (place.Pair num side) = received_stays w me num side (waiting (pair_of w num) side)
 receive_stays w me _ = stays w me _ refl
 
 -- any such call that is done
-fine_stays : (w : World) (me : Private) (tx : ℕ) (c : Call) → is_word_call c ≡ false → is_kept c ≡ false → Stays w (fine w me tx c)
+fine_stays : (w : World) (me : Private) (tx : ℕ) (c : Call) → is_word_call c ≡ false → is_kept c ≡ false → LeavesWordsNow w (fine w me tx c)
 fine_stays w me tx (call.XOpen name) word kept = opened_stays w me (map.get w.names name) (lowest_vacant me.places)
 fine_stays w me tx (call.XCreate name) word kept = created_stays w me tx name (map.get w.names name) (lowest_vacant me.places)
 fine_stays w me tx (call.XRead h n) word kept = read_stays w me h n (place_of me.places h)
@@ -159,24 +159,24 @@ fine_stays w me tx (call.Store at value) word kept = cc word
 fine_stays w me tx _ word kept = cc kept
 
 -- any that met a fault
-faulty_stays : (w : World) (me : Private) (c : Call) (n : ℕ) → Stays w (faulty w me c n)
+faulty_stays : (w : World) (me : Private) (c : Call) (n : ℕ) → LeavesWordsNow w (faulty w me c n)
 faulty_stays w me (call.XWriteOvr h bytes) n = overwrite_short_stays w me h (place_of me.places h) bytes n
 faulty_stays w me (call.XWriteSeq h bytes) n = append_short_stays w me h (place_of me.places h) bytes n
 faulty_stays w me _ n = stays w me _ refl
 
 -- any that passes its checks
 done_stays : (w : World) (me : Private) (tx : ℕ) (c : Call) (a : Answer) → is_word_call c ≡ false → is_kept c ≡ false
-    → Stays w (done w me tx c a)
+    → LeavesWordsNow w (done w me tx c a)
 done_stays w me tx c answer.Fine word kept = fine_stays w me tx c word kept
 done_stays w me tx c (answer.Fault n) word kept = faulty_stays w me c n
 done_stays w me tx c (answer.Undone n) word kept = stays w me _ refl
 
 -- any at all
 act_stays : (w : World) (me : Private) (tx : ℕ) (c : Call) (a : Answer) → is_word_call c ≡ false → is_kept c ≡ false
-    → Stays w (act w me tx c a)
+    → LeavesWordsNow w (act w me tx c a)
 act_stays w me tx c a word kept =
     let so = done_stays w me tx c a word kept in
-    act-cases w me tx c a (Stays w) (stays w me _ refl) (stays w me _ refl) (stays w me _ refl) (stays w me _ refl)
+    act-cases w me tx c a (LeavesWordsNow w) (stays w me _ refl) (stays w me _ refl) (stays w me _ refl) (stays w me _ refl)
     (record { words = so.words; now = so.now })
 
 -- ---- calls on words, and those that are kept for the commit: nothing but a fine answer fits
@@ -256,13 +256,13 @@ kept_reply me c =
     if is_bad_handle c me then reply.BadHandle else if is_too_big c then reply.TooBig else if is_too_much c me then reply.TooMuch else reply.Late
 
 -- it replies so, and leaves the words
-record IsKept (w : World) (r : Reply) (s : Stepped) : Type 0 where
+record RepliesSo (w : World) (r : Reply) (s : Stepped) : Type 0 where
   words : s.world.words ≡ w.words
   gives : s.reply ≡ r
 
 -- where the checks choose
 chosen_kept : (a b c : Bool) (w : World) (me you : Private)
-    → IsKept w (if a then reply.BadHandle else if b then reply.TooBig else if c then reply.TooMuch else reply.Late)
+    → RepliesSo w (if a then reply.BadHandle else if b then reply.TooBig else if c then reply.TooMuch else reply.Late)
     (if a then step_to w me reply.BadHandle else if b then step_to w me reply.TooBig else if c then step_to w me reply.TooMuch
     else step_to w you reply.Late)
 chosen_kept true b c w me you = record { words = refl; gives = refl }
@@ -272,13 +272,13 @@ chosen_kept false false false w me you = record { words = refl; gives = refl }
 
 -- so it is of a call that is kept
 kept_so : (w : World) (me : Private) (c : Call)
-    → IsKept w (kept_reply me c)
+    → RepliesSo w (kept_reply me c)
     (if is_bad_handle c me then step_to w me reply.BadHandle else if is_too_big c then step_to w me reply.TooBig
     else if is_too_much c me then step_to w me reply.TooMuch else step_to w (storing_call c me) reply.Late)
 kept_so w me c = chosen_kept (is_bad_handle c me) (is_too_big c) (is_too_much c me) w me (storing_call c me)
 
 -- which acts by its checks
-kept_by : (w : World) (me : Private) (tx : ℕ) (c : Call) → is_kept c ≡ true → IsKept w (kept_reply me c) (act w me tx c answer.Fine)
+kept_by : (w : World) (me : Private) (tx : ℕ) (c : Call) → is_kept c ≡ true → RepliesSo w (kept_reply me c) (act w me tx c answer.Fine)
 kept_by w me tx (call.XUnlink name slot) kept = kept_so w me (call.XUnlink name slot)
 kept_by w me tx (call.XSync h slot) kept = kept_so w me (call.XSync h slot)
 kept_by w me tx (call.XWritePipe h bytes slot) kept = kept_so w me (call.XWritePipe h bytes slot)

@@ -20,30 +20,30 @@ use Rattle.xc_model.specs.Course.{Course, Standing}
 use Rattle.xc_model.specs.Machine.{HasLateEnds, HasReplies}
 use Rattle.xc_model.specs.Progress.{body_of, private_of}
 use Rattle.xc_model.specs.Recorded.{AreFewFaults, no_records}
-use Rattle.xc_judge.specs.Judged.{telling}
+use Rattle.xc_judge.specs.Judged.{telling_terms}
 use Rattle.xc_judge.specs.Ran.{IsRan}
 use Rattle.xc_judge.specs.declared.ran.Ran.{Ran}
-use Rattle.xc_judge.proofs.Committing.{commit_from, ended_from, led, played_from, replayed_from}
+use Rattle.xc_judge.proofs.Committing.{commit_from_lates, ended_from, course_of, played_from, replayed_from}
 use Rattle.xc_judge.proofs.PlainReplies.{replies_in_time, word_replies}
 
 module _ (rules : Rules) (w : World) (hs : List (List Place)) (js : List Standing) (n : ℕ) (e : Entry) where
   -- the entry's private state at its begin
-  abbrev pub begun : Private
-  begun = private_of (record { world = w; handles = hs }) e.job
+  abbrev pub begun_private : Private
+  begun_private = private_of (record { world = w; handles = hs }) e.job
 
   -- a body that is replayed with few faults has the replies that it says
-  pub has_replies : AreReplayed w begun e.tx e.calls e.replies → AreFewFaults rules.undo_tries no_records e.calls e.replies
-      → HasReplies (telling rules) (led w hs js n) e
+  pub has_replies : AreReplayed w begun_private e.tx e.calls e.replies → AreFewFaults rules.undo_tries no_records e.calls e.replies
+      → HasReplies (telling_terms rules) (course_of w hs js n) e
   has_replies all few =
       record {
-        words = word_replies w begun e.tx e.calls e.replies all;
-        in_time = replies_in_time w begun e.tx e.calls e.replies all;
+        words = word_replies w begun_private e.tx e.calls e.replies all;
+        in_time = replies_in_time w begun_private e.tx e.calls e.replies all;
         faults = few;
         played = λ _. played_from (record { world = w; handles = hs }) e all;
       }
 
   -- and the other way round
-  pub replayed_so : HasReplies (telling rules) (led w hs js n) e → AreReplayed w begun e.tx e.calls e.replies
+  pub replayed_so : HasReplies (telling_terms rules) (course_of w hs js n) e → AreReplayed w begun_private e.tx e.calls e.replies
   replayed_so has = replayed_from (record { world = w; handles = hs }) e (has.played refl)
 
 module _ (s : State) (e : Entry) where
@@ -102,13 +102,13 @@ few_there tries calls there replies others p q few =
 -- where late calls end as recorded, with an end for each kept call, they are those of a commit
 pub ends_decide : (rules : Rules) (c : Course) (e : Entry) (late : List LateEnd) (ran : Ran) (v : World) (made : List LateCall) (b : Bool)
     → IsRan ran (body_of c.state e) e.tx → length late ≡ length (kept_calls e.calls e.replies) → v ≡ ran.world → made ≡ ran.traced.replied.late
-    → Decides b (AreEnded v made late) → Decides b (HasLateEnds (telling rules) c e late)
+    → Decides b (AreEnded v made late) → Decides b (HasLateEnds (telling_terms rules) c e late)
 ends_decide rules c e late ran v made b so count world made_is decides =
     let left = world ∙ so.world_is in
     let lates = made_is ∙ so.late in (
       λ test. record {
         count = count;
-        played = λ _. commit_from c.state e late
+        played = λ _. commit_from_lates c.state e late
             (subst (λ z. AreEnded z (body_of c.state e).late late) left (subst (λ z. AreEnded v z late) lates (decides.0 test)));
       },
       λ has. decides.1

@@ -15,7 +15,7 @@ use Rattle.xc_model.specs.EntryEnds.{IsCauseOf, IsHeld, cause_in, failures_with}
 use Rattle.xc_model.specs.Machine.{HasLates, HasRecordsOf, HasReplies, IsAttempt, IsEndAsked, IsMachineTrue}
 use Rattle.xc_model.specs.Progress.{body_of}
 use Rattle.xc_model.specs.Recorded.{IsStuckIn, all_records, no_records, saved_records}
-use Rattle.xc_judge.specs.Judged.{IsNumbered, IsToldBy, place_of_reason, telling}
+use Rattle.xc_judge.specs.Judged.{IsInSomeTurn, IsToldBy, place_of_reason, telling_terms}
 use Rattle.xc_judge.specs.Judgement.{FailsToRun, IsRunSo}
 use Rattle.xc_judge.specs.Stepped.{IsRefusedSo, MeetsSo}
 use Rattle.xc_judge.specs.Traced.{ends_of, shown_ends}
@@ -26,20 +26,20 @@ use Rattle.xc_judge.proofs.Newest.{stuck_alike}
 use Rattle.xc_judge.proofs.Tracing.{shown_ends_are}
 
 -- its job is started, and its replies and late ends are true
-pub record IsPlayed (rules : Rules) (c : Course) (e : Entry) : Type 0 where
-  pub numbered : IsNumbered c e
-  pub replies : HasReplies (telling rules) c e
-  pub lates : HasLates (telling rules) c e e.outcome
+pub record IsShownPlayed (rules : Rules) (c : Course) (e : Entry) : Type 0 where
+  pub numbered : IsInSomeTurn c e
+  pub replies : HasReplies (telling_terms rules) c e
+  pub lates : HasLates (telling_terms rules) c e e.outcome
 
 -- so it is where its body was run again, and its late calls end so
-pub played_so : (rules : Rules) (c : Course) (e : Entry) (ran : Ran) → IsRunSo rules c e ran → HasLates (telling rules) c e e.outcome
-    → IsPlayed rules c e
+pub played_so : (rules : Rules) (c : Course) (e : Entry) (ran : Ran) → IsRunSo rules c e ran → HasLates (telling_terms rules) c e e.outcome
+    → IsShownPlayed rules c e
 played_so rules c e ran run lates = record { numbered = run.numbered; replies = run.replies; lates = lates }
 
 -- ---- nothing but its records looks at more than is shown
 module _ (rules : Rules) (c : Course) (last : Ask) (e : Entry) where
   -- replies
-  replies_so : HasReplies (telling rules) c (bare e) → HasReplies (telling rules) c e
+  replies_so : HasReplies (telling_terms rules) c (bare e) → HasReplies (telling_terms rules) c e
   replies_so so =
       record {
         words = so.words;
@@ -49,7 +49,7 @@ module _ (rules : Rules) (c : Course) (last : Ask) (e : Entry) where
       }
 
   -- late ends
-  lates_so : (o : Outcome) → HasLates (telling rules) c (bare e) (bare_outcome o) → HasLates (telling rules) c e o
+  lates_so : (o : Outcome) → HasLates (telling_terms rules) c (bare e) (bare_outcome o) → HasLates (telling_terms rules) c e o
   lates_so (Committed late) so =
       record { count = so.count; played = λ tells. record { ends = (so.played tells).ends; late_fits = (so.played tells).late_fits } }
   lates_so (Aborted report) so = tt
@@ -79,8 +79,8 @@ module _ (rules : Rules) (c : Course) (last : Ask) (e : Entry) where
       }
 
   -- so it is true where it is so as far as it is shown, and its records and its story are true
-  bare_true : IsPlayed rules c (bare e) → IsHeld (body_of c.state e) last (bare_outcome e.outcome) e.held
-      → IsToldBy rules c last e → HasRecordsOf (telling rules) c last e e.outcome → IsMachineTrue (telling rules) c last e
+  bare_true : IsShownPlayed rules c (bare e) → IsHeld (body_of c.state e) last (bare_outcome e.outcome) e.held
+      → IsToldBy rules c last e → HasRecordsOf (telling_terms rules) c last e e.outcome → IsMachineTrue (telling_terms rules) c last e
   bare_true run held told records =
       let turn = run.numbered.in_turn in
       let f = run.numbered.standing in
@@ -108,11 +108,11 @@ abbrev pub HeldSo : Course → Ask → Entry → Type 0
 HeldSo c last e = IsHeld (body_of c.state e) last e.outcome e.held
 
 -- an entry that is shown so is true
-pub judged_true : (rules : Rules) (c : Course) (last : Ask) (shown : Shown) (e : Entry) → Shows shown e → IsPlayed rules c shown.entry
-    → HeldSo c last shown.entry → IsToldBy rules c last e → HasRecordsOf (telling rules) c last e e.outcome → IsMachineTrue (telling rules) c last e
+pub judged_true : (rules : Rules) (c : Course) (last : Ask) (shown : Shown) (e : Entry) → Shows shown e → IsShownPlayed rules c shown.entry
+    → HeldSo c last shown.entry → IsToldBy rules c last e → HasRecordsOf (telling_terms rules) c last e e.outcome → IsMachineTrue (telling_terms rules) c last e
 judged_true rules c last shown e shows run held told records =
     let same = shown_bare shown e shows in
-    bare_true rules c last e (subst (IsPlayed rules c) same run) (subst (HeldSo c last) same held) told records
+    bare_true rules c last e (subst (IsShownPlayed rules c) same run) (subst (HeldSo c last) same held) told records
 
 -- ---- its story looks at nothing of its records but their ends
 -- the end of another entry with the same calls, which is shown so, was asked too
@@ -151,7 +151,7 @@ told_alike rules c last shown e d at_e at_d told =
 -- ---- the first reason for which it is refused
 module _ (rules : Rules) (c : Course) (last : Ask) (shown : Shown) where
   -- what comes before its records is so
-  before_records : IsPlayed rules c shown.entry → (other : Reason) → place_of_reason other < 3 → MeetsSo rules c last shown other
+  before_records : IsShownPlayed rules c shown.entry → (other : Reason) → place_of_reason other < 3 → MeetsSo rules c last shown other
   before_records run reason.Numbers less = run.numbered
   before_records run reason.Reply less = run.replies
   before_records run reason.Late less = run.lates
@@ -160,7 +160,7 @@ module _ (rules : Rules) (c : Course) (last : Ask) (shown : Shown) where
   before_records run reason.Story less = absurd (omega (arith, less))
 
   -- and what comes behind them
-  before_held : IsPlayed rules c shown.entry → MeetsSo rules c last shown reason.Records → (other : Reason) → place_of_reason other < 4
+  before_held : IsShownPlayed rules c shown.entry → MeetsSo rules c last shown reason.Records → (other : Reason) → place_of_reason other < 4
       → MeetsSo rules c last shown other
   before_held run records reason.Numbers less = run.numbered
   before_held run records reason.Reply less = run.replies
@@ -170,7 +170,7 @@ module _ (rules : Rules) (c : Course) (last : Ask) (shown : Shown) where
   before_held run records reason.Story less = absurd (omega (arith, less))
 
   -- and what comes before its story
-  before_story : IsPlayed rules c shown.entry → MeetsSo rules c last shown reason.Records → MeetsSo rules c last shown reason.Held
+  before_story : IsShownPlayed rules c shown.entry → MeetsSo rules c last shown reason.Records → MeetsSo rules c last shown reason.Held
       → (other : Reason) → place_of_reason other < 5 → MeetsSo rules c last shown other
   before_story run records held reason.Numbers less = run.numbered
   before_story run records held reason.Reply less = run.replies
@@ -180,7 +180,7 @@ module _ (rules : Rules) (c : Course) (last : Ask) (shown : Shown) where
   before_story run records held reason.Story less = absurd (omega (arith, less))
 
   -- before its replies
-  before_reply : IsNumbered c shown.entry → (other : Reason) → place_of_reason other < 1 → MeetsSo rules c last shown other
+  before_reply : IsInSomeTurn c shown.entry → (other : Reason) → place_of_reason other < 1 → MeetsSo rules c last shown other
   before_reply numbered reason.Numbers less = numbered
   before_reply numbered reason.Reply less = absurd (omega (arith, less))
   before_reply numbered reason.Late less = absurd (omega (arith, less))
@@ -189,7 +189,7 @@ module _ (rules : Rules) (c : Course) (last : Ask) (shown : Shown) where
   before_reply numbered reason.Story less = absurd (omega (arith, less))
 
   -- and before its late ends
-  before_late : IsNumbered c shown.entry → HasReplies (telling rules) c shown.entry → (other : Reason) → place_of_reason other < 2
+  before_late : IsInSomeTurn c shown.entry → HasReplies (telling_terms rules) c shown.entry → (other : Reason) → place_of_reason other < 2
       → MeetsSo rules c last shown other
   before_late numbered replies reason.Numbers less = numbered
   before_late numbered replies reason.Reply less = replies
@@ -208,17 +208,17 @@ module _ (rules : Rules) (c : Course) (last : Ask) (shown : Shown) where
   refused_run reason.Story fails = absurd fails
 
   -- its records do
-  pub refused_records : IsPlayed rules c shown.entry
-      → ((e : Entry) → Shows shown e → HasRecordsOf (telling rules) c last e e.outcome → ⊥) → IsRefusedSo rules c last shown reason.Records
+  pub refused_records : IsShownPlayed rules c shown.entry
+      → ((e : Entry) → Shows shown e → HasRecordsOf (telling_terms rules) c last e e.outcome → ⊥) → IsRefusedSo rules c last shown reason.Records
   refused_records run none = record { fails = λ some. none some.0 some.1 some.2; before = before_records run }
 
   -- what was held does
-  pub refused_held : IsPlayed rules c shown.entry → (e : Entry) → Shows shown e → HasRecordsOf (telling rules) c last e e.outcome
+  pub refused_held : IsShownPlayed rules c shown.entry → (e : Entry) → Shows shown e → HasRecordsOf (telling_terms rules) c last e e.outcome
       → (HeldSo c last shown.entry → ⊥) → IsRefusedSo rules c last shown reason.Held
   refused_held run e shows records fails = record { fails = fails; before = before_held run (e, shows, records) }
 
   -- its story does
-  pub refused_story : IsPlayed rules c shown.entry → (e : Entry) → Shows shown e → HasRecordsOf (telling rules) c last e e.outcome
+  pub refused_story : IsShownPlayed rules c shown.entry → (e : Entry) → Shows shown e → HasRecordsOf (telling_terms rules) c last e e.outcome
       → HeldSo c last shown.entry → (IsToldBy rules c last e → ⊥) → IsRefusedSo rules c last shown reason.Story
   refused_story run e shows records held fails =
       record {

@@ -21,7 +21,7 @@ use Rattle.xc_world.specs.Trail.{recorded}
 use Rattle.xc_world.specs.World.{World}
 use Rattle.xc_world.proofs.Laws.{chosen_so, act-cases, refusal-none, undone-none}
 use Rattle.xc_model.specs.EntryEnds.{AreLeft, AreLeftBy}
-use Rattle.xc_judge.specs.Ran.{is_starved}
+use Rattle.xc_judge.specs.Ran.{is_memory_cause}
 use Rattle.xc_judge.proofs.Recording.{each_recorded}
 
 -- where the host fails after so many bytes it says so
@@ -66,9 +66,9 @@ left_few w me tx c us (inr (a, fit, left)) =
     omega (arith, few, e)
 
 -- ---- what is left after a body
-pub starved_is : (why : Cause) → is_starved why ≡ true → why ≡ cause.NoMemory
-starved_is cause.NoMemory e = refl
-starved_is _ e = cc e
+pub starved_by_memory : (why : Cause) → is_memory_cause why ≡ true → why ≡ cause.NoMemory
+starved_by_memory cause.NoMemory e = refl
+starved_by_memory _ e = cc e
 
 -- what may be left by a body that begins where this one ended may be left by it
 pub left_alike : (b : BodyResult) (w : World) (me : Private) (tx : ℕ) (last : Ask) (us : List Undo) → w ≡ b.world → me ≡ b.me

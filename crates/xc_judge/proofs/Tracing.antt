@@ -16,20 +16,20 @@ use Rattle.xc_data.specs.declared.object.Object.{Object}
 use Rattle.xc_data.specs.declared.private.Private.{Private}
 use Rattle.xc_data.specs.declared.undo.Undo.{Undo}
 use Rattle.xc_data.specs.declared.undo.UndoEnd.{UndoEnd}
-use Rattle.xc_lines.specs.declared.shown.Standing.{Standing}
+use Rattle.xc_lines.specs.declared.shown.EffectShown.{EffectShown}
 use Rattle.xc_lines.specs.declared.shown.UndoKind.{UndoKind}
 use Rattle.xc_script.specs.declared.ask.Ask.{Ask}
 use Rattle.xc_script.specs.declared.ask.Ask.TheVariants as ask
 use Rattle.xc_sheet.specs.Ends.{effect_shown}
 use Rattle.xc_shown.specs.Shown.{effect_from, effects_shown, record_shown}
-use Rattle.xc_world.specs.Ends.{AreLegal, Ending, IsLegalEnd, blocker, blocks, is_undone}
+use Rattle.xc_world.specs.Ends.{AreLegal, Ending, IsLegalEnd, blocker, stands_in_way, is_undone}
 use Rattle.xc_world.specs.Run.{BodyResult, begins}
 use Rattle.xc_world.specs.World.{World}
 use Rattle.xc_model.specs.EntryEnds.{AreLeft, AreRecords}
 use Rattle.xc_judge.specs.Left.{AreAlike, IsLeftLast, IsNotLeft, IsShownLast, NewestShown}
-use Rattle.xc_judge.specs.Ran.{is_starved}
+use Rattle.xc_judge.specs.Ran.{is_memory_cause}
 use Rattle.xc_judge.specs.Traced.{AreAllAlike, AreNotTraced, AreShown, AreTraced, ReportShown, ends_of, shown_ends, undos_of}
-use Rattle.xc_judge.proofs.Stopped.{alike_left, left_alike, left_few, starved_is}
+use Rattle.xc_judge.proofs.Stopped.{alike_left, left_alike, left_few, starved_by_memory}
 
 -- ---- records with their ends
 -- those of equal records with equal ends are equal
@@ -72,14 +72,14 @@ shown_ends_are ((u, e) ∷ xs) = ap (λ l. e ∷ l) (shown_ends_are xs)
 -- ---- two lists that are alike
 module _ (u v : Undo) (end : UndoEnd) (so : AreAlike u v end) where
   -- one blocks an older record if the other does
-  blocks_alike : (older : Undo) → blocks older (u, end) ≡ blocks older (v, end)
+  blocks_alike : (older : Undo) → stands_in_way older (u, end) ≡ stands_in_way older (v, end)
   blocks_alike older =
       ap (λ (os : List Object). if is_undone end then false else list_any (λ o. list_any (is_object o) os) (objects_of older)) so.objects
 
   -- so the same record is in the way
   blocker_alike : (from : ℕ) (older : Undo) (front : List Ending) → blocker from older (front ++ (u, end) ∷ []) ≡ blocker from older (front ++ (v, end) ∷ [])
   blocker_alike from older [] = ap (λ b. if b then Some from else None) (blocks_alike older)
-  blocker_alike from older (x ∷ front) = ap (λ w. if blocks older x then Some from else w) (blocker_alike (from + 1) older front)
+  blocker_alike from older (x ∷ front) = ap (λ w. if stands_in_way older x then Some from else w) (blocker_alike (from + 1) older front)
 
   -- and as legal are the ends
   legal_alike : (tries from : ℕ) (front : List Ending) → AreLegal tries from (front ++ (u, end) ∷ []) → AreLegal tries from (front ++ (v, end) ∷ [])
@@ -126,7 +126,7 @@ legal_last tries from ((x, e) ∷ front) u end (one, rest) = legal_last tries (f
 
 -- the last effect is that of the last record, where it stands
 effects_last : (front : List Ending) (u : Undo) (end : UndoEnd) (k : ℕ) → remains_from u end ≡ Some k
-    → (more : List Standing) × (effects_shown (front ++ (u, end) ∷ []) ≡ more ++ effect_shown u k ∷ [])
+    → (more : List EffectShown) × (effects_shown (front ++ (u, end) ∷ []) ≡ more ++ effect_shown u k ∷ [])
 effects_last [] u end k stands = ([], ap (λ o. effect_from u o ++ []) stands)
 effects_last ((x, e) ∷ front) u end k stands =
     let so = effects_last front u end k stands in
@@ -248,7 +248,7 @@ module _ (b : BodyResult) (tx : ℕ) (last : Ask) (seen : ReportShown) where
 
   -- neither as many are shown nor one more that may have been left
   pub not_as_many : (trail : List Undo) → trail ≡ b.trail → (length seen.records ≡ length trail → ⊥)
-      → ((is_starved seen.cause ≡ true) × (length seen.records ≡ length trail + 1) → ⊥) → AreNotTraced b tx last seen
+      → ((is_memory_cause seen.cause ≡ true) × (length seen.records ≡ length trail + 1) → ⊥) → AreNotTraced b tx last seen
   not_as_many trail is other none records so there = by_cases (trail_or_more b tx last seen.cause (undos_of records) so)
     where
       by_cases : (undos_of records ≡ b.trail) ⊎ OneMore b tx last seen.cause (undos_of records) → ⊥
@@ -257,7 +257,7 @@ module _ (b : BodyResult) (tx : ℕ) (last : Ask) (seen : ReportShown) where
           let many = as_shown records there in
           let more = ap length one.is ∙ length-append b.trail (one.more ∷ []) in
           let same = ap length is in
-          none (ap is_starved one.starved, omega (arith, many, more, same))
+          none (ap is_memory_cause one.starved, omega (arith, many, more, same))
 
   -- what is asked last leaves no record
   pub not_called : (trail : List Undo) → trail ≡ b.trail → (length seen.records ≡ length trail → ⊥) → ((c : Call) → last ≡ ask.Call c → ⊥)
@@ -276,7 +276,7 @@ module _ (b : BodyResult) (tx : ℕ) (last : Ask) (seen : ReportShown) where
 
   module _ (trail : List Undo) (is : trail ≡ b.trail) (other : length seen.records ≡ length trail → ⊥) (size : length seen.records ≡ length trail + 1)
       (w : World) (me : Private) (world : w ≡ b.world) (mine : me ≡ b.me) (c : Call) (asked : last ≡ ask.Call c) (d : UndoKind × UndoEnd)
-      (effect : Option Standing) (effect_is : effect ≡ slice_get seen.effects (length seen.effects - 1)) where
+      (effect : Option EffectShown) (effect_is : effect ≡ slice_get seen.effects (length seen.effects - 1)) where
     -- how the newest ended
     abbrev end_last : UndoEnd
     end_last = (get_or seen.records (length trail) d).1
@@ -339,14 +339,14 @@ module _ (b : BodyResult) (tx : ℕ) (last : Ask) (seen : ReportShown) where
     not_left_so none records so there = let has = ends_with records so there in none has.more has.left has.last_shown
 
     -- one was
-    pub traced_left : (v : Undo) (us : List Undo) → is_starved seen.cause ≡ true → us ≡ trail ++ v ∷ []
+    pub traced_left : (v : Undo) (us : List Undo) → is_memory_cause seen.cause ≡ true → us ≡ trail ++ v ∷ []
         → IsLeftLast (begins w me) tx (ask.Call c) newest v → AreTraced b tx last seen us
     traced_left v us starved us_are so =
         let many = ap length us_are ∙ length-append trail (v ∷ []) in
         let whole : us ≡ b.trail ++ v ∷ [] = us_are ∙ ap (λ t. t ++ v ∷ []) is in
         record {
           count = omega (arith, many, size);
-          records = subst (λ y. AreRecords b tx last y us) (sym (starved_is seen.cause starved)) (v ∷ [], left_there v so.left, whole);
+          records = subst (λ y. AreRecords b tx last y us) (sym (starved_by_memory seen.cause starved)) (v ∷ [], left_there v so.left, whole);
           alike = λ records true there others undos ends.
               let has = ends_with records true there in
               let cut = parts v others (undos ∙ us_are) ends in

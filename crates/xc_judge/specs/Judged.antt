@@ -23,13 +23,13 @@ pub record IsInTurn (c : Course) (e : Entry) (f : Standing) : Type 0 where
   pub begun : IsBegunInTurn c f e
 
 -- the same of some job
-pub record IsNumbered (c : Course) (e : Entry) : Type 0 where
+pub record IsInSomeTurn (c : Course) (e : Entry) : Type 0 where
   pub standing : Standing
   pub in_turn : IsInTurn c e standing
 
 -- the terms of these rules, over a host that tells
-abbrev pub telling : Rules → Terms
-telling rules = record { rules = rules; tells = true }
+abbrev pub telling_terms : Rules → Terms
+telling_terms rules = record { rules = rules; tells = true }
 
 -- story: its job goes on with this attempt, whose end was asked
 pub record IsToldBy (rules : Rules) (c : Course) (last : Ask) (e : Entry) : Type 0 where
@@ -37,13 +37,13 @@ pub record IsToldBy (rules : Rules) (c : Course) (last : Ask) (e : Entry) : Type
   pub asked : IsEndAsked last e e.outcome
 
 -- what each reason denies
-abbrev pub Meets : Rules → Course → Ask → Entry → Reason → Type 0
-Meets rules c last e reason.Numbers = IsNumbered c e
-Meets rules c last e reason.Reply = HasReplies (telling rules) c e
-Meets rules c last e reason.Late = HasLates (telling rules) c e e.outcome
-Meets rules c last e reason.Records = HasRecordsOf (telling rules) c last e e.outcome
-Meets rules c last e reason.Held = IsHeld (body_of c.state e) last e.outcome e.held
-Meets rules c last e reason.Story = IsToldBy rules c last e
+abbrev pub MeetsReason : Rules → Course → Ask → Entry → Reason → Type 0
+MeetsReason rules c last e reason.Numbers = IsInSomeTurn c e
+MeetsReason rules c last e reason.Reply = HasReplies (telling_terms rules) c e
+MeetsReason rules c last e reason.Late = HasLates (telling_terms rules) c e e.outcome
+MeetsReason rules c last e reason.Records = HasRecordsOf (telling_terms rules) c last e e.outcome
+MeetsReason rules c last e reason.Held = IsHeld (body_of c.state e) last e.outcome e.held
+MeetsReason rules c last e reason.Story = IsToldBy rules c last e
 
 -- the place of a reason in their order
 abbrev pub place_of_reason : Reason → ℕ

@@ -9,7 +9,7 @@ use Rattle.xc_model.specs.Course.{Course}
 use Rattle.xc_model.specs.EntryEnds.{next_claims}
 use Rattle.xc_model.specs.Machine.{HasLates, HasRecordsOf, HasReplies, IsMachineTrue}
 use Rattle.xc_model.specs.Progress.{body_of}
-use Rattle.xc_judge.specs.Judged.{IsNumbered, telling}
+use Rattle.xc_judge.specs.Judged.{IsInSomeTurn, telling_terms}
 use Rattle.xc_judge.specs.Ran.{IsKept, IsRan}
 use Rattle.xc_judge.specs.declared.ran.Ran.{Ran}
 use Rattle.xc_judge.specs.declared.reason.Reason.{Reason}
@@ -18,32 +18,33 @@ use Rattle.xc_judge.specs.declared.step.Judged.{Judged}
 
 -- its job is started, its replies are true, and its body left and gave this
 pub record IsRunSo (rules : Rules) (c : Course) (e : Entry) (ran : Ran) : Type 0 where
-  pub numbered : IsNumbered c e
-  pub replies : HasReplies (telling rules) c e
+  pub numbered : IsInSomeTurn c e
+  pub replies : HasReplies (telling_terms rules) c e
   pub body : IsRan ran (body_of c.state e) e.tx
 
 -- the first of these that it denies
 abbrev pub FailsToRun : Rules → Course → Entry → Reason → Type 0
-FailsToRun rules c e reason.Numbers = IsNumbered c e → ⊥
-FailsToRun rules c e reason.Reply = IsNumbered c e × (HasReplies (telling rules) c e → ⊥)
-FailsToRun rules c e reason.Late = IsNumbered c e × HasReplies (telling rules) c e × (HasLates (telling rules) c e e.outcome → ⊥)
+FailsToRun rules c e reason.Numbers = IsInSomeTurn c e → ⊥
+FailsToRun rules c e reason.Reply = IsInSomeTurn c e × (HasReplies (telling_terms rules) c e → ⊥)
+FailsToRun rules c e reason.Late =
+    IsInSomeTurn c e × HasReplies (telling_terms rules) c e × (HasLates (telling_terms rules) c e e.outcome → ⊥)
 FailsToRun rules c e reason.Records = ⊥
 FailsToRun rules c e reason.Held = ⊥
 FailsToRun rules c e reason.Story = ⊥
 
 -- no entry that is shown so has true records
 abbrev pub HasNoRecords : Rules → Course → Ask → Shown → Type 0
-HasNoRecords rules c last shown = (e : Entry) → Shows shown e → HasRecordsOf (telling rules) c last e e.outcome → ⊥
+HasNoRecords rules c last shown = (e : Entry) → Shows shown e → HasRecordsOf (telling_terms rules) c last e e.outcome → ⊥
 
 -- an entry that is shown so has true ones, and if it committed it is kept where its calls led
 pub record IsFoundSo (rules : Rules) (c : Course) (last : Ask) (shown : Shown) (found : Entry × Option Ran) : Type 0 where
   pub shows : Shows shown found.0
-  pub records : HasRecordsOf (telling rules) c last found.0 found.0.outcome
+  pub records : HasRecordsOf (telling_terms rules) c last found.0 found.0.outcome
   pub kept : IsKept found.1 (body_of c.state found.0) found.0.outcome
 
 -- an entry that is shown so is true, its calls led there if it committed, and so much the next call claims
 pub record IsJudgedSo (rules : Rules) (c : Course) (last : Ask) (shown : Shown) (to : Judged) : Type 0 where
   pub shows : Shows shown to.entry
-  pub true : IsMachineTrue (telling rules) c last to.entry
+  pub true : IsMachineTrue (telling_terms rules) c last to.entry
   pub kept : IsKept to.kept (body_of c.state to.entry) to.entry.outcome
   pub wanted : to.wanted.items ≡ next_claims (body_of c.state to.entry) last

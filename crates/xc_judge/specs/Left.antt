@@ -8,8 +8,8 @@ use Rattle.xc_data.specs.declared.private.Private.{Private}
 use Rattle.xc_data.specs.declared.undo.Undo.{Undo}
 use Rattle.xc_data.specs.declared.undo.Undo.TheVariants.{Bytes, Tail, Made, Moved, NewPipe, NewPair}
 use Rattle.xc_data.specs.declared.undo.UndoEnd.{UndoEnd}
-use Rattle.xc_lines.specs.declared.shown.Standing.{Standing}
-use Rattle.xc_lines.specs.declared.shown.Standing.TheVariants as standing
+use Rattle.xc_lines.specs.declared.shown.EffectShown.{EffectShown}
+use Rattle.xc_lines.specs.declared.shown.EffectShown.TheVariants as standing
 use Rattle.xc_script.specs.declared.ask.Ask.{Ask}
 use Rattle.xc_sheet.specs.Ends.{effect_shown, kind_shown}
 use Rattle.xc_shown.specs.Shown.{effect_from}
@@ -26,16 +26,16 @@ abbrev pub whole_records : World → Private → ℕ → Call → List Undo
 whole_records w me tx c = recorded w me tx c (act w me tx c answer.Fine).reply
 
 -- so many bytes are some of those of a write, perhaps all
-abbrev pub IsFront : ℕ → Undo → Type 0
-IsFront k (Bytes file at before after n) = (1 ≤ k) × (k ≤ n)
-IsFront k (Tail file from after n) = (1 ≤ k) × (k ≤ n)
-IsFront k (Made name num) = Unit {0}
-IsFront k (Moved from to) = Unit {0}
-IsFront k (NewPipe num) = Unit {0}
-IsFront k (NewPair num) = Unit {0}
+abbrev pub IsWriteFront : ℕ → Undo → Type 0
+IsWriteFront k (Bytes file at before after n) = (1 ≤ k) × (k ≤ n)
+IsWriteFront k (Tail file from after n) = (1 ≤ k) × (k ≤ n)
+IsWriteFront k (Made name num) = Unit {0}
+IsWriteFront k (Moved from to) = Unit {0}
+IsWriteFront k (NewPipe num) = Unit {0}
+IsWriteFront k (NewPair num) = Unit {0}
 
 -- the bytes that an effect has
-abbrev pub effect_bytes : Standing → List ℕ
+abbrev pub effect_bytes : EffectShown → List ℕ
 effect_bytes (standing.Bytes file at bytes) = bytes
 effect_bytes (standing.Tail file from bytes) = bytes
 effect_bytes (standing.Made name num) = []
@@ -44,7 +44,7 @@ effect_bytes (standing.Pipe num) = []
 effect_bytes (standing.Pair num) = []
 
 -- how many bytes a record covers of which so many are restored and these stand
-abbrev pub count_shown : ℕ → Option Standing → ℕ
+abbrev pub count_shown : ℕ → Option EffectShown → ℕ
 count_shown done None = done
 count_shown done (Some effect) = done + length (effect_bytes effect)
 
@@ -52,7 +52,7 @@ count_shown done (Some effect) = done + length (effect_bytes effect)
 -- how its compensation ended, and the effect that is shown last
 pub record NewestShown : Type 0 where
   pub end : UndoEnd
-  pub effect : Option Standing
+  pub effect : Option EffectShown
 
 -- the newest record may have ended so, and where its effect stands it is that one
 pub record IsShownLast (u : Undo) (seen : NewestShown) : Type 0 where

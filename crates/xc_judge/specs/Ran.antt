@@ -46,12 +46,12 @@ IsKept (Some ran) b (Committed late) = IsLedOn ran.world ran.me.value b late
 IsKept kept b (Aborted report) = Unit {0}
 
 -- whether memory ran out
-abbrev pub is_starved : Cause → Bool
-is_starved cause.NoMemory = true
-is_starved cause.Asked = false
-is_starved (cause.Conflict object holder at) = false
-is_starved (cause.Revoked object by at) = false
-is_starved (cause.Stuck failed) = false
+abbrev pub is_memory_cause : Cause → Bool
+is_memory_cause cause.NoMemory = true
+is_memory_cause cause.Asked = false
+is_memory_cause (cause.Conflict object holder at) = false
+is_memory_cause (cause.Revoked object by at) = false
+is_memory_cause (cause.Stuck failed) = false
 
 -- whether a compensation failed
 abbrev pub has_failed : UndoEnd → Bool

@@ -9,7 +9,7 @@ use Rattle.xc_model.specs.Course.{Course, after_course}
 use Rattle.xc_model.specs.EntryEnds.{next_claims}
 use Rattle.xc_model.specs.Machine.{HasRecordsOf, IsMachineTrue}
 use Rattle.xc_model.specs.Progress.{body_of}
-use Rattle.xc_judge.specs.Judged.{Meets, place_of_reason, telling}
+use Rattle.xc_judge.specs.Judged.{MeetsReason, place_of_reason, telling_terms}
 use Rattle.xc_judge.specs.declared.reason.Reason.{Reason}
 use Rattle.xc_judge.specs.declared.reason.Reason.TheVariants as reason
 use Rattle.xc_judge.specs.declared.stepped.Step.{Step}
@@ -19,12 +19,12 @@ use Rattle.xc_judge.specs.declared.stepped.Stepped.{Stepped}
 -- what a reason denies of an entry as its text shows it: records are those of some entry that is shown so, and its story looks at
 -- them too; nothing else does
 abbrev pub MeetsSo : Rules → Course → Ask → Shown → Reason → Type 0
-MeetsSo rules c last shown reason.Records = (e : Entry) × Shows shown e × HasRecordsOf (telling rules) c last e e.outcome
-MeetsSo rules c last shown reason.Numbers = Meets rules c last shown.entry reason.Numbers
-MeetsSo rules c last shown reason.Reply = Meets rules c last shown.entry reason.Reply
-MeetsSo rules c last shown reason.Late = Meets rules c last shown.entry reason.Late
-MeetsSo rules c last shown reason.Held = Meets rules c last shown.entry reason.Held
-MeetsSo rules c last shown reason.Story = (e : Entry) × Shows shown e × Meets rules c last e reason.Story
+MeetsSo rules c last shown reason.Records = (e : Entry) × Shows shown e × HasRecordsOf (telling_terms rules) c last e e.outcome
+MeetsSo rules c last shown reason.Numbers = MeetsReason rules c last shown.entry reason.Numbers
+MeetsSo rules c last shown reason.Reply = MeetsReason rules c last shown.entry reason.Reply
+MeetsSo rules c last shown reason.Late = MeetsReason rules c last shown.entry reason.Late
+MeetsSo rules c last shown reason.Held = MeetsReason rules c last shown.entry reason.Held
+MeetsSo rules c last shown reason.Story = (e : Entry) × Shows shown e × MeetsReason rules c last e reason.Story
 
 -- it doesn't meet this, but all that comes before it
 pub record IsRefusedSo (rules : Rules) (c : Course) (last : Ask) (shown : Shown) (why : Reason) : Type 0 where
@@ -34,7 +34,7 @@ pub record IsRefusedSo (rules : Rules) (c : Course) (last : Ask) (shown : Shown)
 -- an entry that is shown so is true, and led here; so much the next call would claim
 pub record IsSteppedTo (rules : Rules) (c : Course) (last : Ask) (shown : Shown) (to : Stepped) : Type 0 where
   pub shows : Shows shown to.entry
-  pub true : IsMachineTrue (telling rules) c last to.entry
+  pub true : IsMachineTrue (telling_terms rules) c last to.entry
   pub after : to.progress ≡ after_course c to.entry
   pub wanted : to.wanted.items ≡ next_claims (body_of c.state to.entry) last
 

@@ -4,7 +4,7 @@ use Rattle.xc_data.specs.declared.entry.Cause.{Cause}
 use Rattle.xc_data.specs.declared.entry.Report.{Report}
 use Rattle.xc_data.specs.declared.undo.Undo.{Undo}
 use Rattle.xc_data.specs.declared.undo.UndoEnd.{UndoEnd}
-use Rattle.xc_lines.specs.declared.shown.Standing.{Standing}
+use Rattle.xc_lines.specs.declared.shown.EffectShown.{EffectShown}
 use Rattle.xc_lines.specs.declared.shown.UndoKind.{UndoKind}
 use Rattle.xc_script.specs.declared.ask.Ask.{Ask}
 use Rattle.xc_shown.specs.Shown.{effects_shown, record_shown}
@@ -18,7 +18,7 @@ use Rattle.xc_judge.specs.Counts.{IsCountedReport}
 pub record ReportShown : Type 0 where
   pub cause : Cause
   pub records : List (UndoKind × UndoEnd)
-  pub effects : List Standing
+  pub effects : List EffectShown
 
 -- what an entry's text shows of its report, which has this cause
 abbrev pub report_shown : Cause → Shown → ReportShown

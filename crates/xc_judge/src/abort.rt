@@ -1,7 +1,7 @@
 ghost use Rattle.std.specs.Prelude.{◌≡◌, ◌≢◌, ◌<◌, ◌+◌, ◌^◌, ℕ, length, slice_get, slice_set, IfOk, OnOk};
 ghost use Rattle.std.specs.declared.option.Option.TheVariants.{Some};
 ghost use Rattle.xc_data.specs.declared.entry.Outcome.TheVariants.{Aborted};
-ghost use Rattle.xc_judge.specs.Judged.{IsNumbered, IsOpenTo};
+ghost use Rattle.xc_judge.specs.Judged.{IsInSomeTurn, IsOpenTo};
 ghost use Rattle.xc_judge.specs.Traced.{undos_of};
 ghost use Rattle.xc_model.specs.Course.{Standing as PlainStanding, after_course, standing_abort};
 ghost use Rattle.xc_model.specs.EntryEnds.{AreRecords};
@@ -70,7 +70,7 @@ impl Progress {
     /// After an aborted entry that is true.
     pub(crate) fn abort(self, entry: &Entry, report: &Report) -> Result<Progress, NoMemory>
         requires room { self.entered + 1 < 2 ^ 32 }
-        requires numbered { IsNumbered self entry.now }
+        requires numbered { IsInSomeTurn self entry.now }
         requires outcome { entry.now.outcome ≡ Aborted report.now }
         requires open { IsOpenTo self entry.now.tx }
         requires played { IsPlayedBody self.state entry.now }

@@ -1,13 +1,13 @@
 ghost use Rattle.std.specs.Bool.{Decides};
 ghost use Rattle.std.specs.Prelude.{◌≡◌, ◌+◌, map, take, drop};
 ghost use Rattle.xc_judge.specs.Traced.{ends_of, shown_ends};
-ghost use Rattle.xc_lines.specs.declared.shown.Standing.TheVariants as standing;
+ghost use Rattle.xc_lines.specs.declared.shown.EffectShown.TheVariants as standing;
 ghost use Rattle.xc_sheet.specs.Ends.{effect_shown, kind_shown};
 ghost use Rattle.xc_shown.specs.Shown.{effects_shown, record_shown};
 
 use crate::same::{same_bytes, same_name, same_num};
 use xc_data::{Chunk, Name, Num, Undo, UndoEnd};
-use xc_lines::{Standing, UndoKind};
+use xc_lines::{EffectShown, UndoKind};
 use xc_world::remaining_from;
 
 // ---- their kinds
@@ -132,25 +132,25 @@ fn is_moved(undo: &Undo, k: u32, old: &Name, new_name: &Name) -> bool
 }
 
 // The effect of a record from this place of its bytes on is the one that is shown.
-fn is_effect(undo: &Undo, from: u32, effect: &Standing) -> bool
+fn is_effect(undo: &Undo, from: u32, effect: &EffectShown) -> bool
     ensures { Decides result (effect_shown undo.now from ≡ effect.now) }
 {
     match effect {
-        Standing::Bytes { file, at, bytes } => is_overwrite(undo, from, *file, *at, bytes),
-        Standing::Tail {
+        EffectShown::Bytes { file, at, bytes } => is_overwrite(undo, from, *file, *at, bytes),
+        EffectShown::Tail {
             file,
             from: place,
             bytes,
         } => is_tail(undo, from, *file, *place, bytes),
-        Standing::Made { name, num } => is_made(undo, from, name.value(), *num),
-        Standing::Moved { from: old, to } => is_moved(undo, from, old.value(), to.value()),
-        Standing::Pipe(num) => matches!(undo, Undo::NewPipe(other) if same_num(*other, *num)),
-        Standing::Pair(num) => matches!(undo, Undo::NewPair(other) if same_num(*other, *num)),
+        EffectShown::Made { name, num } => is_made(undo, from, name.value(), *num),
+        EffectShown::Moved { from: old, to } => is_moved(undo, from, old.value(), to.value()),
+        EffectShown::Pipe(num) => matches!(undo, Undo::NewPipe(other) if same_num(*other, *num)),
+        EffectShown::Pair(num) => matches!(undo, Undo::NewPair(other) if same_num(*other, *num)),
     }
 }
 
 /// Records leave these effects.
-pub(crate) fn have_effects(mut records: &[(Undo, UndoEnd)], mut effects: &[Standing]) -> bool
+pub(crate) fn have_effects(mut records: &[(Undo, UndoEnd)], mut effects: &[EffectShown]) -> bool
     ensures { Decides result (effects_shown records.entry.now ≡ effects.entry.now) }
 {
     while let [record, records_behind @ ..] = records {

@@ -1,7 +1,7 @@
 ghost use Rattle.std.specs.Prelude.{◌≡◌, ◌≢◌, ◌≤◌, ◌<◌, ◌+◌, ◌-◌, ◌^◌, ◌++◌, ℕ, length, map, replicate, slice_get, slice_set, IfOk, OnOk};
 ghost use Rattle.std.specs.declared.option.Option.TheVariants.{Some};
 ghost use Rattle.xc_data.specs.declared.entry.Outcome.TheVariants.{Committed};
-ghost use Rattle.xc_judge.specs.Judged.{IsNumbered, IsOpenTo};
+ghost use Rattle.xc_judge.specs.Judged.{IsInSomeTurn, IsOpenTo};
 ghost use Rattle.xc_judge.specs.Ran.{IsLedOn};
 ghost use Rattle.xc_model.specs.Course.{Standing as PlainStanding, after_course, standing_anew};
 ghost use Rattle.xc_model.specs.EntryEnds.{IsCommit};
@@ -69,7 +69,7 @@ impl Progress {
     /// The place of an entry's job among the started ones.
     #[tactic(auto, using(std::proofs::lemmas::Option::slice_get_within))]
     pub(crate) fn place_of(&self, entry: &Entry) -> usize
-        requires { IsNumbered self.now entry.now }
+        requires { IsInSomeTurn self.now entry.now }
         ensures value { result ≡ entry.now.job - 1 }
         ensures handles { result < length self.now.state.handles }
         ensures jobs { result < length self.now.jobs }
@@ -89,7 +89,7 @@ impl Progress {
     ) -> Result<Progress, NoMemory>
         requires open { IsOpenTo self entry.now.tx }
         requires room { self.entered + 1 < 2 ^ 32 }
-        requires numbered { IsNumbered self entry.now }
+        requires numbered { IsInSomeTurn self entry.now }
         requires outcome { entry.now.outcome ≡ Committed late.now }
         requires played { IsPlayedBody self.state entry.now }
         requires ended { IsCommit self.state entry.now late.now }

@@ -1,5 +1,5 @@
 ghost use Rattle.std.specs.Prelude.{◌≡◌, ◌≢◌, ◌<◌, ◌+◌, ◌^◌, ℕ, IfOk};
-ghost use Rattle.xc_judge.specs.Judged.{IsOpenTo, telling};
+ghost use Rattle.xc_judge.specs.Judged.{IsOpenTo, telling_terms};
 ghost use Rattle.xc_judge.specs.Ran.{IsKept};
 ghost use Rattle.xc_model.specs.Course.{after_course};
 ghost use Rattle.xc_model.specs.Machine.{IsMachineTrue};
@@ -16,7 +16,7 @@ impl Progress {
     pub(crate) fn enter(self, entry: &Entry, kept: Option<Ran>) -> Result<Progress, NoMemory>
         requires open { IsOpenTo self entry.now.tx }
         requires room { self.entered + 1 < 2 ^ 32 }
-        requires judged { (rules : PlainRules) × (last : PlainAsk) × IsMachineTrue (telling rules) self last entry.now }
+        requires judged { (rules : PlainRules) × (last : PlainAsk) × IsMachineTrue (telling_terms rules) self last entry.now }
         requires kept { IsKept kept (body_of self.state entry.now) entry.now.outcome }
         ensures value { IfOk result (λ next. next ≡ after_course self entry.now) }
         ensures open { (ty : ℕ) → (ty ≢ entry.now.tx) → IsOpenTo self ty → IfOk result (λ next. IsOpenTo next ty) }

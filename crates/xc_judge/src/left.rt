@@ -1,29 +1,29 @@
 ghost use Rattle.std.specs.Option.{option_copied};
 ghost use Rattle.std.specs.Prelude.{◌≡◌, ◌≤◌, ◌<◌, ◌^◌, [], ◌∷◌, length, IfOk, MatchOption};
 ghost use Rattle.xc_compensate.specs.Records.{covered};
-ghost use Rattle.xc_judge.specs.Left.{IsFront, IsLeftLast, IsNotLeft, NewestShown, count_shown, effect_bytes, whole_records};
+ghost use Rattle.xc_judge.specs.Left.{IsWriteFront, IsLeftLast, IsNotLeft, NewestShown, count_shown, effect_bytes, whole_records};
 ghost use Rattle.xc_script.specs.declared.ask.Ask.TheVariants as ask;
 ghost use Rattle.xc_world.specs.Run.{begins};
 ghost use Rattle.xc_world.specs.Sound.{IsSound};
 
 use crate::ran::Ran;
 use xc_data::{Answer, Call, NoMemory, Undo, UndoEnd};
-use xc_lines::Standing;
+use xc_lines::EffectShown;
 
 // How many bytes an effect has.
-fn effect_len(effect: &Standing) -> usize
+fn effect_len(effect: &EffectShown) -> usize
     ensures value { result ≡ length (effect_bytes effect.now) }
     ensures bound { result < 2 ^ 63 }
 {
     match effect {
-        Standing::Bytes { bytes, .. } | Standing::Tail { bytes, .. } => bytes.len(),
-        Standing::Made { .. } | Standing::Moved { .. } => 0,
-        Standing::Pipe(_) | Standing::Pair(_) => 0,
+        EffectShown::Bytes { bytes, .. } | EffectShown::Tail { bytes, .. } => bytes.len(),
+        EffectShown::Made { .. } | EffectShown::Moved { .. } => 0,
+        EffectShown::Pipe(_) | EffectShown::Pair(_) => 0,
     }
 }
 
 // How many bytes a record covers of which so many are restored, by its effect.
-fn count_shown(done: u32, effect: Option<&Standing>) -> usize
+fn count_shown(done: u32, effect: Option<&EffectShown>) -> usize
     ensures { result ≡ count_shown done (option_copied effect.entry) }
 {
     match effect {
@@ -44,8 +44,8 @@ fn some_of(count: usize, all: u32) -> Option<u32>
 
 // So many bytes as a record may cover; of one that is none of a write any number is.
 fn front_len(whole: &Undo, count: usize) -> Option<u32>
-    ensures { MatchOption result (IsFront count whole.now → ⊥)
-        (λ n. (covered whole.now n ≡ covered whole.now count) × IsFront count whole.now) }
+    ensures { MatchOption result (IsWriteFront count whole.now → ⊥)
+        (λ n. (covered whole.now n ≡ covered whole.now count) × IsWriteFront count whole.now) }
 {
     match whole {
         Undo::Bytes { n, .. } | Undo::Tail { n, .. } => some_of(count, *n),
@@ -67,7 +67,7 @@ fn cover(undo: &mut Undo, n: u32)
 
 // The record of a call that did so many bytes of its write, if it has as many.
 fn front_of(mut whole: Undo, count: usize) -> Option<Undo>
-    ensures { MatchOption result (IsFront count whole → ⊥) (λ v. (v ≡ covered whole count) × IsFront count whole) }
+    ensures { MatchOption result (IsWriteFront count whole → ⊥) (λ v. (v ≡ covered whole count) × IsWriteFront count whole) }
 {
     let n = front_len(&whole, count)?;
     cover(&mut whole, n);
@@ -94,7 +94,7 @@ impl Ran {
         tx: u32,
         call: &Call,
         end: UndoEnd,
-        effect: Option<&Standing>,
+        effect: Option<&EffectShown>,
     ) -> Result<Option<Undo>, NoMemory>
         requires sound { IsSound self.now.world self.now.me.value tx }
         ensures { let seen : NewestShown = record { end = end; effect = option_copied effect.entry } in

@@ -2,7 +2,7 @@ ghost use Rattle.std.specs.Bool.{Decides};
 ghost use Rattle.std.specs.List.{list_any, position};
 ghost use Rattle.std.specs.Prelude.{◌≡◌, ◌+◌, ◌<◌, ◌^◌, length};
 ghost use Rattle.xc_data.specs.Claims.{is_object};
-ghost use Rattle.xc_world.specs.Ends.{AreLegal, IsLegalEnd, RestoredFits, blocker, blocks, is_undone, share_object};
+ghost use Rattle.xc_world.specs.Ends.{AreLegal, IsLegalEnd, RestoredFits, blocker, stands_in_way, is_undone, share_object};
 
 use std::alloc::Global;
 use xc_data::{Object, Undo, UndoEnd};
@@ -35,14 +35,14 @@ pub(crate) fn is_undone(end: UndoEnd) -> bool
 
 // A newer record stands in an older one's way.
 fn blocks(alloc: Global, older: &Undo, newer: &(Undo, UndoEnd)) -> bool
-    ensures { result ≡ blocks older.now newer.now }
+    ensures { result ≡ stands_in_way older.now newer.now }
 {
     !is_undone(newer.1) && share_object(alloc, older, &newer.0)
 }
 
 // How many records lie between an older one and the first that stands in its way.
 fn way(alloc: Global, older: &Undo, newer: &[(Undo, UndoEnd)]) -> Option<usize>
-    ensures { result ≡ position (blocks older.now) newer.now }
+    ensures { result ≡ position (stands_in_way older.now) newer.now }
 {
     newer.iter().position(|record| blocks(alloc, older, record))
 }

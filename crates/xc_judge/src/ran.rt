@@ -1,6 +1,6 @@
 ghost use Rattle.std.specs.Bool.{Decides, OnTrue};
 ghost use Rattle.std.specs.Prelude.{◌≤◌, IfOk, MatchOption};
-ghost use Rattle.xc_judge.specs.Judged.{IsOpenTo, telling};
+ghost use Rattle.xc_judge.specs.Judged.{IsOpenTo, telling_terms};
 ghost use Rattle.xc_judge.specs.Ran.{IsLedOn, IsLedOnBy, IsRan};
 ghost use Rattle.xc_model.specs.Machine.{HasLateEnds, HasLates, HasReplies};
 ghost use Rattle.xc_model.specs.Progress.{body_of};
@@ -26,8 +26,8 @@ impl Progress {
     pub(crate) fn run_again(&self, rules: &Rules, entry: &Entry) -> Result<Option<Ran>, NoMemory>
         requires open { IsOpenTo self.now entry.now.tx }
         requires numbered { 1 ≤ entry.now.job }
-        ensures { IfOk result (λ r. MatchOption r (HasReplies (telling rules.now) self.now entry.now → ⊥) (λ ran.
-            HasReplies (telling rules.now) self.now entry.now × IsRan ran (body_of self.now.state entry.now) entry.now.tx)) }
+        ensures { IfOk result (λ r. MatchOption r (HasReplies (telling_terms rules.now) self.now entry.now → ⊥) (λ ran.
+            HasReplies (telling_terms rules.now) self.now entry.now × IsRan ran (body_of self.now.state entry.now) entry.now.tx)) }
     {
         let (calls, replies) = (entry.calls.as_slice(), entry.replies.as_slice());
         let alloc = *self.jobs.allocator();
@@ -52,7 +52,7 @@ impl Progress {
         late: &[LateEnd],
     ) -> Result<bool, NoMemory>
         requires ran { IsRan ran.old (body_of self.now.state entry.now) entry.now.tx }
-        ensures decides { IfOk result (λ yes. Decides yes (HasLateEnds (telling rules.now) self.now entry.now late.now)) }
+        ensures decides { IfOk result (λ yes. Decides yes (HasLateEnds (telling_terms rules.now) self.now entry.now late.now)) }
         ensures leads { IfOk result (λ yes. OnTrue yes
             (IsLedOn ran.new.world ran.new.me.value (body_of self.now.state entry.now) late.now)) }
     {
@@ -72,7 +72,7 @@ impl Progress {
         entry: &Entry,
     ) -> Result<bool, NoMemory>
         requires ran { IsRan ran.old (body_of self.now.state entry.now) entry.now.tx }
-        ensures decides { IfOk result (λ yes. Decides yes (HasLates (telling rules.now) self.now entry.now entry.now.outcome)) }
+        ensures decides { IfOk result (λ yes. Decides yes (HasLates (telling_terms rules.now) self.now entry.now entry.now.outcome)) }
         ensures leads { IfOk result (λ yes. OnTrue yes
             (IsLedOnBy ran.new (body_of self.now.state entry.now) entry.now.tx entry.now.outcome)) }
     {

@@ -1,7 +1,7 @@
 ghost use Rattle.std.specs.Bool.{Decides};
 ghost use Rattle.std.specs.Prelude.{◌≡◌, true, All};
 ghost use Rattle.xc_judge.specs.Counts.{IsCount, IsCountedReport};
-ghost use Rattle.xc_judge.specs.Ran.{has_failed, is_starved};
+ghost use Rattle.xc_judge.specs.Ran.{has_failed, is_memory_cause};
 ghost use Rattle.xc_model.specs.Recorded.{IsNewestFailed, IsOfBlock, IsStuckIn};
 ghost use Rattle.xc_world.specs.Ends.{Ending, is_undone};
 
@@ -85,7 +85,7 @@ fn is_newest_failed(failed: u32, records: &[(Undo, UndoEnd)]) -> bool
 
 /// Whether memory ran out.
 pub(crate) fn is_starved(cause: &Cause) -> bool
-    ensures { result ≡ is_starved cause.now }
+    ensures { result ≡ is_memory_cause cause.now }
 {
     matches!(cause, Cause::NoMemory)
 }

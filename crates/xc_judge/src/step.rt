@@ -1,6 +1,6 @@
 ghost use Rattle.std.specs.Bool.{Decides};
 ghost use Rattle.std.specs.Prelude.{◌≡◌, ◌≢◌, ◌<◌, ◌+◌, ◌^◌, [], ℕ, IfOk, MatchOption, MatchResult};
-ghost use Rattle.xc_judge.specs.Judged.{IsNumbered, IsOpenTo, IsToldBy, telling};
+ghost use Rattle.xc_judge.specs.Judged.{IsInSomeTurn, IsOpenTo, IsToldBy, telling_terms};
 ghost use Rattle.xc_judge.specs.Ran.{IsLedOnBy};
 ghost use Rattle.xc_judge.specs.Judgement.{FailsToRun, HasNoRecords, IsFoundSo, IsJudgedSo, IsRunSo};
 ghost use Rattle.xc_judge.specs.Stepped.{IsRefusedSo, IsSteppedTo, WhereEntered, WhereRefused};
@@ -12,7 +12,7 @@ use crate::ran::Ran;
 use crate::{Progress, Reason, Step, Stepped};
 use arrayvec::ArrayVec;
 use xc_data::{Claim, Entry, NoMemory, Outcome, UndoEnd};
-use xc_lines::{Standing, UndoKind};
+use xc_lines::{EffectShown, UndoKind};
 use xc_model::Rules;
 use xc_script::Ask;
 use xc_shown::Shown;
@@ -26,7 +26,7 @@ pub(crate) struct Judged {
 }
 
 // No record is shown, as it is where a transaction was committed.
-fn are_none(records: &[(UndoKind, UndoEnd)], effects: &[Standing]) -> bool
+fn are_none(records: &[(UndoKind, UndoEnd)], effects: &[EffectShown]) -> bool
     ensures { Decides result ((records.now ≡ []) × (effects.now ≡ [])) }
 {
     records.is_empty() && effects.is_empty()
@@ -43,7 +43,7 @@ impl Progress {
         shown: Shown,
     ) -> Result<Option<(Entry, Option<Ran>)>, NoMemory>
         requires ran { IsLedOnBy ran (body_of self.now.state shown.entry) shown.entry.tx shown.entry.outcome }
-        requires replies { HasReplies (telling rules.now) self.now shown.entry }
+        requires replies { HasReplies (telling_terms rules.now) self.now shown.entry }
         requires bare { bare shown.entry ≡ shown.entry }
         ensures { IfOk result (λ found. MatchOption found (HasNoRecords rules.now self.now last.now shown)
             (IsFoundSo rules.now self.now last.now shown)) }
@@ -79,7 +79,7 @@ impl Progress {
 
     // An entry whose job is started told its story.
     fn is_told(&self, rules: &Rules, last: &Ask, entry: &Entry) -> bool
-        requires numbered { IsNumbered self.now entry.now }
+        requires numbered { IsInSomeTurn self.now entry.now }
         ensures { Decides result (IsToldBy rules.now self.now last.now entry.now) }
     {
         match self.standing_of(entry) {

@@ -1,6 +1,6 @@
 ghost use Rattle.std.specs.Bool.{Decides};
 ghost use Rattle.std.specs.Prelude.{◌≡◌, ◌≤◌};
-ghost use Rattle.xc_model.specs.EntryEnds.{IsCauseOf, IsCaused, failures_with, is_tried_again};
+ghost use Rattle.xc_model.specs.EntryEnds.{IsCauseOf, HasAbortCause, failures_with, is_tried_again};
 ghost use Rattle.xc_model.specs.Machine.{IsAttempt, IsEndAsked};
 ghost use Rattle.xc_model.specs.Recorded.{all_records, no_records};
 
@@ -33,7 +33,7 @@ fn is_cause_of(cause: &Cause, last: &Ask) -> bool
 
 // An entry's abort was caused so: what led there was asked, and a way back got stuck at a record of its block.
 fn is_caused(last: &Ask, entry: &Entry, report: &Report) -> bool
-    ensures { Decides result (IsCaused (all_records no_records entry.now.calls entry.now.replies) last.now report.now) }
+    ensures { Decides result (HasAbortCause (all_records no_records entry.now.calls entry.now.replies) last.now report.now) }
 {
     let counted = records_of(entry.calls.as_slice(), entry.replies.as_slice());
     is_cause_of(&report.cause, last)

@@ -1,8 +1,8 @@
 ghost use Rattle.std.specs.Bool.{Decides};
 ghost use Rattle.std.specs.Prelude.{◌≡◌, ◌+◌, ◌∷◌, ◌++◌, [], true, length, IfOk, OnOk, MatchBool, MatchOption};
 ghost use Rattle.xc_data.specs.declared.entry.Report.{Report as PlainReport};
-ghost use Rattle.xc_judge.specs.Judged.{telling};
-ghost use Rattle.xc_judge.specs.Ran.{IsRan, is_starved};
+ghost use Rattle.xc_judge.specs.Judged.{telling_terms};
+ghost use Rattle.xc_judge.specs.Ran.{IsRan, is_memory_cause};
 ghost use Rattle.xc_judge.specs.Traced.{AreNotTraced, AreTraced, IsShownSo, ReportShown, ends_of, report_shown, shown_ends, undos_of};
 ghost use Rattle.xc_model.specs.Machine.{HasReplies, HasReport};
 ghost use Rattle.xc_model.specs.Progress.{body_of};
@@ -15,7 +15,7 @@ use crate::faults::records_of;
 use crate::ran::Ran;
 use crate::records::is_starved;
 use xc_data::{Cause, Items, NoMemory, RecordList, Report, Undo, UndoEnd};
-use xc_lines::{Standing, UndoKind};
+use xc_lines::{EffectShown, UndoKind};
 use xc_machine::Traced;
 use xc_model::Rules;
 use xc_script::Ask;
@@ -23,7 +23,7 @@ use xc_shown::Shown;
 
 // Without memory one record more than those of the calls may be shown.
 fn is_one_more(cause: &Cause, count: usize, shown: usize) -> bool
-    ensures { Decides result ((is_starved cause.now ≡ true) × (shown ≡ count + 1)) }
+    ensures { Decides result ((is_memory_cause cause.now ≡ true) × (shown ≡ count + 1)) }
 {
     is_starved(cause) && shown > count && shown - count == 1
 }
@@ -59,7 +59,7 @@ impl Ran {
         last: &Ask,
         cause: &Cause,
         shown: &[(UndoKind, UndoEnd)],
-        effects: &[Standing],
+        effects: &[EffectShown],
     ) -> Result<bool, NoMemory>
         requires sound { IsSound self.old.world self.old.me.value tx }
         ensures { (b : BodyResult) → self.old.world ≡ b.world → self.old.me.value ≡ b.me → self.old.traced.trail ≡ b.trail
@@ -104,10 +104,11 @@ impl Progress {
         shown: &Shown,
     ) -> Result<Option<Report>, NoMemory>
         requires ran { IsRan ran (body_of self.now.state shown.now.entry) shown.now.entry.tx }
-        requires replies { HasReplies (telling rules.now) self.now shown.now.entry }
+        requires replies { HasReplies (telling_terms rules.now) self.now shown.now.entry }
         ensures { let seen = report_shown cause.now shown.now in IfOk result (λ found. MatchOption found
-            ((report : PlainReport) → IsShownSo seen report → HasReport (telling rules.now) self.now last.now shown.now.entry report → ⊥)
-            (λ report. IsShownSo seen report × HasReport (telling rules.now) self.now last.now shown.now.entry report)) }
+            ((report : PlainReport) → IsShownSo seen report → HasReport (telling_terms rules.now) self.now last.now shown.now.entry report
+            → ⊥)
+            (λ report. IsShownSo seen report × HasReport (telling_terms rules.now) self.now last.now shown.now.entry report)) }
     {
         let mut ran = ran;
         let entry = &shown.entry;

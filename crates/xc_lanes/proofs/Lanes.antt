@@ -29,10 +29,10 @@ mask_of p f bs z room fits lanes all =
     ∙ mask_l-mod (map p v) 64 (omega (arith, length-map v p, length-chunk 0 16 bs room))
 
 -- where f has the top bit set in a lane the run ends: its length is the place of the first such lane
-pub run_of : (p : ℕ → Bool) (f : ℕ → ℕ) (bs z : List ℕ) → 16 ≤ length bs → ((k : ℕ) → Fits w8 (get_or bs k 0)) → z ≡ map f (chunk 0 16 bs) →
+pub lane_run : (p : ℕ → Bool) (f : ℕ → ℕ) (bs z : List ℕ) → 16 ≤ length bs → ((k : ℕ) → Fits w8 (get_or bs k 0)) → z ≡ map f (chunk 0 16 bs) →
     agree_below (λ x. not (top 7 (f x))) p 256 ≡ true →
     cond (eqb (mask_l (map (top 7) z) % 2 ^ 64) 0) 16 (count_trailing_zeros 64 (mask_l (map (top 7) z) % 2 ^ 64)) ≡ prefix_len p (chunk 0 16 bs)
-run_of p f bs z room fits lanes all =
+lane_run p f bs z room fits lanes all =
     let v = chunk 0 16 bs in
     let long = length-chunk 0 16 bs room in
     let stops = λ (x : ℕ). top 7 (f x) in

@@ -6,4 +6,4 @@ pub use Rattle.xc_lanes.proofs.BitRuns.{reaches}
 -- where f has the top bit set in a lane its bit of the mask is set
 pub use Rattle.xc_lanes.proofs.Lanes.{mask_of}
 -- where f has the top bit set in a lane the run ends: its length is the place of the first such lane
-pub use Rattle.xc_lanes.proofs.Lanes.{run_of}
+pub use Rattle.xc_lanes.proofs.Lanes.{lane_run}

@@ -14,8 +14,9 @@ use Rattle.xc_print.specs.Calls.{slot_text, call_text}
 use Rattle.xc_print.specs.Objects.{handle_text}
 use Rattle.xc_tokens.specs.Numbers.{is_digit}
 use Rattle.xc_lines.specs.Ranges.{AreBytes, IsName, IsIdent, IsCallInRange, IsSlot}
-use Rattle.xc_lines.specs.Calls.{load_at, store_at, open_at, create_at, read_at, overwrite_at, append_at, seek_at, len_at, rename_at, close_at}
-use Rattle.xc_lines.specs.Calls.{read_pipe_at, receive_at, unlink_at, sync_at, write_pipe_at, shut_down_at, send_at, start_at, call_at}
+use Rattle.xc_lines.specs.Calls.{load_at, store_at, open_call_at, create_at, read_call_at, overwrite_call_at, append_call_at, seek_call_at, len_call_at}
+use Rattle.xc_lines.specs.Calls.{rename_at, close_at}
+use Rattle.xc_lines.specs.Calls.{read_pipe_call_at, receive_call_at, unlink_at, sync_at, write_pipe_at, shut_down_at, send_at, start_at, call_at}
 use Rattle.xc_lines.specs.Calls.{file_call_at, pipe_call_at, late_call_at, block_call_at}
 use Rattle.xc_lines.specs.Calls.{two_numbers_at, two_names_at, handle_number_at, handle_bytes_at, slot_at, name_slot_at, ident_slot_at}
 use Rattle.xc_lines.specs.Calls.{handle_slot_at, handle_bytes_slot_at}
@@ -98,7 +99,8 @@ handle_bytes_slot_again h bytes slot rest h_is all slot_is =
 
 -- ---- each call
 pub call_again : (call : Call) (rest : List ℕ) → IsCallInRange call → call_at (call_text call ++ then_is rest) ≡ Some (call, then_is rest)
-unfolding load_at store_at open_at create_at read_at overwrite_at append_at seek_at len_at rename_at close_at read_pipe_at receive_at
+unfolding load_at store_at open_call_at create_at read_call_at overwrite_call_at append_call_at seek_call_at len_call_at rename_at close_at read_pipe_call_at
+    receive_call_at
     unlink_at sync_at write_pipe_at shut_down_at send_at start_at call_at file_call_at pipe_call_at late_call_at block_call_at
 call_again (Load at) rest within = rw (number_again at (then_is rest) within refl) refl
 call_again (Store at value) rest within =

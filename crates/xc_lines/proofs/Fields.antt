@@ -16,7 +16,7 @@ use Rattle.xc_lines.specs.Parts.{pair_object_at, jobs_object_at}
 use Rattle.xc_lines.proofs.Spelled.{small_again, tiny_again, not_past, name_again}
 
 -- nothing behind a value goes on with a number or a name
-pub record Ends (rest : List ℕ) : Type 0 where
+pub record EndsField (rest : List ℕ) : Type 0 where
   pub digits : prefix_len is_digit rest ≡ 0
   pub names : prefix_len is_name_byte rest ≡ 0
 
@@ -54,7 +54,8 @@ num_again num rest within stop =
     ap num_at apart ∙ rw (small_again num.tx (46 ∷ (decimal num.k ++ rest)) within.tx refl, tiny_again num.k rest within.k stop) refl
 
 -- an object is read again, before what ends its name or number
-pub object_again : (object : Object) (rest : List ℕ) → IsObjectInRange object → Ends rest → any_object_at (object_text object ++ rest) ≡ Some (object, rest)
+pub object_again : (object : Object) (rest : List ℕ) → IsObjectInRange object → EndsField rest
+    → any_object_at (object_text object ++ rest) ≡ Some (object, rest)
 unfolding any_object_at word_object_at name_object_at file_object_at pipe_object_at pair_object_at jobs_object_at
 object_again (Word at) rest within stop = rw (small_again at rest within stop.digits) refl
 object_again (Name name) rest within stop = rw (name_again name rest within stop.names) refl

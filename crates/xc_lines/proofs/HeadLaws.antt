@@ -11,7 +11,7 @@ use Rattle.xc_lines.specs.Ranges.{IsCauseInRange, IsHeadCauseInRange, IsHeadInRa
 use Rattle.xc_lines.specs.Heads.{conflict_at, revoked_at, stuck_at, no_memory_at, cause_at, attempt_at, commit_at, abort_at, head_at}
 use Rattle.xc_lines.specs.Heads.{word_of, cause_of, numbers_text, head_text}
 use Rattle.xc_lines.proofs.Spelled.{small_again}
-use Rattle.xc_lines.proofs.Fields.{Ends, object_again}
+use Rattle.xc_lines.proofs.Fields.{EndsField, object_again}
 
 -- the rest of a conflict's words, and of a revocation's
 abbrev holder_on : ℕ → ℕ → List ℕ → List ℕ
@@ -21,7 +21,7 @@ abbrev by_on : ℕ → ℕ → List ℕ → List ℕ
 by_on by at rest = codes " by t" ++ (decimal by ++ (codes " at " ++ (decimal at ++ rest)))
 
 -- a cause is read again, before what ends its last number
-pub cause_again : (cause : Cause) (rest : List ℕ) → IsCauseInRange cause → Ends rest → cause_at (cause_text cause ++ rest) ≡ Some (cause, rest)
+pub cause_again : (cause : Cause) (rest : List ℕ) → IsCauseInRange cause → EndsField rest → cause_at (cause_text cause ++ rest) ≡ Some (cause, rest)
 unfolding cause_at conflict_at revoked_at stuck_at no_memory_at
 cause_again Asked rest within stop = refl
 cause_again (Conflict object holder at) rest within stop =
@@ -53,7 +53,7 @@ from_rank head rest = codes " rank " ++ (decimal head.rank ++ from_began head re
 abbrev from_job : Head → List ℕ → List ℕ
 from_job head rest = codes " job " ++ (decimal head.job ++ from_rank head rest)
 
-attempt_again : (head : Head) (rest : List ℕ) → IsHeadInRange head → Ends rest
+attempt_again : (head : Head) (rest : List ℕ) → IsHeadInRange head → EndsField rest
     → attempt_at (numbers_text head ++ rest) ≡ Some (record head { cause = None }, rest)
 unfolding attempt_at
 attempt_again head rest within stop =

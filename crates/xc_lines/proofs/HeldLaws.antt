@@ -10,10 +10,10 @@ use Rattle.xc_print.specs.Objects.{object_text, mode_text, claim_text, further_c
 use Rattle.xc_lines.specs.Held.{claim_at, further_at}
 use Rattle.xc_lines.specs.Parts.{past}
 use Rattle.xc_lines.specs.Ranges.{IsObjectInRange, AreClaimsInRange}
-use Rattle.xc_lines.proofs.Fields.{Ends, object_again}
+use Rattle.xc_lines.proofs.Fields.{EndsField, object_again}
 use Rattle.xc_lines.proofs.TailLaws.{three_parts}
 
-with_mode : (object : Object) (mode : Mode) (rest : List ℕ) → IsObjectInRange object → Ends rest → past (codes " shared") rest ≡ None
+with_mode : (object : Object) (mode : Mode) (rest : List ℕ) → IsObjectInRange object → EndsField rest → past (codes " shared") rest ≡ None
     → claim_at (object_text object ++ mode_text mode ++ rest) ≡ Some (record { object = object; mode = mode }, rest)
 unfolding claim_at
 with_mode object Shared rest within ends other =
@@ -23,12 +23,12 @@ with_mode object Exclusive rest within ends other =
     ap (λ t. claim_at (t ++ rest)) (append-nil (object_text object)) ∙ rw (object_again object rest within ends, other) refl
 
 -- a claim is read again, before what ends it and isn't its mode
-pub claim_again : (claim : Claim) (rest : List ℕ) → IsObjectInRange claim.object → Ends rest → past (codes " shared") rest ≡ None
+pub claim_again : (claim : Claim) (rest : List ℕ) → IsObjectInRange claim.object → EndsField rest → past (codes " shared") rest ≡ None
     → claim_at (claim_text claim ++ rest) ≡ Some (claim, rest)
 claim_again claim rest within ends other = with_mode claim.object claim.mode rest within ends other
 
 -- further claims end what stands before them
-pub further_end : (claims : List Claim) (rest : List ℕ) → Ends (further_claims claims ++ 10 ∷ rest)
+pub further_end : (claims : List Claim) (rest : List ℕ) → EndsField (further_claims claims ++ 10 ∷ rest)
 further_end [] rest = record { digits = refl; names = refl }
 further_end (claim ∷ claims) rest = record { digits = refl; names = refl }
 

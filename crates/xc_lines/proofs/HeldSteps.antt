@@ -3,8 +3,8 @@ use Rattle.std.proofs.Common.{◌≡◌, ℕ, zero, suc, ◌-◌, ◌<◌, List,
 use Rattle.std.proofs.lemmas.List.{append-nil}
 use Rattle.std.specs.Prelude.{codes}
 use Rattle.xc_data.specs.declared.claim.Claim.{Claim}
-use Rattle.xc_lines.specs.declared.stop.Stop.{Stop}
-use Rattle.xc_lines.specs.declared.stop.Stop.TheVariants as stop
+use Rattle.xc_lines.specs.declared.stop.ReadStop.{ReadStop}
+use Rattle.xc_lines.specs.declared.stop.ReadStop.TheVariants as stop
 use Rattle.xc_lines.specs.Held.{claim_at, before_claims, behind_claims, further_at}
 use Rattle.xc_lines.specs.Parts.{◌>>=◌, Read, FailsToRead, past, read_behind}
 
@@ -51,13 +51,13 @@ none_then : (so_far : List Claim) (n : ℕ) (read : Read Claim) → read ≡ Non
     → behind_claims so_far (read >>= (λ claim. before_claims claim.0 (further_at n claim.1))) ≡ None
 none_then so_far n read e = ap (λ r. behind_claims so_far (r >>= (λ claim. before_claims claim.0 (further_at n claim.1)))) e
 
-fails_with : (e : Stop) (so_far : List Claim) (n : ℕ) (read : Read Claim) → FailsToRead e read
+fails_with : (e : ReadStop) (so_far : List Claim) (n : ℕ) (read : Read Claim) → FailsToRead e read
     → FailsToRead e (behind_claims so_far (read >>= (λ claim. before_claims claim.0 (further_at n claim.1))))
 fails_with stop.Unread so_far n read h = none_then so_far n read h
 fails_with stop.NoMemory so_far n read h = tt
 
 -- reading that fails at another one fails for all
-pub fails_there : (e : Stop) (n : ℕ) (so_far : List Claim) (text rest : List ℕ) (all : Read (List Claim)) → 0 < n → past (codes ", ") text ≡ Some rest
+pub fails_there : (e : ReadStop) (n : ℕ) (so_far : List Claim) (text rest : List ℕ) (all : Read (List Claim)) → 0 < n → past (codes ", ") text ≡ Some rest
     → FailsToRead e (claim_at rest) → behind_claims so_far (further_at n text) ≡ all → FailsToRead e all
 unfolding further_at
 fails_there e zero so_far text rest all some another h same = absurd (omega arith)

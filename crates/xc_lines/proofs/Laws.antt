@@ -42,4 +42,4 @@ pub use Rattle.xc_lines.proofs.TailLaws.{standing_again}
 -- jobs
 pub use Rattle.xc_lines.proofs.TailLaws.{job_end_again}
 -- kept data
-pub use Rattle.xc_lines.proofs.TailLaws.{kept_again}
+pub use Rattle.xc_lines.proofs.TailLaws.{item_again}

@@ -11,8 +11,8 @@ use Rattle.xc_print.specs.Objects.{num_text}
 use Rattle.xc_print.specs.Records.{undo_end_text}
 use Rattle.xc_lines.specs.declared.shown.UndoKind.{UndoKind}
 use Rattle.xc_lines.specs.declared.shown.UndoKind.TheVariants as kind
-use Rattle.xc_lines.specs.declared.shown.Standing.{Standing}
-use Rattle.xc_lines.specs.declared.shown.Standing.TheVariants as standing
+use Rattle.xc_lines.specs.declared.shown.EffectShown.{EffectShown}
+use Rattle.xc_lines.specs.declared.shown.EffectShown.TheVariants as standing
 use Rattle.xc_lines.specs.declared.shown.JobShown.{JobShown}
 use Rattle.xc_lines.specs.declared.shown.JobShown.TheVariants as ended
 use Rattle.xc_lines.specs.Ranges.{IsUndoEndInRange, IsStandingInRange, IsItemInRange}
@@ -60,7 +60,8 @@ undo_end_again (Failed done faults) rest within =
 undo_end_again (Blocked by) rest within = rw (small_again by (10 ∷ rest) within refl) refl
 
 -- ---- effects
-pub standing_again : (effect : Standing) (rest : List ℕ) → IsStandingInRange effect → standing_at (standing_text effect ++ 10 ∷ rest) ≡ Some (effect, 10 ∷ rest)
+pub standing_again : (effect : EffectShown) (rest : List ℕ) → IsStandingInRange effect
+    → standing_at (standing_text effect ++ 10 ∷ rest) ≡ Some (effect, 10 ∷ rest)
 unfolding standing_at overwrite_stands_at tail_stands_at made_stands_at moved_stands_at pipe_stands_at pair_stands_at
 standing_again (standing.Bytes file at bytes) rest within =
     ap standing_at (six_parts (codes "bytes file ") (num_text file) (codes " at ") (decimal at) (codes " ") (bytes_text bytes) (10 ∷ rest))
@@ -94,12 +95,12 @@ job_end_again ended.JournalFull rest = refl
 job_end_again ended.NoMemory rest = refl
 
 -- ---- kept data
-pub kept_again : (kept : KeptItem) (rest : List ℕ) → IsItemInRange kept → kept_at (kept_text kept ++ 10 ∷ rest) ≡ Some (kept, 10 ∷ rest)
+pub item_again : (kept : KeptItem) (rest : List ℕ) → IsItemInRange kept → kept_at (kept_text kept ++ 10 ∷ rest) ≡ Some (kept, 10 ∷ rest)
 unfolding kept_at kept_pipe_at kept_pair_at
-kept_again (item.Bytes pipe bytes) rest within =
+item_again (item.Bytes pipe bytes) rest within =
     ap kept_at (four_parts (codes "pipe ") (num_text pipe) (codes " ") (bytes_text bytes) (10 ∷ rest))
     ∙ rw (num_again pipe (codes " " ++ (bytes_text bytes ++ 10 ∷ rest)) within.0 refl, bytes_again bytes (10 ∷ rest) within.1) refl
-kept_again (item.Message pair side bytes) rest within =
+item_again (item.Message pair side bytes) rest within =
     ap kept_at (six_parts (codes "pair ") (num_text pair) (codes " side ") (decimal side) (codes " ") (bytes_text bytes) (10 ∷ rest))
     ∙ rw (
       num_again pair (codes " side " ++ (decimal side ++ (codes " " ++ (bytes_text bytes ++ 10 ∷ rest)))) within.0 refl,

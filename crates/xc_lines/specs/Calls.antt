@@ -79,32 +79,32 @@ unfoldable pub store_at : List ℕ → Read Call
 store_at bytes = mapped (λ p. call.Store p.0 p.1) (two_numbers_at bytes)
 
 -- behind `x_open`
-unfoldable pub open_at : List ℕ → Read Call
-open_at bytes = mapped (λ name. call.XOpen name) (name_at bytes)
+unfoldable pub open_call_at : List ℕ → Read Call
+open_call_at bytes = mapped (λ name. call.XOpen name) (name_at bytes)
 
 -- behind `x_create`
 unfoldable pub create_at : List ℕ → Read Call
 create_at bytes = mapped (λ name. call.XCreate name) (name_at bytes)
 
 -- behind `x_read`
-unfoldable pub read_at : List ℕ → Read Call
-read_at bytes = mapped (λ p. call.XRead p.0 p.1) (handle_number_at bytes)
+unfoldable pub read_call_at : List ℕ → Read Call
+read_call_at bytes = mapped (λ p. call.XRead p.0 p.1) (handle_number_at bytes)
 
 -- behind `x_write_ovr`
-unfoldable pub overwrite_at : List ℕ → Read Call
-overwrite_at bytes = mapped (λ p. call.XWriteOvr p.0 p.1) (handle_bytes_at bytes)
+unfoldable pub overwrite_call_at : List ℕ → Read Call
+overwrite_call_at bytes = mapped (λ p. call.XWriteOvr p.0 p.1) (handle_bytes_at bytes)
 
 -- behind `x_write_seq`
-unfoldable pub append_at : List ℕ → Read Call
-append_at bytes = mapped (λ p. call.XWriteSeq p.0 p.1) (handle_bytes_at bytes)
+unfoldable pub append_call_at : List ℕ → Read Call
+append_call_at bytes = mapped (λ p. call.XWriteSeq p.0 p.1) (handle_bytes_at bytes)
 
 -- behind `x_seek`
-unfoldable pub seek_at : List ℕ → Read Call
-seek_at bytes = mapped (λ p. call.XSeek p.0 p.1) (handle_number_at bytes)
+unfoldable pub seek_call_at : List ℕ → Read Call
+seek_call_at bytes = mapped (λ p. call.XSeek p.0 p.1) (handle_number_at bytes)
 
 -- behind `x_len`
-unfoldable pub len_at : List ℕ → Read Call
-len_at bytes = mapped (λ h. call.XLen h) (handle_at bytes)
+unfoldable pub len_call_at : List ℕ → Read Call
+len_call_at bytes = mapped (λ h. call.XLen h) (handle_at bytes)
 
 -- behind `x_rename`
 unfoldable pub rename_at : List ℕ → Read Call
@@ -115,12 +115,12 @@ unfoldable pub close_at : List ℕ → Read Call
 close_at bytes = mapped (λ h. call.XClose h) (handle_at bytes)
 
 -- behind `x_read_pipe`
-unfoldable pub read_pipe_at : List ℕ → Read Call
-read_pipe_at bytes = mapped (λ p. call.XReadPipe p.0 p.1) (handle_number_at bytes)
+unfoldable pub read_pipe_call_at : List ℕ → Read Call
+read_pipe_call_at bytes = mapped (λ p. call.XReadPipe p.0 p.1) (handle_number_at bytes)
 
 -- behind `x_recvmsg`
-unfoldable pub receive_at : List ℕ → Read Call
-receive_at bytes = mapped (λ h. call.XRecvmsg h) (handle_at bytes)
+unfoldable pub receive_call_at : List ℕ → Read Call
+receive_call_at bytes = mapped (λ h. call.XRecvmsg h) (handle_at bytes)
 
 -- behind `x_unlink`
 unfoldable pub unlink_at : List ℕ → Read Call
@@ -167,18 +167,18 @@ late_call_at bytes =
 -- those after `x_pipe`
 unfoldable pub pipe_call_at : List ℕ → Read Call
 pipe_call_at bytes =
-    read_behind (past (codes "x_read_pipe ") bytes) read_pipe_at
+    read_behind (past (codes "x_read_pipe ") bytes) read_pipe_call_at
     (read_behind (past (codes "x_pair") bytes) (says call.XPair)
-    (read_behind (past (codes "x_recvmsg ") bytes) receive_at
+    (read_behind (past (codes "x_recvmsg ") bytes) receive_call_at
     (read_behind (past (codes "x_unlink ") bytes) unlink_at
     (late_call_at bytes))))
 
 -- those after `x_write_ovr`
 unfoldable pub file_call_at : List ℕ → Read Call
 file_call_at bytes =
-    read_behind (past (codes "x_write_seq ") bytes) append_at
-    (read_behind (past (codes "x_seek ") bytes) seek_at
-    (read_behind (past (codes "x_len ") bytes) len_at
+    read_behind (past (codes "x_write_seq ") bytes) append_call_at
+    (read_behind (past (codes "x_seek ") bytes) seek_call_at
+    (read_behind (past (codes "x_len ") bytes) len_call_at
     (read_behind (past (codes "x_rename ") bytes) rename_at
     (read_behind (past (codes "x_close ") bytes) close_at
     (read_behind (past (codes "x_pipe") bytes) (says call.XPipe)
@@ -189,8 +189,8 @@ unfoldable pub call_at : List ℕ → Read Call
 call_at bytes =
     read_behind (past (codes "load ") bytes) load_at
     (read_behind (past (codes "store ") bytes) store_at
-    (read_behind (past (codes "x_open ") bytes) open_at
+    (read_behind (past (codes "x_open ") bytes) open_call_at
     (read_behind (past (codes "x_create ") bytes) create_at
-    (read_behind (past (codes "x_read ") bytes) read_at
-    (read_behind (past (codes "x_write_ovr ") bytes) overwrite_at
+    (read_behind (past (codes "x_read ") bytes) read_call_at
+    (read_behind (past (codes "x_write_ovr ") bytes) overwrite_call_at
     (file_call_at bytes))))))

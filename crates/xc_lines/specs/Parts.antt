@@ -9,8 +9,8 @@ use Rattle.xc_data.specs.declared.object.Object.TheVariants as object
 use Rattle.xc_data.specs.Spelling.{is_name, is_name_byte, is_ident}
 use Rattle.xc_tokens.specs.Numbers.{is_digit, number_of}
 use Rattle.xc_tokens.specs.Quoted.{literal_of}
-use Rattle.xc_lines.specs.declared.stop.Stop.{Stop}
-use Rattle.xc_lines.specs.declared.stop.Stop.TheVariants as stop
+use Rattle.xc_lines.specs.declared.stop.ReadStop.{ReadStop}
+use Rattle.xc_lines.specs.declared.stop.ReadStop.TheVariants as stop
 
 infixl 10 ◌>>=◌
 -- what follows of what was read
@@ -23,22 +23,22 @@ abbrev pub Read : Type 0 → Type 0
 Read A = Option (A × List ℕ)
 
 -- what code that stops with this says of what is read
-abbrev pub FailsToRead : {Y : Type 0} → Stop → Option Y → Type 0
+abbrev pub FailsToRead : {Y : Type 0} → ReadStop → Option Y → Type 0
 FailsToRead stop.Unread read = read ≡ None
 FailsToRead stop.NoMemory read = Unit {0}
 
 -- code gives what is read, and stands behind it, but for want of memory
-abbrev pub GivesRead : {X : Type 0} → Result X Stop → List ℕ → Read X → Type 0
+abbrev pub GivesRead : {X : Type 0} → Result X ReadStop → List ℕ → Read X → Type 0
 GivesRead (Ok x) rest read = read ≡ Some (x, rest)
 GivesRead (Err e) rest read = FailsToRead e read
 
 -- the same, where the code gives what stands behind beside the value
-abbrev pub GivesMeant : {X Y : Type 0} → (X → Y) → Result X Stop → Option Y → Type 0
+abbrev pub GivesMeant : {X Y : Type 0} → (X → Y) → Result X ReadStop → Option Y → Type 0
 GivesMeant view (Ok x) read = read ≡ Some (view x)
 GivesMeant view (Err e) read = FailsToRead e read
 
 -- code has passed what stands in front
-abbrev pub PassesFront : {X : Type 0} → Result X Stop → List ℕ → Option (List ℕ) → Type 0
+abbrev pub PassesFront : {X : Type 0} → Result X ReadStop → List ℕ → Option (List ℕ) → Type 0
 PassesFront (Ok x) rest read = read ≡ Some rest
 PassesFront (Err e) rest read = FailsToRead e read
 

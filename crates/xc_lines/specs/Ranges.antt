@@ -15,8 +15,8 @@ use Rattle.xc_data.specs.declared.undo.UndoEnd.{UndoEnd}
 use Rattle.xc_data.specs.declared.undo.UndoEnd.TheVariants as undo_end
 use Rattle.xc_data.specs.declared.entry.KeptItem.{KeptItem}
 use Rattle.xc_data.specs.declared.entry.KeptItem.TheVariants as item
-use Rattle.xc_lines.specs.declared.shown.Standing.{Standing}
-use Rattle.xc_lines.specs.declared.shown.Standing.TheVariants as standing
+use Rattle.xc_lines.specs.declared.shown.EffectShown.{EffectShown}
+use Rattle.xc_lines.specs.declared.shown.EffectShown.TheVariants as standing
 use Rattle.xc_data.specs.declared.entry.Cause.{Cause}
 use Rattle.xc_data.specs.declared.entry.Cause.TheVariants as cause
 use Rattle.xc_data.specs.Spelling.{is_name, is_ident}
@@ -121,7 +121,7 @@ IsUndoEndInRange (undo_end.Failed done faults) = (done < 2 ^ 32) × (faults < 2 
 IsUndoEndInRange (undo_end.Blocked by) = by < 2 ^ 32
 
 -- an effect that stands
-abbrev pub IsStandingInRange : Standing → Type 0
+abbrev pub IsStandingInRange : EffectShown → Type 0
 IsStandingInRange (standing.Bytes file at bytes) = IsNumInRange file × (at < 2 ^ 64) × AreBytes bytes
 IsStandingInRange (standing.Tail file from bytes) = IsNumInRange file × (from < 2 ^ 32) × AreBytes bytes
 IsStandingInRange (standing.Made name num) = IsName name × IsNumInRange num

@@ -10,8 +10,8 @@ use Rattle.xc_print.specs.Objects.{num_text}
 use Rattle.xc_print.specs.Records.{overwrite_text, tail_text, made_text, moved_text}
 use Rattle.xc_lines.specs.declared.shown.UndoKind.{UndoKind}
 use Rattle.xc_lines.specs.declared.shown.UndoKind.TheVariants as kind
-use Rattle.xc_lines.specs.declared.shown.Standing.{Standing}
-use Rattle.xc_lines.specs.declared.shown.Standing.TheVariants as standing
+use Rattle.xc_lines.specs.declared.shown.EffectShown.{EffectShown}
+use Rattle.xc_lines.specs.declared.shown.EffectShown.TheVariants as standing
 use Rattle.xc_lines.specs.declared.shown.JobShown.{JobShown}
 use Rattle.xc_lines.specs.declared.shown.JobShown.TheVariants as ended
 use Rattle.xc_lines.specs.Parts.{◌>>=◌, Read, past, read_behind, mapped, says, number_at, below_at, name_at, bytes_at, num_at}
@@ -61,7 +61,7 @@ kind_name kind.Pair = codes "pair"
 
 -- ---- effects that stand
 -- bytes of an overwrite
-unfoldable pub overwrite_stands_at : List ℕ → Read Standing
+unfoldable pub overwrite_stands_at : List ℕ → Read EffectShown
 overwrite_stands_at text = do
   file ← num_at text
   rest ← past (codes " at ") file.1
@@ -71,7 +71,7 @@ overwrite_stands_at text = do
   Some (standing.Bytes file.0 at.0 bytes.0, bytes.1)
 
 -- appended bytes
-unfoldable pub tail_stands_at : List ℕ → Read Standing
+unfoldable pub tail_stands_at : List ℕ → Read EffectShown
 tail_stands_at text = do
   file ← num_at text
   rest ← past (codes " from ") file.1
@@ -81,7 +81,7 @@ tail_stands_at text = do
   Some (standing.Tail file.0 from.0 bytes.0, bytes.1)
 
 -- a new name and its file
-unfoldable pub made_stands_at : List ℕ → Read Standing
+unfoldable pub made_stands_at : List ℕ → Read EffectShown
 made_stands_at bytes = do
   name ← name_at bytes
   rest ← past (codes " file ") name.1
@@ -89,7 +89,7 @@ made_stands_at bytes = do
   Some (standing.Made name.0 num.0, num.1)
 
 -- a name before and now
-unfoldable pub moved_stands_at : List ℕ → Read Standing
+unfoldable pub moved_stands_at : List ℕ → Read EffectShown
 moved_stands_at bytes = do
   from ← name_at bytes
   rest ← past (codes " ") from.1
@@ -97,15 +97,15 @@ moved_stands_at bytes = do
   Some (standing.Moved from.0 to.0, to.1)
 
 -- a new pipe
-unfoldable pub pipe_stands_at : List ℕ → Read Standing
+unfoldable pub pipe_stands_at : List ℕ → Read EffectShown
 pipe_stands_at bytes = mapped (λ num. standing.Pipe num) (num_at bytes)
 
 -- a new pair
-unfoldable pub pair_stands_at : List ℕ → Read Standing
+unfoldable pub pair_stands_at : List ℕ → Read EffectShown
 pair_stands_at bytes = mapped (λ num. standing.Pair num) (num_at bytes)
 
 -- an effect that stands
-unfoldable pub standing_at : List ℕ → Read Standing
+unfoldable pub standing_at : List ℕ → Read EffectShown
 standing_at bytes =
     read_behind (past (codes "bytes file ") bytes) overwrite_stands_at
     (read_behind (past (codes "tail file ") bytes) tail_stands_at
@@ -115,7 +115,7 @@ standing_at bytes =
     (read_behind (past (codes "pair ") bytes) pair_stands_at None)))))
 
 -- an effect as it is printed
-abbrev pub standing_text : Standing → List ℕ
+abbrev pub standing_text : EffectShown → List ℕ
 standing_text (standing.Bytes file at bytes) = overwrite_text file at bytes
 standing_text (standing.Tail file from bytes) = tail_text file from bytes
 standing_text (standing.Made name num) = made_text name num

@@ -2,18 +2,20 @@ ghost use Rattle.std.specs.Prelude.{◌≡◌};
 ghost use Rattle.xc_lines.specs.Parts.{GivesRead, name_at};
 ghost use Rattle.xc_lines.specs.Calls.{two_numbers_at, two_names_at, handle_number_at, handle_bytes_at, slot_at};
 ghost use Rattle.xc_lines.specs.Calls.{name_slot_at, ident_slot_at, handle_slot_at, handle_bytes_slot_at};
-ghost use Rattle.xc_lines.specs.Calls.{load_at, store_at, open_at, create_at, read_at, overwrite_at, append_at, seek_at};
-ghost use Rattle.xc_lines.specs.Calls.{len_at, rename_at, close_at, read_pipe_at, receive_at, unlink_at, sync_at, write_pipe_at};
+ghost use Rattle.xc_lines.specs.Calls.{load_at, store_at, open_call_at, create_at, read_call_at, overwrite_call_at, append_call_at};
+ghost use Rattle.xc_lines.specs.Calls.{seek_call_at};
+ghost use Rattle.xc_lines.specs.Calls.{len_call_at, rename_at, close_at, read_pipe_call_at, receive_call_at, unlink_at, sync_at};
+ghost use Rattle.xc_lines.specs.Calls.{write_pipe_at};
 ghost use Rattle.xc_lines.specs.Calls.{shut_down_at, send_at, start_at};
 ghost use Rattle.xc_lines.specs.Calls.{block_call_at, late_call_at, pipe_call_at, file_call_at, call_at};
 
 use crate::cursor::Cursor;
-use crate::stop::Stop;
+use crate::stop::ReadStop;
 use std::alloc::Global;
 use xc_data::{Boxed, Call, Chunk, Ident, SharedName, SlotName};
 
 #[tactic(auto, unfolding(crate::specs::Calls::two_numbers_at))]
-fn two_numbers(text: &mut Cursor) -> Result<(u64, u64), Stop>
+fn two_numbers(text: &mut Cursor) -> Result<(u64, u64), ReadStop>
     ensures { GivesRead result text.new (two_numbers_at text.old) }
 {
     let a = text.number()?;
@@ -23,7 +25,7 @@ fn two_numbers(text: &mut Cursor) -> Result<(u64, u64), Stop>
 }
 
 // A name in a place that is never given back, as calls have it.
-fn shared_name(alloc: Global, text: &mut Cursor) -> Result<SharedName, Stop>
+fn shared_name(alloc: Global, text: &mut Cursor) -> Result<SharedName, ReadStop>
     ensures { GivesRead result text.new (name_at text.old) }
 {
     let name = text.name()?;
@@ -31,7 +33,7 @@ fn shared_name(alloc: Global, text: &mut Cursor) -> Result<SharedName, Stop>
 }
 
 #[tactic(auto, unfolding(crate::specs::Calls::two_names_at))]
-fn two_names(alloc: Global, text: &mut Cursor) -> Result<(SharedName, SharedName), Stop>
+fn two_names(alloc: Global, text: &mut Cursor) -> Result<(SharedName, SharedName), ReadStop>
     ensures { GivesRead result text.new (two_names_at text.old) }
 {
     let a = shared_name(alloc, text)?;
@@ -41,7 +43,7 @@ fn two_names(alloc: Global, text: &mut Cursor) -> Result<(SharedName, SharedName
 }
 
 #[tactic(auto, unfolding(crate::specs::Calls::handle_number_at))]
-fn handle_number(text: &mut Cursor) -> Result<(u16, u64), Stop>
+fn handle_number(text: &mut Cursor) -> Result<(u16, u64), ReadStop>
     ensures { GivesRead result text.new (handle_number_at text.old) }
 {
     let h = text.handle()?;
@@ -51,7 +53,7 @@ fn handle_number(text: &mut Cursor) -> Result<(u16, u64), Stop>
 }
 
 #[tactic(auto, unfolding(crate::specs::Calls::handle_bytes_at))]
-fn handle_bytes(alloc: Global, text: &mut Cursor) -> Result<(u16, Chunk), Stop>
+fn handle_bytes(alloc: Global, text: &mut Cursor) -> Result<(u16, Chunk), ReadStop>
     ensures { GivesRead result text.new (handle_bytes_at text.old) }
 {
     let h = text.handle()?;
@@ -61,7 +63,7 @@ fn handle_bytes(alloc: Global, text: &mut Cursor) -> Result<(u16, Chunk), Stop>
 }
 
 #[tactic(auto, unfolding(crate::specs::Calls::slot_at))]
-fn slot(alloc: Global, text: &mut Cursor) -> Result<SlotName, Stop>
+fn slot(alloc: Global, text: &mut Cursor) -> Result<SlotName, ReadStop>
     ensures { GivesRead result text.new (slot_at text.old) }
 {
     if text.passes(b" slot ") {
@@ -72,7 +74,7 @@ fn slot(alloc: Global, text: &mut Cursor) -> Result<SlotName, Stop>
 }
 
 #[tactic(auto, unfolding(crate::specs::Calls::name_slot_at))]
-fn name_slot(alloc: Global, text: &mut Cursor) -> Result<(SharedName, SlotName), Stop>
+fn name_slot(alloc: Global, text: &mut Cursor) -> Result<(SharedName, SlotName), ReadStop>
     ensures { GivesRead result text.new (name_slot_at text.old) }
 {
     let name = shared_name(alloc, text)?;
@@ -81,7 +83,7 @@ fn name_slot(alloc: Global, text: &mut Cursor) -> Result<(SharedName, SlotName),
 }
 
 #[tactic(auto, unfolding(crate::specs::Calls::ident_slot_at))]
-fn ident_slot(alloc: Global, text: &mut Cursor) -> Result<(Boxed<Ident>, SlotName), Stop>
+fn ident_slot(alloc: Global, text: &mut Cursor) -> Result<(Boxed<Ident>, SlotName), ReadStop>
     ensures { GivesRead result text.new (ident_slot_at text.old) }
 {
     let ident = Boxed::new(alloc, text.ident()?)?;
@@ -90,7 +92,7 @@ fn ident_slot(alloc: Global, text: &mut Cursor) -> Result<(Boxed<Ident>, SlotNam
 }
 
 #[tactic(auto, unfolding(crate::specs::Calls::handle_slot_at))]
-fn handle_slot(alloc: Global, text: &mut Cursor) -> Result<(u16, SlotName), Stop>
+fn handle_slot(alloc: Global, text: &mut Cursor) -> Result<(u16, SlotName), ReadStop>
     ensures { GivesRead result text.new (handle_slot_at text.old) }
 {
     let h = text.handle()?;
@@ -99,7 +101,7 @@ fn handle_slot(alloc: Global, text: &mut Cursor) -> Result<(u16, SlotName), Stop
 }
 
 #[tactic(auto, unfolding(crate::specs::Calls::handle_bytes_slot_at))]
-fn handle_bytes_slot(alloc: Global, text: &mut Cursor) -> Result<(u16, Chunk, SlotName), Stop>
+fn handle_bytes_slot(alloc: Global, text: &mut Cursor) -> Result<(u16, Chunk, SlotName), ReadStop>
     ensures { GivesRead result text.new (handle_bytes_slot_at text.old) }
 {
     let (h, bytes) = handle_bytes(alloc, text)?;
@@ -108,7 +110,7 @@ fn handle_bytes_slot(alloc: Global, text: &mut Cursor) -> Result<(u16, Chunk, Sl
 }
 
 #[tactic(auto, unfolding(crate::specs::Calls::load_at))]
-fn load(text: &mut Cursor) -> Result<Call, Stop>
+fn load(text: &mut Cursor) -> Result<Call, ReadStop>
     ensures { GivesRead result text.new (load_at text.old) }
 {
     let at = text.number()?;
@@ -116,71 +118,71 @@ fn load(text: &mut Cursor) -> Result<Call, Stop>
 }
 
 #[tactic(auto, unfolding(crate::specs::Calls::store_at))]
-fn store(text: &mut Cursor) -> Result<Call, Stop>
+fn store(text: &mut Cursor) -> Result<Call, ReadStop>
     ensures { GivesRead result text.new (store_at text.old) }
 {
     let (at, value) = two_numbers(text)?;
     Ok(Call::Store { at, value })
 }
 
-#[tactic(auto, unfolding(crate::specs::Calls::open_at))]
-fn open(alloc: Global, text: &mut Cursor) -> Result<Call, Stop>
-    ensures { GivesRead result text.new (open_at text.old) }
+#[tactic(auto, unfolding(crate::specs::Calls::open_call_at))]
+fn open(alloc: Global, text: &mut Cursor) -> Result<Call, ReadStop>
+    ensures { GivesRead result text.new (open_call_at text.old) }
 {
     let name = shared_name(alloc, text)?;
     Ok(Call::XOpen { name })
 }
 
 #[tactic(auto, unfolding(crate::specs::Calls::create_at))]
-fn create(alloc: Global, text: &mut Cursor) -> Result<Call, Stop>
+fn create(alloc: Global, text: &mut Cursor) -> Result<Call, ReadStop>
     ensures { GivesRead result text.new (create_at text.old) }
 {
     let name = shared_name(alloc, text)?;
     Ok(Call::XCreate { name })
 }
 
-#[tactic(auto, unfolding(crate::specs::Calls::read_at))]
-fn read(text: &mut Cursor) -> Result<Call, Stop>
-    ensures { GivesRead result text.new (read_at text.old) }
+#[tactic(auto, unfolding(crate::specs::Calls::read_call_at))]
+fn read(text: &mut Cursor) -> Result<Call, ReadStop>
+    ensures { GivesRead result text.new (read_call_at text.old) }
 {
     let (h, n) = handle_number(text)?;
     Ok(Call::XRead { h, n })
 }
 
-#[tactic(auto, unfolding(crate::specs::Calls::overwrite_at))]
-fn overwrite(alloc: Global, text: &mut Cursor) -> Result<Call, Stop>
-    ensures { GivesRead result text.new (overwrite_at text.old) }
+#[tactic(auto, unfolding(crate::specs::Calls::overwrite_call_at))]
+fn overwrite(alloc: Global, text: &mut Cursor) -> Result<Call, ReadStop>
+    ensures { GivesRead result text.new (overwrite_call_at text.old) }
 {
     let (h, bytes) = handle_bytes(alloc, text)?;
     Ok(Call::XWriteOvr { h, bytes })
 }
 
-#[tactic(auto, unfolding(crate::specs::Calls::append_at))]
-fn append(alloc: Global, text: &mut Cursor) -> Result<Call, Stop>
-    ensures { GivesRead result text.new (append_at text.old) }
+#[tactic(auto, unfolding(crate::specs::Calls::append_call_at))]
+fn append(alloc: Global, text: &mut Cursor) -> Result<Call, ReadStop>
+    ensures { GivesRead result text.new (append_call_at text.old) }
 {
     let (h, bytes) = handle_bytes(alloc, text)?;
     Ok(Call::XWriteSeq { h, bytes })
 }
 
-#[tactic(auto, unfolding(crate::specs::Calls::seek_at))]
-fn seek(text: &mut Cursor) -> Result<Call, Stop>
-    ensures { GivesRead result text.new (seek_at text.old) }
+#[tactic(auto, unfolding(crate::specs::Calls::seek_call_at))]
+fn seek(text: &mut Cursor) -> Result<Call, ReadStop>
+    ensures { GivesRead result text.new (seek_call_at text.old) }
 {
     let (h, to) = handle_number(text)?;
     Ok(Call::XSeek { h, to })
 }
 
-#[tactic(auto, unfolding(crate::specs::Calls::len_at))]
-fn len(text: &mut Cursor) -> Result<Call, Stop>
-    ensures { GivesRead result text.new (len_at text.old) }
+#[tactic(auto, unfolding(crate::specs::Calls::len_call_at))]
+fn len(text: &mut Cursor) -> Result<Call, ReadStop>
+    ensures { GivesRead result text.new (len_call_at text.old) }
 {
     let h = text.handle()?;
     Ok(Call::XLen { h })
 }
 
 #[tactic(auto, unfolding(crate::specs::Calls::rename_at))]
-fn rename(alloc: Global, text: &mut Cursor) -> Result<Call, Stop>
+fn rename(alloc: Global, text: &mut Cursor) -> Result<Call, ReadStop>
     ensures { GivesRead result text.new (rename_at text.old) }
 {
     let (from, to) = two_names(alloc, text)?;
@@ -188,31 +190,31 @@ fn rename(alloc: Global, text: &mut Cursor) -> Result<Call, Stop>
 }
 
 #[tactic(auto, unfolding(crate::specs::Calls::close_at))]
-fn close(text: &mut Cursor) -> Result<Call, Stop>
+fn close(text: &mut Cursor) -> Result<Call, ReadStop>
     ensures { GivesRead result text.new (close_at text.old) }
 {
     let h = text.handle()?;
     Ok(Call::XClose { h })
 }
 
-#[tactic(auto, unfolding(crate::specs::Calls::read_pipe_at))]
-fn read_pipe(text: &mut Cursor) -> Result<Call, Stop>
-    ensures { GivesRead result text.new (read_pipe_at text.old) }
+#[tactic(auto, unfolding(crate::specs::Calls::read_pipe_call_at))]
+fn read_pipe(text: &mut Cursor) -> Result<Call, ReadStop>
+    ensures { GivesRead result text.new (read_pipe_call_at text.old) }
 {
     let (h, n) = handle_number(text)?;
     Ok(Call::XReadPipe { h, n })
 }
 
-#[tactic(auto, unfolding(crate::specs::Calls::receive_at))]
-fn receive(text: &mut Cursor) -> Result<Call, Stop>
-    ensures { GivesRead result text.new (receive_at text.old) }
+#[tactic(auto, unfolding(crate::specs::Calls::receive_call_at))]
+fn receive(text: &mut Cursor) -> Result<Call, ReadStop>
+    ensures { GivesRead result text.new (receive_call_at text.old) }
 {
     let h = text.handle()?;
     Ok(Call::XRecvmsg { h })
 }
 
 #[tactic(auto, unfolding(crate::specs::Calls::unlink_at))]
-fn unlink(alloc: Global, text: &mut Cursor) -> Result<Call, Stop>
+fn unlink(alloc: Global, text: &mut Cursor) -> Result<Call, ReadStop>
     ensures { GivesRead result text.new (unlink_at text.old) }
 {
     let (name, slot) = name_slot(alloc, text)?;
@@ -220,7 +222,7 @@ fn unlink(alloc: Global, text: &mut Cursor) -> Result<Call, Stop>
 }
 
 #[tactic(auto, unfolding(crate::specs::Calls::sync_at))]
-fn sync(alloc: Global, text: &mut Cursor) -> Result<Call, Stop>
+fn sync(alloc: Global, text: &mut Cursor) -> Result<Call, ReadStop>
     ensures { GivesRead result text.new (sync_at text.old) }
 {
     let (h, slot) = handle_slot(alloc, text)?;
@@ -228,7 +230,7 @@ fn sync(alloc: Global, text: &mut Cursor) -> Result<Call, Stop>
 }
 
 #[tactic(auto, unfolding(crate::specs::Calls::write_pipe_at))]
-fn write_pipe(alloc: Global, text: &mut Cursor) -> Result<Call, Stop>
+fn write_pipe(alloc: Global, text: &mut Cursor) -> Result<Call, ReadStop>
     ensures { GivesRead result text.new (write_pipe_at text.old) }
 {
     let (h, bytes, slot) = handle_bytes_slot(alloc, text)?;
@@ -236,7 +238,7 @@ fn write_pipe(alloc: Global, text: &mut Cursor) -> Result<Call, Stop>
 }
 
 #[tactic(auto, unfolding(crate::specs::Calls::shut_down_at))]
-fn shut_down(alloc: Global, text: &mut Cursor) -> Result<Call, Stop>
+fn shut_down(alloc: Global, text: &mut Cursor) -> Result<Call, ReadStop>
     ensures { GivesRead result text.new (shut_down_at text.old) }
 {
     let (h, slot) = handle_slot(alloc, text)?;
@@ -244,7 +246,7 @@ fn shut_down(alloc: Global, text: &mut Cursor) -> Result<Call, Stop>
 }
 
 #[tactic(auto, unfolding(crate::specs::Calls::send_at))]
-fn send(alloc: Global, text: &mut Cursor) -> Result<Call, Stop>
+fn send(alloc: Global, text: &mut Cursor) -> Result<Call, ReadStop>
     ensures { GivesRead result text.new (send_at text.old) }
 {
     let (h, bytes, slot) = handle_bytes_slot(alloc, text)?;
@@ -252,7 +254,7 @@ fn send(alloc: Global, text: &mut Cursor) -> Result<Call, Stop>
 }
 
 #[tactic(auto, unfolding(crate::specs::Calls::start_at))]
-fn start(alloc: Global, text: &mut Cursor) -> Result<Call, Stop>
+fn start(alloc: Global, text: &mut Cursor) -> Result<Call, ReadStop>
     ensures { GivesRead result text.new (start_at text.old) }
 {
     let (body, slot) = ident_slot(alloc, text)?;
@@ -260,7 +262,7 @@ fn start(alloc: Global, text: &mut Cursor) -> Result<Call, Stop>
 }
 
 #[tactic(auto, unfolding(crate::specs::Calls::block_call_at))]
-fn block_call(text: &mut Cursor) -> Result<Call, Stop>
+fn block_call(text: &mut Cursor) -> Result<Call, ReadStop>
     ensures { GivesRead result text.new (block_call_at text.old) }
 {
     if text.passes(b"save") {
@@ -272,11 +274,11 @@ fn block_call(text: &mut Cursor) -> Result<Call, Stop>
     if text.passes(b"back") {
         return Ok(Call::Back);
     }
-    Err(Stop::Unread)
+    Err(ReadStop::Unread)
 }
 
 #[tactic(auto, unfolding(crate::specs::Calls::late_call_at))]
-fn late_call(alloc: Global, text: &mut Cursor) -> Result<Call, Stop>
+fn late_call(alloc: Global, text: &mut Cursor) -> Result<Call, ReadStop>
     ensures { GivesRead result text.new (late_call_at text.old) }
 {
     if text.passes(b"x_sync ") {
@@ -298,7 +300,7 @@ fn late_call(alloc: Global, text: &mut Cursor) -> Result<Call, Stop>
 }
 
 #[tactic(auto, unfolding(crate::specs::Calls::pipe_call_at))]
-fn pipe_call(alloc: Global, text: &mut Cursor) -> Result<Call, Stop>
+fn pipe_call(alloc: Global, text: &mut Cursor) -> Result<Call, ReadStop>
     ensures { GivesRead result text.new (pipe_call_at text.old) }
 {
     if text.passes(b"x_read_pipe ") {
@@ -317,7 +319,7 @@ fn pipe_call(alloc: Global, text: &mut Cursor) -> Result<Call, Stop>
 }
 
 #[tactic(auto, unfolding(crate::specs::Calls::file_call_at))]
-fn file_call(alloc: Global, text: &mut Cursor) -> Result<Call, Stop>
+fn file_call(alloc: Global, text: &mut Cursor) -> Result<Call, ReadStop>
     ensures { GivesRead result text.new (file_call_at text.old) }
 {
     if text.passes(b"x_write_seq ") {
@@ -344,7 +346,7 @@ fn file_call(alloc: Global, text: &mut Cursor) -> Result<Call, Stop>
 /// A call, which stands here without the two spaces before it. A name and a slot take a place that is never given back: some 70
 /// bytes for a name, and some 40 for a slot, also where none is named.
 #[tactic(auto, unfolding(crate::specs::Calls::call_at))]
-pub fn read_call(alloc: Global, text: &mut Cursor) -> Result<Call, Stop>
+pub fn read_call(alloc: Global, text: &mut Cursor) -> Result<Call, ReadStop>
     ensures { GivesRead result text.new (call_at text.old) }
 {
     if text.passes(b"load ") {

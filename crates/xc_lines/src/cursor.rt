@@ -5,7 +5,7 @@ ghost use Rattle.xc_tokens.specs.Quoted.{literal_of};
 
 use crate::numbers::{digit_count, name_count, number_in};
 use crate::quoted::past_literal;
-use crate::stop::Stop;
+use crate::stop::ReadStop;
 use std::alloc::Global;
 use std::marker::Model;
 use xc_data::{Chunk, Ident, Name, Num};
@@ -59,17 +59,17 @@ impl<'a> Cursor<'a> {
     }
 
     /// Goes behind these bytes, which must stand here.
-    pub fn pass(&mut self, front: &[u8]) -> Result<(), Stop>
+    pub fn pass(&mut self, front: &[u8]) -> Result<(), ReadStop>
         ensures { PassesFront result self.new (past front.now self.old) }
     {
         if self.passes(front) {
             return Ok(());
         }
-        Err(Stop::Unread)
+        Err(ReadStop::Unread)
     }
 
     #[tactic(auto, unfolding(crate::specs::Parts::number_at))]
-    pub fn number(&mut self) -> Result<u64, Stop>
+    pub fn number(&mut self) -> Result<u64, ReadStop>
         ensures { GivesRead result self.new (number_at self.old) }
     {
         let (digits, rest) = self.rest.split_at(digit_count(self.rest));
@@ -78,45 +78,45 @@ impl<'a> Cursor<'a> {
                 self.rest = rest;
                 Ok(n)
             }
-            None => Err(Stop::Unread),
+            None => Err(ReadStop::Unread),
         }
     }
 
     #[tactic(auto, unfolding(crate::specs::Parts::below_at))]
-    pub fn small(&mut self) -> Result<u32, Stop>
+    pub fn small(&mut self) -> Result<u32, ReadStop>
         ensures { GivesRead result self.new (below_at (2 ^ 32) self.old) }
     {
         let n = self.number()?;
         if n > u32::MAX as u64 {
-            return Err(Stop::Unread);
+            return Err(ReadStop::Unread);
         }
         Ok(n as u32)
     }
 
     #[tactic(auto, unfolding(crate::specs::Parts::below_at))]
-    pub fn tiny(&mut self) -> Result<u16, Stop>
+    pub fn tiny(&mut self) -> Result<u16, ReadStop>
         ensures { GivesRead result self.new (below_at (2 ^ 16) self.old) }
     {
         let n = self.number()?;
         if n > u16::MAX as u64 {
-            return Err(Stop::Unread);
+            return Err(ReadStop::Unread);
         }
         Ok(n as u16)
     }
 
     #[tactic(auto, unfolding(crate::specs::Parts::below_at))]
-    pub fn byte(&mut self) -> Result<u8, Stop>
+    pub fn byte(&mut self) -> Result<u8, ReadStop>
         ensures { GivesRead result self.new (below_at (2 ^ 8) self.old) }
     {
         let n = self.number()?;
         if n > u8::MAX as u64 {
-            return Err(Stop::Unread);
+            return Err(ReadStop::Unread);
         }
         Ok(n as u8)
     }
 
     #[tactic(auto, unfolding(crate::specs::Parts::name_at))]
-    pub fn name(&mut self) -> Result<Name, Stop>
+    pub fn name(&mut self) -> Result<Name, ReadStop>
         ensures { GivesRead result self.new (name_at self.old) }
     {
         let (name, rest) = self.rest.split_at(name_count(self.rest));
@@ -125,12 +125,12 @@ impl<'a> Cursor<'a> {
                 self.rest = rest;
                 Ok(name)
             }
-            None => Err(Stop::Unread),
+            None => Err(ReadStop::Unread),
         }
     }
 
     #[tactic(auto, unfolding(crate::specs::Parts::ident_at))]
-    pub fn ident(&mut self) -> Result<Ident, Stop>
+    pub fn ident(&mut self) -> Result<Ident, ReadStop>
         ensures { GivesRead result self.new (ident_at self.old) }
     {
         let (ident, rest) = self.rest.split_at(name_count(self.rest));
@@ -139,12 +139,12 @@ impl<'a> Cursor<'a> {
                 self.rest = rest;
                 Ok(ident)
             }
-            None => Err(Stop::Unread),
+            None => Err(ReadStop::Unread),
         }
     }
 
     /// Bytes behind their quote.
-    pub fn literal(&mut self, alloc: Global) -> Result<Chunk, Stop>
+    pub fn literal(&mut self, alloc: Global) -> Result<Chunk, ReadStop>
         ensures { GivesRead result self.new (literal_of self.old) }
     {
         let (meant, rest) = past_literal(alloc, self.rest)?;
@@ -153,7 +153,7 @@ impl<'a> Cursor<'a> {
     }
 
     #[tactic(auto, unfolding(crate::specs::Parts::bytes_at))]
-    pub fn bytes(&mut self, alloc: Global) -> Result<Chunk, Stop>
+    pub fn bytes(&mut self, alloc: Global) -> Result<Chunk, ReadStop>
         ensures { GivesRead result self.new (bytes_at self.old) }
     {
         self.pass(b"\"")?;
@@ -162,7 +162,7 @@ impl<'a> Cursor<'a> {
 
     /// A handle behind its `h`.
     #[tactic(auto, unfolding(crate::specs::Parts::handle_from))]
-    pub fn bare_handle(&mut self) -> Result<u16, Stop>
+    pub fn bare_handle(&mut self) -> Result<u16, ReadStop>
         ensures { GivesRead result self.new (handle_from self.old) }
     {
         if self.passes(b"-") {
@@ -172,7 +172,7 @@ impl<'a> Cursor<'a> {
     }
 
     #[tactic(auto, unfolding(crate::specs::Parts::handle_at))]
-    pub fn handle(&mut self) -> Result<u16, Stop>
+    pub fn handle(&mut self) -> Result<u16, ReadStop>
         ensures { GivesRead result self.new (handle_at self.old) }
     {
         self.pass(b"h")?;
@@ -180,7 +180,7 @@ impl<'a> Cursor<'a> {
     }
 
     #[tactic(auto, unfolding(crate::specs::Parts::num_at))]
-    pub fn num(&mut self) -> Result<Num, Stop>
+    pub fn num(&mut self) -> Result<Num, ReadStop>
         ensures { GivesRead result self.new (num_at self.old) }
     {
         let tx = self.small()?;

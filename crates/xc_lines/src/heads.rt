@@ -5,7 +5,7 @@ ghost use Rattle.xc_lines.specs.Heads.{commit_at, abort_at, head_at};
 
 use crate::cursor::Cursor;
 use crate::objects::read_object;
-use crate::stop::Stop;
+use crate::stop::ReadStop;
 use std::alloc::Global;
 use xc_data::Cause;
 
@@ -20,7 +20,7 @@ pub struct Head {
 }
 
 #[tactic(auto, unfolding(crate::specs::Heads::conflict_at))]
-fn conflict(alloc: Global, text: &mut Cursor) -> Result<Cause, Stop>
+fn conflict(alloc: Global, text: &mut Cursor) -> Result<Cause, ReadStop>
     ensures { GivesRead result text.new (conflict_at text.old) }
 {
     let object = read_object(alloc, text)?;
@@ -32,7 +32,7 @@ fn conflict(alloc: Global, text: &mut Cursor) -> Result<Cause, Stop>
 }
 
 #[tactic(auto, unfolding(crate::specs::Heads::revoked_at))]
-fn revoked(alloc: Global, text: &mut Cursor) -> Result<Cause, Stop>
+fn revoked(alloc: Global, text: &mut Cursor) -> Result<Cause, ReadStop>
     ensures { GivesRead result text.new (revoked_at text.old) }
 {
     let object = read_object(alloc, text)?;
@@ -44,7 +44,7 @@ fn revoked(alloc: Global, text: &mut Cursor) -> Result<Cause, Stop>
 }
 
 #[tactic(auto, unfolding(crate::specs::Heads::stuck_at))]
-fn stuck(text: &mut Cursor) -> Result<Cause, Stop>
+fn stuck(text: &mut Cursor) -> Result<Cause, ReadStop>
     ensures { GivesRead result text.new (stuck_at text.old) }
 {
     let failed = text.small()?;
@@ -52,7 +52,7 @@ fn stuck(text: &mut Cursor) -> Result<Cause, Stop>
 }
 
 #[tactic(auto, unfolding(crate::specs::Heads::no_memory_at))]
-fn no_memory(text: &mut Cursor) -> Result<Cause, Stop>
+fn no_memory(text: &mut Cursor) -> Result<Cause, ReadStop>
     ensures { GivesRead result text.new (no_memory_at text.old) }
 {
     text.pass(b"no memory")?;
@@ -60,7 +60,7 @@ fn no_memory(text: &mut Cursor) -> Result<Cause, Stop>
 }
 
 #[tactic(auto, unfolding(crate::specs::Heads::cause_at))]
-fn cause(alloc: Global, text: &mut Cursor) -> Result<Cause, Stop>
+fn cause(alloc: Global, text: &mut Cursor) -> Result<Cause, ReadStop>
     ensures { GivesRead result text.new (cause_at text.old) }
 {
     if text.passes(b"asked") {
@@ -79,7 +79,7 @@ fn cause(alloc: Global, text: &mut Cursor) -> Result<Cause, Stop>
 }
 
 #[tactic(auto, unfolding(crate::specs::Heads::attempt_at))]
-fn attempt(text: &mut Cursor) -> Result<Head, Stop>
+fn attempt(text: &mut Cursor) -> Result<Head, ReadStop>
     ensures { GivesRead result text.new (attempt_at text.old) }
 {
     text.pass(b" t")?;
@@ -101,7 +101,7 @@ fn attempt(text: &mut Cursor) -> Result<Head, Stop>
 }
 
 #[tactic(auto, unfolding(crate::specs::Heads::commit_at))]
-fn commit(text: &mut Cursor) -> Result<Head, Stop>
+fn commit(text: &mut Cursor) -> Result<Head, ReadStop>
     ensures { GivesRead result text.new (commit_at text.old) }
 {
     let head = attempt(text)?;
@@ -110,7 +110,7 @@ fn commit(text: &mut Cursor) -> Result<Head, Stop>
 }
 
 #[tactic(auto, unfolding(crate::specs::Heads::abort_at))]
-fn abort(alloc: Global, text: &mut Cursor) -> Result<Head, Stop>
+fn abort(alloc: Global, text: &mut Cursor) -> Result<Head, ReadStop>
     ensures { GivesRead result text.new (abort_at text.old) }
 {
     let head = attempt(text)?;
@@ -128,7 +128,7 @@ fn abort(alloc: Global, text: &mut Cursor) -> Result<Head, Stop>
 
 /// The first line of an entry.
 #[tactic(auto, unfolding(crate::specs::Heads::head_at))]
-pub fn read_head(alloc: Global, text: &mut Cursor) -> Result<Head, Stop>
+pub fn read_head(alloc: Global, text: &mut Cursor) -> Result<Head, ReadStop>
     ensures { GivesRead result text.new (head_at text.old) }
 {
     if text.passes(b"commit") {
@@ -137,5 +137,5 @@ pub fn read_head(alloc: Global, text: &mut Cursor) -> Result<Head, Stop>
     if text.passes(b"abort") {
         return abort(alloc, text);
     }
-    Err(Stop::Unread)
+    Err(ReadStop::Unread)
 }

@@ -11,7 +11,7 @@ ghost use Rattle.xc_print.specs.Records.{undo_end_text};
 ghost use Rattle.xc_print.specs.Replies.{reply_text, late_end_text};
 ghost use Rattle.xc_lines.specs.declared.heads.Head.{Head};
 ghost use Rattle.xc_lines.specs.declared.shown.JobShown.{JobShown};
-ghost use Rattle.xc_lines.specs.declared.shown.Standing.{Standing};
+ghost use Rattle.xc_lines.specs.declared.shown.EffectShown.{EffectShown};
 ghost use Rattle.xc_lines.specs.declared.shown.UndoKind.{UndoKind};
 ghost use Rattle.xc_lines.specs.Calls.{call_at};
 ghost use Rattle.xc_lines.specs.Heads.{head_at, head_text};
@@ -41,7 +41,7 @@ pub fn what_is_printed_of_an_abort_is_read()
     ensures kind { (kind : UndoKind) (rest : List ℕ) → kind_at (kind_name kind ++ rest) ≡ Some (kind, rest) }
     ensures undo { (end : UndoEnd) (rest : List ℕ) → IsUndoEndInRange end
         → undo_end_at (undo_end_text end ++ 10 ∷ rest) ≡ Some (end, 10 ∷ rest) }
-    ensures effect { (effect : Standing) (rest : List ℕ) → IsStandingInRange effect
+    ensures effect { (effect : EffectShown) (rest : List ℕ) → IsStandingInRange effect
         → standing_at (standing_text effect ++ 10 ∷ rest) ≡ Some (effect, 10 ∷ rest) }
 {}
 

@@ -23,6 +23,6 @@ pub use cursor::Cursor;
 pub use heads::{Head, read_head};
 pub use held::{read_claim, read_further};
 pub use replies::{read_late_end, read_reply};
-pub use shown::{JobShown, Standing, UndoKind};
-pub use stop::Stop;
+pub use shown::{EffectShown, JobShown, UndoKind};
+pub use stop::ReadStop;
 pub use tails::{read_job_end, read_kept, read_kind, read_standing, read_undo_end};

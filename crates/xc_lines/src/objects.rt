@@ -3,12 +3,12 @@ ghost use Rattle.xc_lines.specs.Parts.{GivesRead, word_object_at, name_object_at
 ghost use Rattle.xc_lines.specs.Parts.{jobs_object_at, any_object_at};
 
 use crate::cursor::Cursor;
-use crate::stop::Stop;
+use crate::stop::ReadStop;
 use std::alloc::Global;
 use xc_data::{Object, SharedName};
 
 #[tactic(auto, unfolding(crate::specs::Parts::word_object_at))]
-fn word_object(text: &mut Cursor) -> Result<Object, Stop>
+fn word_object(text: &mut Cursor) -> Result<Object, ReadStop>
     ensures { GivesRead result text.new (word_object_at text.old) }
 {
     let at = text.small()?;
@@ -16,7 +16,7 @@ fn word_object(text: &mut Cursor) -> Result<Object, Stop>
 }
 
 #[tactic(auto, unfolding(crate::specs::Parts::name_object_at))]
-fn name_object(alloc: Global, text: &mut Cursor) -> Result<Object, Stop>
+fn name_object(alloc: Global, text: &mut Cursor) -> Result<Object, ReadStop>
     ensures { GivesRead result text.new (name_object_at text.old) }
 {
     let name = SharedName::new(alloc, text.name()?)?;
@@ -24,7 +24,7 @@ fn name_object(alloc: Global, text: &mut Cursor) -> Result<Object, Stop>
 }
 
 #[tactic(auto, unfolding(crate::specs::Parts::file_object_at))]
-fn file_object(text: &mut Cursor) -> Result<Object, Stop>
+fn file_object(text: &mut Cursor) -> Result<Object, ReadStop>
     ensures { GivesRead result text.new (file_object_at text.old) }
 {
     let num = text.num()?;
@@ -32,7 +32,7 @@ fn file_object(text: &mut Cursor) -> Result<Object, Stop>
 }
 
 #[tactic(auto, unfolding(crate::specs::Parts::pipe_object_at))]
-fn pipe_object(text: &mut Cursor) -> Result<Object, Stop>
+fn pipe_object(text: &mut Cursor) -> Result<Object, ReadStop>
     ensures { GivesRead result text.new (pipe_object_at text.old) }
 {
     let num = text.num()?;
@@ -40,7 +40,7 @@ fn pipe_object(text: &mut Cursor) -> Result<Object, Stop>
 }
 
 #[tactic(auto, unfolding(crate::specs::Parts::pair_object_at))]
-fn pair_object(text: &mut Cursor) -> Result<Object, Stop>
+fn pair_object(text: &mut Cursor) -> Result<Object, ReadStop>
     ensures { GivesRead result text.new (pair_object_at text.old) }
 {
     let num = text.num()?;
@@ -48,7 +48,7 @@ fn pair_object(text: &mut Cursor) -> Result<Object, Stop>
 }
 
 #[tactic(auto, unfolding(crate::specs::Parts::jobs_object_at))]
-fn jobs_object(text: &mut Cursor) -> Result<Object, Stop>
+fn jobs_object(text: &mut Cursor) -> Result<Object, ReadStop>
     ensures { GivesRead result text.new (jobs_object_at text.old) }
 {
     text.pass(b"jobs")?;
@@ -57,7 +57,7 @@ fn jobs_object(text: &mut Cursor) -> Result<Object, Stop>
 
 /// An object. A name's place is never given back: it takes some 70 bytes.
 #[tactic(auto, unfolding(crate::specs::Parts::any_object_at))]
-pub fn read_object(alloc: Global, text: &mut Cursor) -> Result<Object, Stop>
+pub fn read_object(alloc: Global, text: &mut Cursor) -> Result<Object, ReadStop>
     ensures { GivesRead result text.new (any_object_at text.old) }
 {
     if text.passes(b"word ") {

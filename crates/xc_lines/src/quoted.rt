@@ -1,9 +1,9 @@
 ghost use Rattle.std.specs.Prelude.{◌≡◌, false, ◌≤◌, ◌==◌, ◌∷◌, length, option_map, IfSome, IfOk};
-ghost use Rattle.xc_tokens.specs.Quoted.{is_hex, is_escape, escaped, digit_value, hex_byte, literal_of, escape_of, hex_of};
+ghost use Rattle.xc_tokens.specs.Quoted.{is_hex, is_escape, escape_meaning, digit_value, hex_byte, literal_of, escape_of, hex_of};
 ghost use Rattle.xc_tokens.specs.Views.{behind_piece};
 ghost use Rattle.xc_lines.specs.Parts.{GivesMeant};
 
-use crate::stop::Stop;
+use crate::stop::ReadStop;
 use std::alloc::Global;
 
 fn is_hex_byte(b: u8) -> bool
@@ -19,7 +19,7 @@ fn is_escape_byte(b: u8) -> bool
 }
 
 fn escaped_byte(b: u8) -> u8
-    ensures { result ≡ escaped b }
+    ensures { result ≡ escape_meaning b }
 {
     if b == b'n' { b'\n' } else { b }
 }
@@ -87,7 +87,7 @@ fn piece(first: u8, behind: &[u8]) -> Option<(u8, &[u8])>
 
 // What the literal means whose opening quote stands before the bytes, and what stands behind its
 // closing quote.
-pub fn past_literal<'a>(alloc: Global, bytes: &'a [u8]) -> Result<(Vec<u8>, &'a [u8]), Stop>
+pub fn past_literal<'a>(alloc: Global, bytes: &'a [u8]) -> Result<(Vec<u8>, &'a [u8]), ReadStop>
     ensures means { GivesMeant (λ p. (p.0.items, p.1.now)) result (literal_of bytes.now) }
     ensures fewer { IfOk result (λ p. length p.1.now ≤ length bytes.now) }
 {
@@ -102,8 +102,8 @@ pub fn past_literal<'a>(alloc: Global, bytes: &'a [u8]) -> Result<(Vec<u8>, &'a 
                 meant.push(byte)?;
                 rest = next;
             }
-            None => return Err(Stop::Unread),
+            None => return Err(ReadStop::Unread),
         }
     }
-    Err(Stop::Unread)
+    Err(ReadStop::Unread)
 }

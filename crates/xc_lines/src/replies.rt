@@ -5,12 +5,12 @@ ghost use Rattle.xc_lines.specs.Replies.{plain_at, reply_at};
 ghost use Rattle.xc_lines.specs.Replies.{full_at, late_fault_at, no_memory_end_at, late_end_at};
 
 use crate::cursor::Cursor;
-use crate::stop::Stop;
+use crate::stop::ReadStop;
 use std::alloc::Global;
 use xc_data::{LateEnd, Reply};
 
 #[tactic(auto, unfolding(crate::specs::Replies::got_from))]
-fn got(alloc: Global, text: &mut Cursor) -> Result<Reply, Stop>
+fn got(alloc: Global, text: &mut Cursor) -> Result<Reply, ReadStop>
     ensures { GivesRead result text.new (got_from text.old) }
 {
     let bytes = text.literal(alloc)?;
@@ -18,7 +18,7 @@ fn got(alloc: Global, text: &mut Cursor) -> Result<Reply, Stop>
 }
 
 #[tactic(auto, unfolding(crate::specs::Replies::fault_at))]
-fn fault(text: &mut Cursor) -> Result<Reply, Stop>
+fn fault(text: &mut Cursor) -> Result<Reply, ReadStop>
     ensures { GivesRead result text.new (fault_at text.old) }
 {
     let n = text.small()?;
@@ -26,7 +26,7 @@ fn fault(text: &mut Cursor) -> Result<Reply, Stop>
 }
 
 #[tactic(auto, unfolding(crate::specs::Replies::made_from))]
-fn made(text: &mut Cursor) -> Result<Reply, Stop>
+fn made(text: &mut Cursor) -> Result<Reply, ReadStop>
     ensures { GivesRead result text.new (made_from text.old) }
 {
     let h = text.bare_handle()?;
@@ -38,7 +38,7 @@ fn made(text: &mut Cursor) -> Result<Reply, Stop>
 }
 
 #[tactic(auto, unfolding(crate::specs::Replies::count_at))]
-fn count(text: &mut Cursor) -> Result<Reply, Stop>
+fn count(text: &mut Cursor) -> Result<Reply, ReadStop>
     ensures { GivesRead result text.new (count_at text.old) }
 {
     let n = text.number()?;
@@ -46,7 +46,7 @@ fn count(text: &mut Cursor) -> Result<Reply, Stop>
 }
 
 #[tactic(auto, unfolding(crate::specs::Replies::undone_reply_at))]
-fn undone(text: &mut Cursor) -> Result<Reply, Stop>
+fn undone(text: &mut Cursor) -> Result<Reply, ReadStop>
     ensures { GivesRead result text.new (undone_reply_at text.old) }
 {
     let n = text.small()?;
@@ -54,7 +54,7 @@ fn undone(text: &mut Cursor) -> Result<Reply, Stop>
 }
 
 #[tactic(auto, unfolding(crate::specs::Replies::refused_reply_at))]
-fn refusal(text: &mut Cursor) -> Result<Reply, Stop>
+fn refusal(text: &mut Cursor) -> Result<Reply, ReadStop>
     ensures { GivesRead result text.new (refused_reply_at text.old) }
 {
     if text.passes(b"no name") {
@@ -82,7 +82,7 @@ fn refusal(text: &mut Cursor) -> Result<Reply, Stop>
 }
 
 #[tactic(auto, unfolding(crate::specs::Replies::plain_at))]
-fn plain(text: &mut Cursor) -> Result<Reply, Stop>
+fn plain(text: &mut Cursor) -> Result<Reply, ReadStop>
     ensures { GivesRead result text.new (plain_at text.old) }
 {
     if text.passes(b"done") {
@@ -102,7 +102,7 @@ fn plain(text: &mut Cursor) -> Result<Reply, Stop>
 
 /// A reply, which stands here without what is before it.
 #[tactic(auto, unfolding(crate::specs::Replies::reply_at))]
-pub fn read_reply(alloc: Global, text: &mut Cursor) -> Result<Reply, Stop>
+pub fn read_reply(alloc: Global, text: &mut Cursor) -> Result<Reply, ReadStop>
     ensures { GivesRead result text.new (reply_at text.old) }
 {
     if text.passes(b"fault ") {
@@ -121,7 +121,7 @@ pub fn read_reply(alloc: Global, text: &mut Cursor) -> Result<Reply, Stop>
 }
 
 #[tactic(auto, unfolding(crate::specs::Replies::full_at))]
-fn full(text: &mut Cursor) -> Result<LateEnd, Stop>
+fn full(text: &mut Cursor) -> Result<LateEnd, ReadStop>
     ensures { GivesRead result text.new (full_at text.old) }
 {
     let n = text.small()?;
@@ -129,7 +129,7 @@ fn full(text: &mut Cursor) -> Result<LateEnd, Stop>
 }
 
 #[tactic(auto, unfolding(crate::specs::Replies::late_fault_at))]
-fn late_fault(text: &mut Cursor) -> Result<LateEnd, Stop>
+fn late_fault(text: &mut Cursor) -> Result<LateEnd, ReadStop>
     ensures { GivesRead result text.new (late_fault_at text.old) }
 {
     let n = text.small()?;
@@ -137,7 +137,7 @@ fn late_fault(text: &mut Cursor) -> Result<LateEnd, Stop>
 }
 
 #[tactic(auto, unfolding(crate::specs::Replies::no_memory_end_at))]
-fn no_memory_end(text: &mut Cursor) -> Result<LateEnd, Stop>
+fn no_memory_end(text: &mut Cursor) -> Result<LateEnd, ReadStop>
     ensures { GivesRead result text.new (no_memory_end_at text.old) }
 {
     let n = text.small()?;
@@ -146,7 +146,7 @@ fn no_memory_end(text: &mut Cursor) -> Result<LateEnd, Stop>
 
 /// The end of a late call.
 #[tactic(auto, unfolding(crate::specs::Replies::late_end_at))]
-pub fn read_late_end(text: &mut Cursor) -> Result<LateEnd, Stop>
+pub fn read_late_end(text: &mut Cursor) -> Result<LateEnd, ReadStop>
     ensures { GivesRead result text.new (late_end_at text.old) }
 {
     if text.passes(b"done") {
@@ -170,5 +170,5 @@ pub fn read_late_end(text: &mut Cursor) -> Result<LateEnd, Stop>
     if text.passes(b"no memory ") {
         return no_memory_end(text);
     }
-    Err(Stop::Unread)
+    Err(ReadStop::Unread)
 }

@@ -13,7 +13,7 @@ pub enum UndoKind {
 
 /// An effect that stands, as its line shows it.
 #[derive(Debug, Drop)]
-pub enum Standing {
+pub enum EffectShown {
     Bytes { file: Num, at: u64, bytes: Chunk },
     Tail { file: Num, from: u32, bytes: Chunk },
     Made { name: Boxed<Name>, num: Num },

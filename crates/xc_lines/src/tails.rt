@@ -5,14 +5,14 @@ ghost use Rattle.xc_lines.specs.Tails.{overwrite_stands_at, tail_stands_at, made
 ghost use Rattle.xc_lines.specs.Tails.{pipe_stands_at, pair_stands_at, standing_at, job_end_at, kept_pipe_at, kept_pair_at, kept_at};
 
 use crate::cursor::Cursor;
-use crate::shown::{JobShown, Standing, UndoKind};
-use crate::stop::Stop;
+use crate::shown::{EffectShown, JobShown, UndoKind};
+use crate::stop::ReadStop;
 use std::alloc::Global;
 use xc_data::{Boxed, KeptItem, Name, UndoEnd};
 
 /// What a record is of.
 #[tactic(auto, unfolding(crate::specs::Tails::kind_at))]
-pub fn read_kind(text: &mut Cursor) -> Result<UndoKind, Stop>
+pub fn read_kind(text: &mut Cursor) -> Result<UndoKind, ReadStop>
     ensures { GivesRead result text.new (kind_at text.old) }
 {
     if text.passes(b"bytes") {
@@ -33,11 +33,11 @@ pub fn read_kind(text: &mut Cursor) -> Result<UndoKind, Stop>
     if text.passes(b"pair") {
         return Ok(UndoKind::Pair);
     }
-    Err(Stop::Unread)
+    Err(ReadStop::Unread)
 }
 
 #[tactic(auto, unfolding(crate::specs::Tails::undone_at))]
-fn undone(text: &mut Cursor) -> Result<UndoEnd, Stop>
+fn undone(text: &mut Cursor) -> Result<UndoEnd, ReadStop>
     ensures { GivesRead result text.new (undone_at text.old) }
 {
     let faults = text.small()?;
@@ -45,7 +45,7 @@ fn undone(text: &mut Cursor) -> Result<UndoEnd, Stop>
 }
 
 #[tactic(auto, unfolding(crate::specs::Tails::failed_at))]
-fn failed(text: &mut Cursor) -> Result<UndoEnd, Stop>
+fn failed(text: &mut Cursor) -> Result<UndoEnd, ReadStop>
     ensures { GivesRead result text.new (failed_at text.old) }
 {
     let done = text.small()?;
@@ -55,7 +55,7 @@ fn failed(text: &mut Cursor) -> Result<UndoEnd, Stop>
 }
 
 #[tactic(auto, unfolding(crate::specs::Tails::blocked_at))]
-fn blocked(text: &mut Cursor) -> Result<UndoEnd, Stop>
+fn blocked(text: &mut Cursor) -> Result<UndoEnd, ReadStop>
     ensures { GivesRead result text.new (blocked_at text.old) }
 {
     let by = text.small()?;
@@ -64,7 +64,7 @@ fn blocked(text: &mut Cursor) -> Result<UndoEnd, Stop>
 
 /// How a compensation ended.
 #[tactic(auto, unfolding(crate::specs::Tails::undo_end_at))]
-pub fn read_undo_end(text: &mut Cursor) -> Result<UndoEnd, Stop>
+pub fn read_undo_end(text: &mut Cursor) -> Result<UndoEnd, ReadStop>
     ensures { GivesRead result text.new (undo_end_at text.old) }
 {
     if text.passes(b"done faults ") {
@@ -76,11 +76,11 @@ pub fn read_undo_end(text: &mut Cursor) -> Result<UndoEnd, Stop>
     if text.passes(b"blocked by ") {
         return blocked(text);
     }
-    Err(Stop::Unread)
+    Err(ReadStop::Unread)
 }
 
 #[tactic(auto, unfolding(crate::specs::Tails::overwrite_stands_at))]
-fn overwrite_stands(alloc: Global, text: &mut Cursor) -> Result<Standing, Stop>
+fn overwrite_stands(alloc: Global, text: &mut Cursor) -> Result<EffectShown, ReadStop>
     ensures { GivesRead result text.new (overwrite_stands_at text.old) }
 {
     let file = text.num()?;
@@ -88,11 +88,11 @@ fn overwrite_stands(alloc: Global, text: &mut Cursor) -> Result<Standing, Stop>
     let at = text.number()?;
     text.pass(b" ")?;
     let bytes = text.bytes(alloc)?;
-    Ok(Standing::Bytes { file, at, bytes })
+    Ok(EffectShown::Bytes { file, at, bytes })
 }
 
 #[tactic(auto, unfolding(crate::specs::Tails::tail_stands_at))]
-fn tail_stands(alloc: Global, text: &mut Cursor) -> Result<Standing, Stop>
+fn tail_stands(alloc: Global, text: &mut Cursor) -> Result<EffectShown, ReadStop>
     ensures { GivesRead result text.new (tail_stands_at text.old) }
 {
     let file = text.num()?;
@@ -100,11 +100,11 @@ fn tail_stands(alloc: Global, text: &mut Cursor) -> Result<Standing, Stop>
     let from = text.small()?;
     text.pass(b" ")?;
     let bytes = text.bytes(alloc)?;
-    Ok(Standing::Tail { file, from, bytes })
+    Ok(EffectShown::Tail { file, from, bytes })
 }
 
 // A name in a place of its own, which goes with it.
-fn boxed_name(alloc: Global, text: &mut Cursor) -> Result<Boxed<Name>, Stop>
+fn boxed_name(alloc: Global, text: &mut Cursor) -> Result<Boxed<Name>, ReadStop>
     ensures { GivesRead result text.new (name_at text.old) }
 {
     let name = text.name()?;
@@ -112,44 +112,44 @@ fn boxed_name(alloc: Global, text: &mut Cursor) -> Result<Boxed<Name>, Stop>
 }
 
 #[tactic(auto, unfolding(crate::specs::Tails::made_stands_at))]
-fn made_stands(alloc: Global, text: &mut Cursor) -> Result<Standing, Stop>
+fn made_stands(alloc: Global, text: &mut Cursor) -> Result<EffectShown, ReadStop>
     ensures { GivesRead result text.new (made_stands_at text.old) }
 {
     let name = boxed_name(alloc, text)?;
     text.pass(b" file ")?;
     let num = text.num()?;
-    Ok(Standing::Made { name, num })
+    Ok(EffectShown::Made { name, num })
 }
 
 #[tactic(auto, unfolding(crate::specs::Tails::moved_stands_at))]
-fn moved_stands(alloc: Global, text: &mut Cursor) -> Result<Standing, Stop>
+fn moved_stands(alloc: Global, text: &mut Cursor) -> Result<EffectShown, ReadStop>
     ensures { GivesRead result text.new (moved_stands_at text.old) }
 {
     let from = boxed_name(alloc, text)?;
     text.pass(b" ")?;
     let to = boxed_name(alloc, text)?;
-    Ok(Standing::Moved { from, to })
+    Ok(EffectShown::Moved { from, to })
 }
 
 #[tactic(auto, unfolding(crate::specs::Tails::pipe_stands_at))]
-fn pipe_stands(text: &mut Cursor) -> Result<Standing, Stop>
+fn pipe_stands(text: &mut Cursor) -> Result<EffectShown, ReadStop>
     ensures { GivesRead result text.new (pipe_stands_at text.old) }
 {
     let num = text.num()?;
-    Ok(Standing::Pipe(num))
+    Ok(EffectShown::Pipe(num))
 }
 
 #[tactic(auto, unfolding(crate::specs::Tails::pair_stands_at))]
-fn pair_stands(text: &mut Cursor) -> Result<Standing, Stop>
+fn pair_stands(text: &mut Cursor) -> Result<EffectShown, ReadStop>
     ensures { GivesRead result text.new (pair_stands_at text.old) }
 {
     let num = text.num()?;
-    Ok(Standing::Pair(num))
+    Ok(EffectShown::Pair(num))
 }
 
 /// An effect that stands.
 #[tactic(auto, unfolding(crate::specs::Tails::standing_at))]
-pub fn read_standing(alloc: Global, text: &mut Cursor) -> Result<Standing, Stop>
+pub fn read_standing(alloc: Global, text: &mut Cursor) -> Result<EffectShown, ReadStop>
     ensures { GivesRead result text.new (standing_at text.old) }
 {
     if text.passes(b"bytes file ") {
@@ -170,12 +170,12 @@ pub fn read_standing(alloc: Global, text: &mut Cursor) -> Result<Standing, Stop>
     if text.passes(b"pair ") {
         return pair_stands(text);
     }
-    Err(Stop::Unread)
+    Err(ReadStop::Unread)
 }
 
 /// How a job ended.
 #[tactic(auto, unfolding(crate::specs::Tails::job_end_at))]
-pub fn read_job_end(text: &mut Cursor) -> Result<JobShown, Stop>
+pub fn read_job_end(text: &mut Cursor) -> Result<JobShown, ReadStop>
     ensures { GivesRead result text.new (job_end_at text.old) }
 {
     if text.passes(b"done") {
@@ -190,11 +190,11 @@ pub fn read_job_end(text: &mut Cursor) -> Result<JobShown, Stop>
     if text.passes(b"no memory") {
         return Ok(JobShown::NoMemory);
     }
-    Err(Stop::Unread)
+    Err(ReadStop::Unread)
 }
 
 #[tactic(auto, unfolding(crate::specs::Tails::kept_pipe_at))]
-fn kept_pipe(alloc: Global, text: &mut Cursor) -> Result<KeptItem, Stop>
+fn kept_pipe(alloc: Global, text: &mut Cursor) -> Result<KeptItem, ReadStop>
     ensures { GivesRead result text.new (kept_pipe_at text.old) }
 {
     let pipe = text.num()?;
@@ -204,7 +204,7 @@ fn kept_pipe(alloc: Global, text: &mut Cursor) -> Result<KeptItem, Stop>
 }
 
 #[tactic(auto, unfolding(crate::specs::Tails::kept_pair_at))]
-fn kept_pair(alloc: Global, text: &mut Cursor) -> Result<KeptItem, Stop>
+fn kept_pair(alloc: Global, text: &mut Cursor) -> Result<KeptItem, ReadStop>
     ensures { GivesRead result text.new (kept_pair_at text.old) }
 {
     let pair = text.num()?;
@@ -217,7 +217,7 @@ fn kept_pair(alloc: Global, text: &mut Cursor) -> Result<KeptItem, Stop>
 
 /// Kept data, behind the first word of their line.
 #[tactic(auto, unfolding(crate::specs::Tails::kept_at))]
-pub fn read_kept(alloc: Global, text: &mut Cursor) -> Result<KeptItem, Stop>
+pub fn read_kept(alloc: Global, text: &mut Cursor) -> Result<KeptItem, ReadStop>
     ensures { GivesRead result text.new (kept_at text.old) }
 {
     if text.passes(b"pipe ") {
@@ -226,5 +226,5 @@ pub fn read_kept(alloc: Global, text: &mut Cursor) -> Result<KeptItem, Stop>
     if text.passes(b"pair ") {
         return kept_pair(alloc, text);
     }
-    Err(Stop::Unread)
+    Err(ReadStop::Unread)
 }

@@ -3,8 +3,8 @@ use Rattle.std.specs.Prelude.{◌≢◌, ℕ, ◌<◌, List, [], ◌∷◌, ◌+
 use Rattle.std.specs.declared.option.Option.TheVariants.{None, Some}
 use Rattle.std.specs.Io.KnownBytes.{Consumes, IsAtEnd}
 use Rattle.xc_links.specs.Wires.{Wire}
-use Rattle.xc_links.specs.declared.line.Line.{Line}
-use Rattle.xc_links.specs.declared.line.Line.TheVariants.{Whole, TooLong, Rest}
+use Rattle.xc_links.specs.declared.line.WireLine.{WireLine}
+use Rattle.xc_links.specs.declared.line.WireLine.TheVariants.{Whole, TooLong, Rest}
 
 -- a byte came, or none is left
 abbrev pub IsByte : Wire → Wire → Option ℕ → Type 0
@@ -16,10 +16,10 @@ abbrev pub IsWithin : List ℕ → Type 0
 IsWithin bytes = All (λ b. b ≢ 10) bytes
 
 -- the line that was read, into a buffer of 65 bytes
-abbrev pub IsLine : Wire → Wire → List ℕ → Line → Type 0
-IsLine old new buffer (Whole n) = (n < 65) × IsWithin (take n buffer) × Consumes old.left new.left (take n buffer ++ 10 ∷ [])
-IsLine old new buffer TooLong = IsWithin buffer × Consumes old.left new.left buffer
-IsLine old new buffer (Rest n) = (n < 65) × IsWithin (take n buffer) × Consumes old.left new.left (take n buffer) × IsAtEnd new.left
+abbrev pub IsWireLine : Wire → Wire → List ℕ → WireLine → Type 0
+IsWireLine old new buffer (Whole n) = (n < 65) × IsWithin (take n buffer) × Consumes old.left new.left (take n buffer ++ 10 ∷ [])
+IsWireLine old new buffer TooLong = IsWithin buffer × Consumes old.left new.left buffer
+IsWireLine old new buffer (Rest n) = (n < 65) × IsWithin (take n buffer) × Consumes old.left new.left (take n buffer) × IsAtEnd new.left
 
 -- a front of a line was read
 abbrev pub IsCut : Wire → Wire → Type 0

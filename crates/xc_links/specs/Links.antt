@@ -9,10 +9,10 @@ pub record LinksView (L : Type 0) : Type 0 where
   pub faults : ℕ
 
 -- the first of them is given
-abbrev pub Gives : {L : Type 0} → Option (List L) → Option (List L) → L → Type 0
-Gives None new link = ⊤
-Gives (Some links) None link = ⊥
-Gives (Some links) (Some rest) link = links ≡ link ∷ rest
+abbrev pub GivesLink : {L : Type 0} → Option (List L) → Option (List L) → L → Type 0
+GivesLink None new link = ⊤
+GivesLink (Some links) None link = ⊥
+GivesLink (Some links) (Some rest) link = links ≡ link ∷ rest
 
 -- they stay as they were
 abbrev pub KeepsLinks : {L : Type 0} → Option (List L) → Option (List L) → Type 0

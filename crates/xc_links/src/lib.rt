@@ -11,7 +11,7 @@ mod mem_link;
 mod tcp;
 
 pub use duplex::{Duplex, send_whole};
-pub use line::{LINE_BYTES, Line, read_line};
+pub use line::{LINE_BYTES, WireLine, read_line};
 pub use links::Links;
 pub use mem_link::{MemLink, MemLinkList, MemLinks};
 pub use tcp::{TcpLink, TcpLinks};

@@ -1,7 +1,7 @@
 ghost use Rattle.std.specs.Prelude.{◌≡◌, length, IfOk, OnErr};
 ghost use Rattle.std.specs.Io.KnownBytes.{Keeps};
 ghost use Rattle.xc_edge.specs.Counts.{HasCause};
-ghost use Rattle.xc_links.specs.Lines.{IsByte, IsCut, IsLine};
+ghost use Rattle.xc_links.specs.Lines.{IsByte, IsCut, IsWireLine};
 ghost use Rattle.xc_links.specs.Wires.{giving};
 
 use crate::Duplex;
@@ -12,7 +12,7 @@ pub const LINE_BYTES: usize = 65;
 
 /// A line that was read into a buffer.
 #[derive(Debug, Drop, PartialEq)]
-pub enum Line {
+pub enum WireLine {
     /// So many bytes, and then its end.
     Whole(usize),
     /// 65 bytes without an end.
@@ -36,8 +36,8 @@ fn read_byte<L: Duplex>(link: &mut L) -> Result<Option<u8>, Failed>
 }
 
 /// Reads a line, a byte at a time, so that what comes behind it is left.
-pub fn read_line<L: Duplex>(link: &mut L, buffer: &mut [u8; 65]) -> Result<Line, Failed>
-    ensures line { IfOk result (IsLine (L.told link.old) (L.told link.new) buffer.new) }
+pub fn read_line<L: Duplex>(link: &mut L, buffer: &mut [u8; 65]) -> Result<WireLine, Failed>
+    ensures line { IfOk result (IsWireLine (L.told link.old) (L.told link.new) buffer.new) }
     ensures cut { OnErr result (IsCut (L.told link.old) (L.told link.new)) }
     ensures other { Keeps (L.told link.old).taken (L.told link.new).taken }
     ensures cause { HasCause (giving (L.told link.old)) (giving (L.told link.new)) result }
@@ -45,13 +45,13 @@ pub fn read_line<L: Duplex>(link: &mut L, buffer: &mut [u8; 65]) -> Result<Line,
     let mut at: usize = 0;
     while at < LINE_BYTES {
         let Some(byte) = read_byte(link)? else {
-            return Ok(Line::Rest(at));
+            return Ok(WireLine::Rest(at));
         };
         if byte == b'\n' {
-            return Ok(Line::Whole(at));
+            return Ok(WireLine::Whole(at));
         }
         buffer[at] = byte;
         at += 1;
     }
-    Ok(Line::TooLong)
+    Ok(WireLine::TooLong)
 }

@@ -1,5 +1,5 @@
 ghost use Rattle.std.specs.Prelude.{◌≡◌, IfOk, OnErr};
-ghost use Rattle.xc_links.specs.Links.{Gives, KeepsLinks, LinksView, HasLinkCause};
+ghost use Rattle.xc_links.specs.Links.{GivesLink, KeepsLinks, LinksView, HasLinkCause};
 
 use crate::Duplex;
 use xc_edge::Failed;
@@ -18,7 +18,7 @@ pub trait Links {
 
     /// Gives the first of the links that are to come. An accept that fails leaves them as they were.
     fn accept(&mut self) -> Result<Self::Link, Failed>
-        ensures given { IfOk result (Gives (told self.old).left (told self.new).left) }
+        ensures given { IfOk result (GivesLink (told self.old).left (told self.new).left) }
         ensures kept { OnErr result (KeepsLinks (told self.old).left (told self.new).left) }
         ensures cause { HasLinkCause (told self.old).faults (told self.new).faults result };
 }

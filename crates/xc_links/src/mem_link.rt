@@ -3,7 +3,7 @@ ghost use Rattle.std.specs.Io.{ReadsAtMost};
 ghost use Rattle.std.specs.Io.KnownBytes.{Keeps, ReadConsumes, WriteAppends};
 ghost use Rattle.xc_data.specs.Counts.{counted};
 ghost use Rattle.xc_edge.specs.Counts.{HasCause};
-ghost use Rattle.xc_links.specs.Links.{Gives, KeepsLinks, HasLinkCause};
+ghost use Rattle.xc_links.specs.Links.{GivesLink, KeepsLinks, HasLinkCause};
 ghost use Rattle.xc_links.specs.MemLinks.{link_view, links_view};
 ghost use Rattle.xc_links.specs.Wires.{giving, taking};
 
@@ -109,7 +109,7 @@ impl Links for MemLinks {
     }
 
     fn accept(&mut self) -> Result<MemLink, Failed>
-        ensures given { IfOk result (Gives (Some self.old.left) (Some self.new.left)) }
+        ensures given { IfOk result (GivesLink (Some self.old.left) (Some self.new.left)) }
         ensures kept { OnErr result (KeepsLinks (Some self.old.left) (Some self.new.left)) }
         ensures cause { HasLinkCause self.old.faults self.new.faults result }
         ensures fails { IsErr result ↔ (Contains self.old.fails (counted self.old.accepts) ⊎ (self.old.left ≡ [])) }

@@ -11,9 +11,9 @@ use Rattle.xc_maps.proofs.Laws.{get-lookup}
 use Rattle.xc_locks.specs.declared.key.Other.{Other}
 use Rattle.xc_locks.specs.Keys.{holder_of, other_cmp, holder_cmp}
 use Rattle.xc_locks.specs.Rows.{mode_among, with_mode}
-use Rattle.xc_locks.specs.Hashed.{Row, is_other, AreApart, laid_out, others_of}
+use Rattle.xc_locks.specs.Hashed.{Row, is_other, HaveOwnObjects, laid_out, others_of}
 use Rattle.xc_locks.proofs.Orders.{other_total, other_exact, holder_total, holder_exact, same_other, others_apart}
-use Rattle.xc_locks.proofs.Rows.{found_in, held_in, own, passed, two}
+use Rattle.xc_locks.proofs.Rows.{found_in, held_in, own, passed, two_objects}
 
 -- the holders of an object, in its row
 abbrev pub row_of : List Row → Other → Option (List (ℕ × Mode))
@@ -32,7 +32,7 @@ nothing o n (r ∷ rs) all =
     passed other_cmp other_exact o r.0 n r.1 (laid_out rs) (others_apart o r.0 all.0) ∙ nothing o n rs all.1
 
 -- what is found of an object is in its row
-placed : (o : Other) (n : ℕ) (rows : List Row) → AreApart rows → found_in other_cmp o n (laid_out rows) ≡ held_in (row_of rows o) n
+placed : (o : Other) (n : ℕ) (rows : List Row) → HaveOwnObjects rows → found_in other_cmp o n (laid_out rows) ≡ held_in (row_of rows o) n
 unfolding IsDistinct
 placed o n [] apart = refl
 placed o n (r ∷ rs) apart = by (is_other o r.0) refl (placed o n rs apart.1)
@@ -46,11 +46,11 @@ placed o n (r ∷ rs) apart = by (is_other o r.0) refl (placed o n rs apart.1)
     by false e rest = passed other_cmp other_exact o r.0 n r.1 (laid_out rs) (others_apart o r.0 e) ∙ rest
 
 -- the finite map has at a holder what the object's row has at the transaction
-pub get-others_of : (rows : List Row) (o : Other) (n : ℕ) → AreApart rows → map.get (others_of rows) (holder_of o n) ≡ held_in (row_of rows o) n
+pub get-others_of : (rows : List Row) (o : Other) (n : ℕ) → HaveOwnObjects rows → map.get (others_of rows) (holder_of o n) ≡ held_in (row_of rows o) n
 get-others_of rows o n apart = get-lookup holder_total (laid_out rows) (holder_of o n) ∙ placed o n rows apart
 
 -- rows that say the same of each holder are seen as that map
-pub seen_as : (rows : List Row) (t : map.FinMap holder_cmp Mode) → AreApart rows
+pub seen_as : (rows : List Row) (t : map.FinMap holder_cmp Mode) → HaveOwnObjects rows
     → ((o : Other) (n : ℕ) → held_in (row_of rows o) n ≡ map.get t (holder_of o n)) → others_of rows ≡ t
 seen_as rows t apart same =
     map.same_map holder_total holder_exact (others_of rows) t (λ q. get-others_of rows q.0 q.1 apart ∙ same q.0 q.1)
@@ -78,9 +78,9 @@ module _ (rows rows' : List Row) (k : Other) (tx : ℕ) (w : Option (List (ℕ �
       by false e =
           ap (λ m. held_in m n) (changes o ∙ ap (λ b. cond b w (row_of rows o)) e)
           ∙ ap (λ b. cond b x (held_in (row_of rows o) n))
-          (sym (two other_cmp other_exact o k (other_cmp o k) (nat_cmp n tx) refl (λ same. others_apart k o e (sym same))))
+          (sym (two_objects other_cmp other_exact o k (other_cmp o k) (nat_cmp n tx) refl (λ same. others_apart k o e (sym same))))
 
-module _ (rows : List Row) (t : map.FinMap holder_cmp Mode) (is : others_of rows ≡ t) (apart : AreApart rows) where
+module _ (rows : List Row) (t : map.FinMap holder_cmp Mode) (is : others_of rows ≡ t) (apart : HaveOwnObjects rows) where
   -- the row of an object has its holders
   pub got : (o : Other) (n : ℕ) → held_in (row_of rows o) n ≡ map.get t (holder_of o n)
   got o n = sym (get-others_of rows o n apart) ∙ ap (λ s. map.get s (holder_of o n)) is
@@ -89,7 +89,7 @@ module _ (rows : List Row) (t : map.FinMap holder_cmp Mode) (is : others_of rows
   pub lacks : (o : Other) → None ≡ row_of rows o → (n : ℕ) → map.get t (holder_of o n) ≡ None
   lacks o none n = sym (got o n) ∙ ap (λ m. held_in m n) (sym none)
 
-module _ (rows rows' : List Row) (t : map.FinMap holder_cmp Mode) (is : others_of rows ≡ t) (apart : AreApart rows) (apart' : AreApart rows')
+module _ (rows rows' : List Row) (t : map.FinMap holder_cmp Mode) (is : others_of rows ≡ t) (apart : HaveOwnObjects rows) (apart' : HaveOwnObjects rows')
     (k : Other) (w : Option (List (ℕ × Mode)))
     (changes : (o : Other) → row_of rows' o ≡ cond (is_other k o) w (row_of rows o)) where
   -- it has the same holders

@@ -22,20 +22,20 @@ use Rattle.xc_locks.proofs.Rows.{found_in, held_in, own, passed}
 
 -- ---- one entry of the map is one of the list at its word's place
 -- the mode of a transaction at a word, in a list of entries
-abbrev found_at : ℕ → ℕ → List (WordHolder × Mode) → Option Mode
-found_at = found_in nat_cmp
+abbrev mode_found_at : ℕ → ℕ → List (WordHolder × Mode) → Option Mode
+mode_found_at = found_in nat_cmp
 
 -- nothing is found of a word before all
-before : (v w n : ℕ) (ms : List (List (ℕ × Mode))) → v < w → found_at v n (entries_from w ms) ≡ None
+before : (v w n : ℕ) (ms : List (List (ℕ × Mode))) → v < w → mode_found_at v n (entries_from w ms) ≡ None
 before v w n [] lt = refl
 before v w n (m ∷ ms) lt = passed nat_cmp exact_unsigned v w n m (entries_from (w + 1) ms) (λ e. absurd (omega arith)) ∙ before v (w + 1) n ms (omega arith)
 
 -- what is found of a word is in the list at its place
-placed : (v w i n : ℕ) (ms : List (List (ℕ × Mode))) → v ≡ w + i → found_at v n (entries_from w ms) ≡ held_in (slice_get ms i) n
+placed : (v w i n : ℕ) (ms : List (List (ℕ × Mode))) → v ≡ w + i → mode_found_at v n (entries_from w ms) ≡ held_in (slice_get ms i) n
 placed v w i n [] e = refl
 placed v w zero n (m ∷ ms) e =
     let same : w ≡ v = omega arith in
-    ap (λ u. found_at v n (entries_from u (m ∷ ms))) same ∙ own nat_cmp nat_cmp_total v n m (entries_from (v + 1) ms) (before v (v + 1) n ms (omega arith))
+    ap (λ u. mode_found_at v n (entries_from u (m ∷ ms))) same ∙ own nat_cmp nat_cmp_total v n m (entries_from (v + 1) ms) (before v (v + 1) n ms (omega arith))
 placed v w (suc i) n (m ∷ ms) e =
     passed nat_cmp exact_unsigned v w n m (entries_from (w + 1) ms) (λ same. absurd (omega arith)) ∙ placed v (w + 1) i n ms (omega arith)
 
@@ -122,8 +122,8 @@ module _ (ms : List (List (ℕ × Mode))) (t : map.FinMap word_holder_cmp Mode) 
 
     module _ (k : List (ℕ × Mode)) where
       -- the same list is put there
-      pub put_same : k ≡ m → words_of (set ms i k) ≡ t
-      put_same e = ap (λ l. words_of (set ms i l)) (e ∙ read) ∙ ap words_of (set-get_or ms i m) ∙ is
+      pub word_put_same : k ≡ m → words_of (set ms i k) ≡ t
+      word_put_same e = ap (λ l. words_of (set ms i l)) (e ∙ read) ∙ ap words_of (set-get_or ms i m) ∙ is
 
       -- one that has a mode at a transaction
       put_mode : (tx : ℕ) (mode : Mode) → ((n : ℕ) → mode_among k n ≡ cond (is_at (nat_cmp tx) n) (Some mode) (mode_among m n))
@@ -134,10 +134,10 @@ module _ (ms : List (List (ℕ × Mode))) (t : map.FinMap word_holder_cmp Mode) 
           ∙ ap (λ s. map.insert s (word_holder i tx) mode) is
 
       -- one that has the stronger mode there
-      pub put_raised : (tx : ℕ) (mode : Mode)
+      pub word_put_raised : (tx : ℕ) (mode : Mode)
           → ((n : ℕ) → mode_among k n ≡ cond (is_at (nat_cmp tx) n) (Some (with_mode (mode_among m tx) mode)) (mode_among m n))
           → words_of (set ms i k) ≡ map.insert t (word_holder i tx) (with_mode (map.get t (word_holder i tx)) mode)
-      put_raised tx mode h =
+      word_put_raised tx mode h =
           put_mode tx (with_mode (mode_among m tx) mode) h ∙ ap (λ was. map.insert t (word_holder i tx) (with_mode was mode)) (sym (mode_there tx))
 
       -- one that has nothing at a transaction

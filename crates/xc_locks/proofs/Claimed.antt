@@ -15,8 +15,8 @@ use Rattle.xc_data.proofs.Laws.{same_object, itself}
 use Rattle.xc_locks.proofs.Modes.{mode_of-set, mode_of-set_other}
 
 -- what is left of a list begins with the next one
-pub left-cons : {X : Type 0} (xs : List X) (i : ℕ) (x : X) → i < length xs → x ≡ get_or xs i x → drop i xs ≡ x ∷ drop (i + 1) xs
-left-cons xs i x lt e = rw add-one (drop-cons xs i x lt ∙ ap (λ y. y ∷ drop (suc i) xs) (sym e))
+pub rest-cons : {X : Type 0} (xs : List X) (i : ℕ) (x : X) → i < length xs → x ≡ get_or xs i x → drop i xs ≡ x ∷ drop (i + 1) xs
+rest-cons xs i x lt e = rw add-one (drop-cons xs i x lt ∙ ap (λ y. y ∷ drop (suc i) xs) (sym e))
 
 -- what is seen of it ends with the last one
 pub take-more : {X : Type 0} (xs : List X) (i : ℕ) (x : X) → i < length xs → x ≡ get_or xs i x → take (i + 1) xs ≡ take i xs ++ x ∷ []
@@ -24,13 +24,13 @@ take-more xs i x lt e = rw add-one (take-suc xs i x lt ∙ ap (λ y. take i xs +
 
 -- the whole list: what was seen, the next one, and the others
 pub parts : {X : Type 0} (xs : List X) (i : ℕ) (x : X) → i < length xs → x ≡ get_or xs i x → xs ≡ take i xs ++ x ∷ drop (i + 1) xs
-parts xs i x lt e = sym (take-append-drop i xs) ∙ ap (λ ys. take i xs ++ ys) (left-cons xs i x lt e)
+parts xs i x lt e = sym (take-append-drop i xs) ∙ ap (λ ys. take i xs ++ ys) (rest-cons xs i x lt e)
 
 -- a list of one element is that element
-pub alone : {X : Type 0} (xs : List X) (x : X) → length xs ≡ 1 → x ≡ get_or xs 0 x → x ∷ [] ≡ xs
-alone [] x one e = absurd (omega arith)
-alone (y ∷ []) x one e = ap (λ z. z ∷ []) e
-alone (y ∷ z ∷ zs) x one e = absurd (omega arith)
+pub single_element : {X : Type 0} (xs : List X) (x : X) → length xs ≡ 1 → x ≡ get_or xs 0 x → x ∷ [] ≡ xs
+single_element [] x one e = absurd (omega arith)
+single_element (y ∷ []) x one e = ap (λ z. z ∷ []) e
+single_element (y ∷ z ∷ zs) x one e = absurd (omega arith)
 
 -- ---- one claim
 -- an object that a claim isn't on keeps its mode

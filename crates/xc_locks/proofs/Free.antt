@@ -9,7 +9,7 @@ use Rattle.xc_data.specs.declared.claim.Claim.{Claim}
 use Rattle.xc_data.specs.Claims.{compatible}
 use Rattle.xc_locks.specs.Met.{Meets, IsMet, IsNotMet, IsCause}
 use Rattle.xc_locks.specs.declared.refusal.ClaimErr.TheVariants.{Met}
-use Rattle.xc_locks.specs.Others.{IsFirstBut, IsFirstOther, IsFree, IsMetBy}
+use Rattle.xc_locks.specs.Others.{IsFirstBut, IsFirstOther, MayHold, IsMetBy}
 use Rattle.xc_locks.specs.Table.{Table, held_mode, modes_of, AreCompatible}
 
 -- modes that are the same for each transaction are the same
@@ -17,7 +17,7 @@ pub same_modes : (a b : ℕ → Option Mode) → ((n : ℕ) → a n ≡ b n) →
 same_modes a b same = λ i n. same n i
 
 -- where nobody holds the object, nobody is in the way
-pub free_none : (modes : ℕ → Option Mode) (tx : ℕ) (mode : Mode) → ((n : ℕ) → modes n ≡ None) → IsFree modes tx mode
+pub free_none : (modes : ℕ → Option Mode) (tx : ℕ) (mode : Mode) → ((n : ℕ) → modes n ≡ None) → MayHold modes tx mode
 free_none modes tx mode none = record { first = None; is_first = λ n _. none n; fits = λ h e. absurd (cc) }
 
 module _ (t : Table) (tx : ℕ) (c : Claim) where
@@ -69,5 +69,5 @@ module _ (t : Table) (tx : ℕ) (c : Claim) where
         absurd (cc)
 
     -- a claim that all let tx have is not met
-    pub unmet : IsFree (modes_of t c.object) tx c.mode → All (IsNotMet t tx) (c ∷ [])
+    pub unmet : MayHold (modes_of t c.object) tx c.mode → All (IsNotMet t tx) (c ∷ [])
     unmet free = All-cons (IsNotMet t tx) c [] (unmet_by free.first free.is_first free.fits) (All-nil (IsNotMet t tx))

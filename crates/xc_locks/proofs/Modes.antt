@@ -8,8 +8,8 @@ use Rattle.xc_data.specs.declared.object.Object.{Object}
 use Rattle.xc_data.specs.declared.claim.Mode.{Mode}
 use Rattle.xc_data.specs.Claims.{is_object}
 use Rattle.xc_maps.proofs.Laws as laws
-use Rattle.xc_locks.specs.declared.key.Kind.{Kind}
-use Rattle.xc_locks.specs.declared.key.Kind.TheVariants as kind
+use Rattle.xc_locks.specs.declared.key.LockKey.{LockKey}
+use Rattle.xc_locks.specs.declared.key.LockKey.TheVariants as kind
 use Rattle.xc_locks.specs.Keys.{WordHolder, Holder, kind_of, holder_of, holder_cmp, word_holder, word_holder_cmp}
 use Rattle.xc_locks.specs.Table.{Table, mode_at, held_mode, set_entry, set_at, set_mode}
 use Rattle.xc_locks.proofs.Orders.{holder_total, holder_exact, word_holder_total, word_holder_exact}
@@ -40,10 +40,10 @@ same_table s t same =
     let others = map.same_map holder_total holder_exact s.others t.others (λ h. at_kind h.1 (kind.Other h.0)) in
     λ i. record { words = words i; others = others i }
   where
-    at_kind : (n : ℕ) (k : Kind) → mode_at s n k ≡ mode_at t n k
+    at_kind : (n : ℕ) (k : LockKey) → mode_at s n k ≡ mode_at t n k
     at_kind n k = sym (ap (mode_at s n) (kind_of-object_of k)) ∙ same n (object_of k) ∙ ap (mode_at t n) (kind_of-object_of k)
 
-empty_at : (t : Table) (n : ℕ) (k : Kind) → t.words ≡ map.empty → t.others ≡ map.empty → mode_at t n k ≡ None
+empty_at : (t : Table) (n : ℕ) (k : LockKey) → t.words ≡ map.empty → t.others ≡ map.empty → mode_at t n k ≡ None
 empty_at t n (kind.Word at) w o =
     ap (λ (m : map.FinMap word_holder_cmp Mode). map.get m (word_holder at n)) w ∙ map.get-empty word_holder_cmp (word_holder at n)
 empty_at t n (kind.Other p) w o =
@@ -64,11 +64,11 @@ module _ {K : Type 0} {R : K → K → Ordering} (total : IsTotalOrder R) (exact
   entry_elsewhere k q None ne = laws.get-remove_other total exact m k q ne
 
 -- ---- the mode for a word or another object
-at_there : (t : Table) (k : Kind) (tx : ℕ) (m : Option Mode) → mode_at (set_at t tx k m) tx k ≡ m
+at_there : (t : Table) (k : LockKey) (tx : ℕ) (m : Option Mode) → mode_at (set_at t tx k m) tx k ≡ m
 at_there t (kind.Word at) tx m = entry_there word_holder_total word_holder_exact t.words (word_holder at tx) m
 at_there t (kind.Other o) tx m = entry_there holder_total holder_exact t.others (holder_of o tx) m
 
-at_elsewhere : (t : Table) (k q : Kind) (tx n : ℕ) (m : Option Mode) → (q ≡ k → n ≡ tx → ⊥) → mode_at (set_at t tx k m) n q ≡ mode_at t n q
+at_elsewhere : (t : Table) (k q : LockKey) (tx n : ℕ) (m : Option Mode) → (q ≡ k → n ≡ tx → ⊥) → mode_at (set_at t tx k m) n q ≡ mode_at t n q
 at_elsewhere t (kind.Word a) (kind.Word b) tx n m ne =
     entry_elsewhere word_holder_total word_holder_exact t.words (word_holder a tx) (word_holder b n) m
     (λ e. ne (ap (λ (h : WordHolder). kind.Word h.0) e) (ap (λ (h : WordHolder). h.1) e))

@@ -9,8 +9,8 @@ use Rattle.xc_data.specs.declared.object.Num.{Num}
 use Rattle.xc_data.specs.declared.object.Object.{Object}
 use Rattle.xc_data.specs.declared.object.Object.TheVariants as object
 use Rattle.xc_maps.proofs.Laws.{num_exact}
-use Rattle.xc_locks.specs.declared.key.Kind.{Kind}
-use Rattle.xc_locks.specs.declared.key.Kind.TheVariants as kind
+use Rattle.xc_locks.specs.declared.key.LockKey.{LockKey}
+use Rattle.xc_locks.specs.declared.key.LockKey.TheVariants as kind
 use Rattle.xc_locks.specs.declared.key.Other.{Other}
 use Rattle.xc_locks.specs.declared.key.Other.TheVariants as other
 use Rattle.xc_locks.specs.contracts.key.OtherOrd.TheImpl.Laws as other_laws
@@ -20,7 +20,7 @@ use Rattle.xc_locks.specs.Hashed.{is_other}
 -- ---- objects
 -- ---- kinds
 -- the object of a kind
-pub object_of : Kind → Object
+pub object_of : LockKey → Object
 object_of (kind.Word at) = object.Word at
 object_of (kind.Other (other.Name name)) = object.Name name
 object_of (kind.Other (other.File num)) = object.File num
@@ -38,7 +38,7 @@ object_of-kind_of (object.Pair num) = refl
 object_of-kind_of object.Jobs = refl
 
 -- each kind is that of its object
-pub kind_of-object_of : (k : Kind) → kind_of (object_of k) ≡ k
+pub kind_of-object_of : (k : LockKey) → kind_of (object_of k) ≡ k
 unfolding object_of
 kind_of-object_of (kind.Word at) = refl
 kind_of-object_of (kind.Other (other.Name name)) = refl

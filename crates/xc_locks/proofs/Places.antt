@@ -8,7 +8,7 @@ use Rattle.xc_data.specs.declared.object.Object.{Object}
 use Rattle.xc_data.specs.declared.claim.Mode.TheVariants.{Shared}
 use Rattle.xc_data.specs.declared.claim.Claim.{Claim}
 use Rattle.xc_data.specs.Claims.{is_object}
-use Rattle.xc_locks.specs.Placing.{Placed, is_claimed}
+use Rattle.xc_locks.specs.Placing.{IsPlaced, is_claimed}
 use Rattle.xc_locks.specs.Table.{has, Table, held_mode, set_mode, claimed, KeepsOthers}
 use Rattle.xc_data.proofs.Laws.{same_object, itself}
 use Rattle.xc_locks.proofs.Modes.{same_table, mode_of-set, mode_of-set_other}
@@ -31,7 +31,7 @@ has-append a b o = list_any-append (is_object o) a b
 -- ---- one claim
 -- it is new
 pub placed_new : (tx : ℕ) (c : Claim) (t : Table) → held_mode t tx c.object ≡ None
-    → Placed tx (c ∷ []) t (set_mode t tx c.object (Some Shared)) (c.object ∷ [])
+    → IsPlaced tx (c ∷ []) t (set_mode t tx c.object (Some Shared)) (c.object ∷ [])
 placed_new tx c t lacks = record {
   new = λ o e. ap (held_mode t tx) (same_object o c.object (own o e)) ∙ lacks;
   shared = λ o e. inserted o true (is_object-swap c.object o ∙ own o e);
@@ -54,7 +54,7 @@ placed_new tx c t lacks = record {
     inserted o b e = mode_of-set t c.object o tx (Some Shared) ∙ ap (λ x. cond x (Some Shared) (held_mode t tx o)) e
 
 -- ---- claims after claims
-module _ (tx : ℕ) (xs ys : List Claim) (s t u : Table) (f g : List Object) (p : Placed tx xs s t f) (q : Placed tx ys t u g) where
+module _ (tx : ℕ) (xs ys : List Claim) (s t u : Table) (f g : List Object) (p : IsPlaced tx xs s t f) (q : IsPlaced tx ys t u g) where
   both : (o : Object) (a b : Bool) → has f o ≡ a → has g o ≡ b → has (f ++ g) o ≡ (a || b)
   both o a b e k = has-append f g o ∙ ap₂ (λ x y. x || y) e k
 
@@ -100,7 +100,7 @@ module _ (tx : ℕ) (xs ys : List Claim) (s t u : Table) (f g : List Object) (p 
   split o r e = sym (has-append f g o) ∙ e
 
   -- all of them have their places
-  pub placed-append : Placed tx (xs ++ ys) s u (f ++ g)
+  pub placed-append : IsPlaced tx (xs ++ ys) s u (f ++ g)
   placed-append = record {
     new = λ o e. new_by o (has f o) (has g o) refl refl (split o true e);
     shared = λ o e. shared_by o (has f o) (has g o) refl refl (split o true e);
@@ -115,7 +115,7 @@ module _ (tx : ℕ) (xs ys : List Claim) (s t u : Table) (f g : List Object) (p 
   }
 
 -- ---- what is taken back
-module _ (tx : ℕ) (claims : List Claim) (s t u : Table) (f : List Object) (p : Placed tx claims s t f) where
+module _ (tx : ℕ) (claims : List Claim) (s t u : Table) (f : List Object) (p : IsPlaced tx claims s t f) where
   -- without what was added, all is as before
   pub taken_back : ((o : Object) → held_mode u tx o ≡ cond (has f o) None (held_mode t tx o)) → KeepsOthers tx t u → u ≡ s
   taken_back own others = same_table u s (λ n o. by_number n o (n == tx) refl)
@@ -142,7 +142,7 @@ from_shared : (cs : List Claim) (o : Object) → is_claimed cs o ≡ true → cl
 from_shared [] o e = absurd (cc)
 from_shared (c ∷ cs) o e = from_shared_by c cs o (is_object c.object o) refl e (from_shared cs o)
 
-module _ (tx : ℕ) (claims : List Claim) (s t : Table) (f : List Object) (p : Placed tx claims s t f) where
+module _ (tx : ℕ) (claims : List Claim) (s t : Table) (f : List Object) (p : IsPlaced tx claims s t f) where
   -- the claims make of the places what they make of what was held
   pub placed_claimed : (o : Object) → claimed (held_mode t tx o) claims o ≡ claimed (held_mode s tx o) claims o
   placed_claimed o = by (has f o) refl

@@ -14,7 +14,7 @@ use Rattle.xc_data.specs.Claims.{claim, is_object, merged, holding_one, objects}
 use Rattle.xc_data.specs.Step.{Step}
 use Rattle.xc_locks.specs.Released.{with_one, each_once, claims_on}
 use Rattle.xc_locks.specs.Table.{Table, KeepsOthers, has, held_mode, set_mode}
-use Rattle.xc_locks.proofs.Claimed.{is_object-swap, left-cons, take-more, without}
+use Rattle.xc_locks.proofs.Claimed.{is_object-swap, rest-cons, take-more, without}
 use Rattle.xc_locks.proofs.Held.{merged_object}
 use Rattle.xc_locks.proofs.Modes.{mode_of-set, mode_of-set_other}
 use Rattle.xc_data.proofs.Laws.{same_object}
@@ -101,7 +101,7 @@ module _ (tx : ℕ) (was now : Table) (log items : List Claim) (at count : ℕ)
     (within : at < length items) (is : c ≡ get_or items at c) where
   -- the claim is the log's next one, and after it all stands as it was
   both : c ∷ drop (at + 1) items ≡ get_or log at c ∷ drop (at + 1) log
-  both = sym (left-cons items at c within is) ∙ t.rest ∙ rw add-one (drop-cons log at c (omega (arith, t.same_length)))
+  both = sym (rest-cons items at c within is) ∙ t.rest ∙ rw add-one (drop-cons log at c (omega (arith, t.same_length)))
 
   is_next : c ≡ get_or log at c
   is_next = let e = both in cc

@@ -32,17 +32,17 @@ module _ {K : Type 0} (R : K → K → Ordering) where
   found_in o n es = lookup (is_at (both_cmp (o, n))) es
 
   -- holders of two objects aren't one
-  pub two : CmpEqualImpliesEq R → (o p : K) (c r : Ordering) → R o p ≡ c → o ≢ p → is_eq (ordering_then c r) ≡ false
-  two exact o p Less r e ne = refl
-  two exact o p Equal r e ne = absurd (ne (exact o p e))
-  two exact o p Greater r e ne = refl
+  pub two_objects : CmpEqualImpliesEq R → (o p : K) (c r : Ordering) → R o p ≡ c → o ≢ p → is_eq (ordering_then c r) ≡ false
+  two_objects exact o p Less r e ne = refl
+  two_objects exact o p Equal r e ne = absurd (ne (exact o p e))
+  two_objects exact o p Greater r e ne = refl
 
   -- holders of another object are passed over
   pub passed : CmpEqualImpliesEq R → (o p : K) (n : ℕ) (es : List (ℕ × Mode)) (rest : List ((K × ℕ) × Mode)) → o ≢ p
       → found_in o n (entries_at p es ++ rest) ≡ found_in o n rest
   passed exact o p n [] rest ne = refl
   passed exact o p n (e ∷ es) rest ne =
-      ap (λ b. cond b (Some e.1) (found_in o n (entries_at p es ++ rest))) (two exact o p (R o p) (nat_cmp n e.0) refl ne)
+      ap (λ b. cond b (Some e.1) (found_in o n (entries_at p es ++ rest))) (two_objects exact o p (R o p) (nat_cmp n e.0) refl ne)
       ∙ passed exact o p n es rest ne
 
   -- holders of the object itself are found by their transactions

@@ -18,8 +18,8 @@ abbrev pub is_other : Other → Other → Bool
 is_other = same_other.ghosts.eq
 
 -- no two rows are of one object
-abbrev pub AreApart : List Row → Type 0
-AreApart rows = IsDistinct is_other (keys_of rows)
+abbrev pub HaveOwnObjects : List Row → Type 0
+HaveOwnObjects rows = IsDistinct is_other (keys_of rows)
 
 -- the holders of all objects, each with its object
 abbrev pub laid_out : List Row → List (Holder × Mode)

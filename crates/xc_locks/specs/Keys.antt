@@ -7,15 +7,15 @@ use Rattle.xc_data.specs.declared.object.Object.{Object}
 use Rattle.xc_data.specs.declared.object.Object.TheVariants as object
 use Rattle.xc_data.specs.declared.claim.Mode.{Mode}
 use Rattle.xc_data.specs.contracts.claim.Mode as mode_row
-use Rattle.xc_locks.specs.declared.key.Kind.{Kind}
-use Rattle.xc_locks.specs.declared.key.Kind.TheVariants as kind
+use Rattle.xc_locks.specs.declared.key.LockKey.{LockKey}
+use Rattle.xc_locks.specs.declared.key.LockKey.TheVariants as kind
 use Rattle.xc_locks.specs.declared.key.Other.{Other}
 use Rattle.xc_locks.specs.declared.key.Other.TheVariants as other
 use Rattle.xc_locks.specs.contracts.key.Other as other_row
 use Rattle.xc_locks.specs.contracts.key.OtherOrd.TheImpl as other_ord
 
 -- an object as a word or another
-abbrev pub kind_of : Object → Kind
+abbrev pub kind_of : Object → LockKey
 kind_of (object.Word at) = kind.Word at
 kind_of (object.Name name) = kind.Other (other.Name name)
 kind_of (object.File num) = kind.Other (other.File num)

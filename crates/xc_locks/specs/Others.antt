@@ -20,7 +20,7 @@ abbrev pub IsFirstBut : (ℕ → Option Mode) → ℕ → Option (ℕ × Mode) �
 IsFirstBut modes tx first = MatchOption first (HasNoOther modes tx) (λ h. IsFirstOther modes tx h.0 h.1)
 
 -- tx may hold the object in a mode: nobody else does, or the smallest that does has a compatible mode
-pub record IsFree (modes : ℕ → Option Mode) (tx : ℕ) (mode : Mode) : Type 0 where
+pub record MayHold (modes : ℕ → Option Mode) (tx : ℕ) (mode : Mode) : Type 0 where
   pub first : Option (ℕ × Mode)
   pub is_first : IsFirstBut modes tx first
   pub fits : (h : ℕ × Mode) → first ≡ Some h → compatible mode h.1 ≡ true
@@ -34,4 +34,4 @@ pub record IsMetBy (modes : ℕ → Option Mode) (tx : ℕ) (mode : Mode) (n : �
 -- why tx doesn't get the object: another doesn't let it; or all do, and there was no memory
 abbrev pub IsReason : (ℕ → Option Mode) → ℕ → Mode → Refusal → Type 0
 IsReason modes tx mode (Met n) = IsMetBy modes tx mode n
-IsReason modes tx mode NoMemory = IsFree modes tx mode
+IsReason modes tx mode NoMemory = MayHold modes tx mode

@@ -14,7 +14,7 @@ is_claimed claims o = list_any (λ (c : Claim). is_object c.object o) claims
 
 module _ (tx : ℕ) (claims : List Claim) (was now : Table) where
   -- the transaction holds what these claims are on: what it didn't hold before, Shared, and that was added
-  pub record Placed (added : List Object) : Type 0 where
+  pub record IsPlaced (added : List Object) : Type 0 where
     pub new : (o : Object) → has added o ≡ true → held_mode was tx o ≡ None
     pub shared : (o : Object) → has added o ≡ true → held_mode now tx o ≡ Some Shared
     pub asked : (o : Object) → has added o ≡ true → is_claimed claims o ≡ true
@@ -24,4 +24,4 @@ module _ (tx : ℕ) (claims : List Claim) (was now : Table) where
 
 -- the same, where what was added came after others
 abbrev pub PlacedBehind : ℕ → List Claim → Step Table → Step (List Object) → Type 0
-PlacedBehind tx claims table added = (more : List Object) × (added.new ≡ added.old ++ more) × Placed tx claims table.old table.new more
+PlacedBehind tx claims table added = (more : List Object) × (added.new ≡ added.old ++ more) × IsPlaced tx claims table.old table.new more

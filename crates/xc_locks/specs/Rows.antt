@@ -5,11 +5,11 @@ use Rattle.std.specs.BTreeMap.{is_at}
 use Rattle.std.specs.Map.{lookup}
 use Rattle.xc_data.specs.declared.claim.Mode.{Mode}
 use Rattle.xc_data.specs.Claims.{stronger}
-use Rattle.xc_locks.specs.declared.object_holders.Form.{Form}
-use Rattle.xc_locks.specs.declared.object_holders.Form.TheVariants.{Nobody, One, Many}
+use Rattle.xc_locks.specs.declared.object_holders.HoldersForm.{HoldersForm}
+use Rattle.xc_locks.specs.declared.object_holders.HoldersForm.TheVariants.{Nobody, One, Many}
 
 -- the holders of one object, however they stand
-abbrev pub listed : Form → List (ℕ × Mode)
+abbrev pub listed : HoldersForm → List (ℕ × Mode)
 listed Nobody = []
 listed (One tx mode) = (tx, mode) ∷ []
 listed (Many modes) = modes.entries

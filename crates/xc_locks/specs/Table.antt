@@ -9,8 +9,8 @@ use Rattle.xc_data.specs.declared.claim.Mode.{Mode}
 use Rattle.xc_data.specs.declared.claim.Mode.TheVariants.{Shared}
 use Rattle.xc_data.specs.declared.claim.Claim.{Claim}
 use Rattle.xc_data.specs.Claims.{is_object}
-use Rattle.xc_locks.specs.declared.key.Kind.{Kind}
-use Rattle.xc_locks.specs.declared.key.Kind.TheVariants as kind
+use Rattle.xc_locks.specs.declared.key.LockKey.{LockKey}
+use Rattle.xc_locks.specs.declared.key.LockKey.TheVariants as kind
 use Rattle.xc_locks.specs.declared.holders.Holders.{Holders}
 use Rattle.xc_locks.specs.Keys.{kind_of, holder_of, holder_cmp, word_holder, word_holder_cmp}
 use Rattle.xc_locks.specs.Keys.{coded_holder, coded_word_holder, coded_mode}
@@ -32,7 +32,7 @@ coded_table =
     (λ t. (t.words, t.others)) (λ p. record { words = p.0; others = p.1 }) (λ _. refl)
 
 -- in which mode a transaction holds a word or another object
-abbrev pub mode_at : Table → ℕ → Kind → Option Mode
+abbrev pub mode_at : Table → ℕ → LockKey → Option Mode
 mode_at table n (kind.Word at) = map.get table.words (word_holder at n)
 mode_at table n (kind.Other o) = map.get table.others (holder_of o n)
 
@@ -50,7 +50,7 @@ set_entry m k None = map.remove m k
 set_entry m k (Some mode) = map.insert m k mode
 
 -- the table with a transaction's mode for a word or another object, or with nothing there
-abbrev pub set_at : Table → ℕ → Kind → Option Mode → Table
+abbrev pub set_at : Table → ℕ → LockKey → Option Mode → Table
 set_at table n (kind.Word at) mode = record table { words = set_entry table.words (word_holder at n) mode }
 set_at table n (kind.Other o) mode = record table { others = set_entry table.others (holder_of o n) mode }
 

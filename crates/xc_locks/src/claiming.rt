@@ -1,6 +1,6 @@
 ghost use Rattle.std.specs.Prelude.{◌≡◌, ◌<◌, [], ◌∷◌, IfOk, IfErr, OnOk, OnErr};
 ghost use Rattle.xc_data.specs.declared.object.Object.{Object};
-ghost use Rattle.xc_locks.specs.Others.{IsFree, IsReason};
+ghost use Rattle.xc_locks.specs.Others.{MayHold, IsReason};
 ghost use Rattle.xc_locks.specs.Table.{KeepsOthers, claimed, held_mode, modes_of};
 
 use crate::holders::Holders;
@@ -21,7 +21,7 @@ pub fn claim_object<L: Ledger>(
     requires parts { blank.parts ≡ L.parts }
     requires one { 0 < blank.parts }
     ensures was { IfOk result (λ was. was ≡ held_mode holders.old tx claim.now.object) }
-    ensures free { OnOk result (IsFree (modes_of holders.old claim.now.object) tx claim.now.mode) }
+    ensures free { OnOk result (MayHold (modes_of holders.old claim.now.object) tx claim.now.mode) }
     ensures own { OnOk result ((o : Object) → held_mode holders.new tx o ≡ claimed (held_mode holders.old tx o) (claim.now ∷ []) o) }
     ensures others { OnOk result (KeepsOthers tx holders.old holders.new) }
     ensures err { OnErr result (holders.new ≡ holders.old) }

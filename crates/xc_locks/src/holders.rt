@@ -1,12 +1,12 @@
 ghost use Rattle.std.specs.Prelude.{◌≡◌, ◌+◌, ℕ, None, Some, IfSome, IfNone, IfOk, IfErr, OnOk, OnErr};
 ghost use Rattle.xc_data.specs.declared.object.Object.{Object};
 
-use crate::key::Kind;
+use crate::key::LockKey;
 use crate::object_holders::ObjectHolders;
 use crate::others::Others;
 use crate::refusal::Refusal;
 use crate::steps::Steps;
-use crate::words::Words;
+use crate::words::WordLocks;
 use std::alloc::Global;
 use std::sync::ledger::Ledger;
 use xc_data::{Mode, NoMemory, Object};
@@ -15,13 +15,13 @@ use xc_data::{Mode, NoMemory, Object};
 /// up, held in, claimed in and taken from, an object a call, and each call is a step.
 #[derive(Drop)]
 pub struct Holders {
-    words: Words,
+    words: WordLocks,
     others: Others,
 }
 
 impl Holders {
     ghost use Rattle.xc_locks.specs.Table.{held_mode, modes_of, set_mode};
-    ghost use Rattle.xc_locks.specs.Others.{IsFree, IsReason};
+    ghost use Rattle.xc_locks.specs.Others.{MayHold, IsReason};
     ghost use Rattle.xc_locks.specs.Rows.{mode_among, with_mode};
 
     /// Nobody holds anything. It takes no memory.
@@ -29,7 +29,7 @@ impl Holders {
         ensures { (n : ℕ) (o : Object) → held_mode result n o ≡ None }
     {
         Holders {
-            words: Words::new(alloc),
+            words: WordLocks::new(alloc),
             others: Others::new(alloc),
         }
     }
@@ -41,9 +41,9 @@ impl Holders {
         ensures cost { steps.new ≡ steps.old + 1 }
     {
         steps.tick();
-        match Kind::of(object) {
-            Kind::Word(at) => self.words.holders_of(at),
-            Kind::Other(object) => self.others.holders_of(object),
+        match LockKey::of(object) {
+            LockKey::Word(at) => self.words.holders_of(at),
+            LockKey::Other(object) => self.others.holders_of(object),
         }
     }
 
@@ -62,9 +62,9 @@ impl Holders {
         ensures cost { steps.new ≡ steps.old + 1 }
     {
         steps.tick();
-        match Kind::of(object) {
-            Kind::Word(at) => self.words.hold(at, tx, mode),
-            Kind::Other(object) => self.others.hold(object, tx, mode),
+        match LockKey::of(object) {
+            LockKey::Word(at) => self.words.hold(at, tx, mode),
+            LockKey::Other(object) => self.others.hold(object, tx, mode),
         }
     }
 
@@ -78,16 +78,16 @@ impl Holders {
         steps: &mut Steps<L>,
     ) -> Result<Option<Mode>, Refusal>
         ensures was { IfOk result (λ was. was ≡ held_mode self.old tx object.now) }
-        ensures free { OnOk result (IsFree (modes_of self.old object.now) tx mode) }
+        ensures free { OnOk result (MayHold (modes_of self.old object.now) tx mode) }
         ensures ok { OnOk result (self.new ≡ set_mode self.old tx object.now (Some (with_mode (held_mode self.old tx object.now) mode))) }
         ensures err { OnErr result (self.new ≡ self.old) }
         ensures reason { IfErr result (IsReason (modes_of self.old object.now) tx mode) }
         ensures cost { steps.new ≡ steps.old + 1 }
     {
         steps.tick();
-        match Kind::of(object) {
-            Kind::Word(at) => self.words.claim(at, tx, mode),
-            Kind::Other(object) => self.others.claim(object, tx, mode),
+        match LockKey::of(object) {
+            LockKey::Word(at) => self.words.claim(at, tx, mode),
+            LockKey::Other(object) => self.others.claim(object, tx, mode),
         }
     }
 
@@ -103,9 +103,9 @@ impl Holders {
         ensures cost { steps.new ≡ steps.old + 1 }
     {
         steps.tick();
-        match Kind::of(object) {
-            Kind::Word(at) => self.words.remove(at, tx),
-            Kind::Other(object) => self.others.remove(object, tx),
+        match LockKey::of(object) {
+            LockKey::Word(at) => self.words.remove(at, tx),
+            LockKey::Other(object) => self.others.remove(object, tx),
         }
     }
 }

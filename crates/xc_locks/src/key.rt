@@ -15,23 +15,23 @@ pub enum Other {
 
 /// An object as the table takes it: a word or another.
 #[derive(Drop)]
-pub enum Kind {
+pub enum LockKey {
     Word(u32),
     Other(Other),
 }
 
-impl Kind {
+impl LockKey {
     /// That of an object.
-    pub fn of(object: &Object) -> Kind
+    pub fn of(object: &Object) -> LockKey
         ensures { result ≡ kind_of object.now }
     {
         match object {
-            Object::Word(at) => Kind::Word(*at),
-            Object::Name(name) => Kind::Other(Other::Name(name.again())),
-            Object::File(num) => Kind::Other(Other::File(*num)),
-            Object::Pipe(num) => Kind::Other(Other::Pipe(*num)),
-            Object::Pair(num) => Kind::Other(Other::Pair(*num)),
-            Object::Jobs => Kind::Other(Other::Jobs),
+            Object::Word(at) => LockKey::Word(*at),
+            Object::Name(name) => LockKey::Other(Other::Name(name.again())),
+            Object::File(num) => LockKey::Other(Other::File(*num)),
+            Object::Pipe(num) => LockKey::Other(Other::Pipe(*num)),
+            Object::Pair(num) => LockKey::Other(Other::Pair(*num)),
+            Object::Jobs => LockKey::Other(Other::Jobs),
         }
     }
 }

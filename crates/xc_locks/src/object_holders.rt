@@ -2,7 +2,7 @@ ghost use Rattle.std.specs.Prelude.{◌≡◌, ◌↔◌, ◌+◌, ℕ, [], ◌�
 ghost use Rattle.std.specs.Ordering.{nat_cmp};
 ghost use Rattle.std.specs.BTreeMap.{is_at};
 ghost use Rattle.xc_locks.specs.First.{IsFirstFrom};
-ghost use Rattle.xc_locks.specs.Others.{IsFirstBut, IsFree, IsMetBy, IsReason};
+ghost use Rattle.xc_locks.specs.Others.{IsFirstBut, MayHold, IsMetBy, IsReason};
 ghost use Rattle.xc_locks.specs.Rows.{mode_among, with_mode};
 
 use crate::refusal::Refusal;
@@ -14,7 +14,7 @@ use xc_data::{Mode, NoMemory};
 
 // How the holders of an object stand.
 #[derive(Drop)]
-enum Form {
+enum HoldersForm {
     Nobody,
     One(u32, Mode),
     Many(BTreeMap<u32, Mode>),
@@ -26,7 +26,7 @@ enum Form {
 /// Mostly there is no holder or one; a tree would then be memory that each claim takes and each end gives back.
 #[derive(Drop)]
 pub struct ObjectHolders {
-    form: Form,
+    form: HoldersForm,
 }
 
 impl Model for ObjectHolders {
@@ -74,7 +74,9 @@ impl ObjectHolders {
     pub fn nobody() -> ObjectHolders
         ensures { result ≡ [] }
     {
-        ObjectHolders { form: Form::Nobody }
+        ObjectHolders {
+            form: HoldersForm::Nobody,
+        }
     }
 
     /// Whether nobody holds it.
@@ -82,9 +84,9 @@ impl ObjectHolders {
         ensures { IsTrue result ↔ (self.now ≡ []) }
     {
         match &self.form {
-            Form::Nobody => true,
-            Form::One(..) => false,
-            Form::Many(modes) => modes.is_empty(),
+            HoldersForm::Nobody => true,
+            HoldersForm::One(..) => false,
+            HoldersForm::Many(modes) => modes.is_empty(),
         }
     }
 
@@ -93,9 +95,9 @@ impl ObjectHolders {
         ensures { result ≡ mode_among self.now tx }
     {
         match &self.form {
-            Form::One(holder, mode) if *holder == tx => Some(*mode),
-            Form::Many(modes) => modes.get(&tx).copied(),
-            Form::Nobody | Form::One(..) => None,
+            HoldersForm::One(holder, mode) if *holder == tx => Some(*mode),
+            HoldersForm::Many(modes) => modes.get(&tx).copied(),
+            HoldersForm::Nobody | HoldersForm::One(..) => None,
         }
     }
 
@@ -110,27 +112,27 @@ impl ObjectHolders {
         ensures absent { OnErr result (mode_among self.old tx ≡ None) }
     {
         match &mut self.form {
-            Form::Nobody => {
-                self.form = Form::One(tx, mode);
+            HoldersForm::Nobody => {
+                self.form = HoldersForm::One(tx, mode);
                 Ok(None)
             }
-            Form::One(holder, held) if *holder == tx => {
+            HoldersForm::One(holder, held) if *holder == tx => {
                 let was = *held;
                 *held = was.stronger(mode);
                 Ok(Some(was))
             }
-            Form::One(holder, held) => {
-                self.form = Form::Many(both(alloc, (*holder, *held), (tx, mode))?);
+            HoldersForm::One(holder, held) => {
+                self.form = HoldersForm::Many(both(alloc, (*holder, *held), (tx, mode))?);
                 Ok(None)
             }
-            Form::Many(modes) => hold_among(modes, tx, mode),
+            HoldersForm::Many(modes) => hold_among(modes, tx, mode),
         }
     }
 
     /// The same, unless the smallest other holder has a mode that isn't compatible.
     pub fn claim(&mut self, alloc: Global, tx: u32, mode: Mode) -> Result<Option<Mode>, Refusal>
         ensures was { IfOk result (λ was. was ≡ mode_among self.old tx) }
-        ensures free { OnOk result (IsFree (mode_among self.old) tx mode) }
+        ensures free { OnOk result (MayHold (mode_among self.old) tx mode) }
         ensures ok { OnOk result ((n : ℕ)
             → mode_among self.new n
             ≡ cond (is_at (nat_cmp tx) n) (Some (with_mode (mode_among self.old tx) mode)) (mode_among self.old n)) }
@@ -149,13 +151,13 @@ impl ObjectHolders {
         ensures removed { (n : ℕ) → mode_among self.new n ≡ cond (is_at (nat_cmp tx) n) None (mode_among self.old n) }
     {
         match &mut self.form {
-            Form::One(holder, mode) if *holder == tx => {
+            HoldersForm::One(holder, mode) if *holder == tx => {
                 let mode = *mode;
-                self.form = Form::Nobody;
+                self.form = HoldersForm::Nobody;
                 Some(mode)
             }
-            Form::Many(modes) => modes.remove(&tx),
-            Form::Nobody | Form::One(..) => None,
+            HoldersForm::Many(modes) => modes.remove(&tx),
+            HoldersForm::Nobody | HoldersForm::One(..) => None,
         }
     }
 
@@ -164,9 +166,9 @@ impl ObjectHolders {
         ensures { IsFirstFrom (mode_among self.now) 0 result }
     {
         match &self.form {
-            Form::Nobody => None,
-            Form::One(holder, mode) => Some((*holder, *mode)),
-            Form::Many(modes) => {
+            HoldersForm::Nobody => None,
+            HoldersForm::One(holder, mode) => Some((*holder, *mode)),
+            HoldersForm::Many(modes) => {
                 let (holder, mode) = modes.first_key_value()?;
                 Some((*holder, *mode))
             }
@@ -178,13 +180,13 @@ impl ObjectHolders {
         ensures { IsFirstFrom (mode_among self.now) (tx + 1) result }
     {
         match &self.form {
-            Form::One(holder, mode) if *holder > tx => Some((*holder, *mode)),
-            Form::Many(modes) => {
+            HoldersForm::One(holder, mode) if *holder > tx => Some((*holder, *mode)),
+            HoldersForm::Many(modes) => {
                 let behind = (Bound::Excluded(tx), Bound::Unbounded);
                 let (holder, mode) = modes.range(behind).next()?;
                 Some((*holder, *mode))
             }
-            Form::Nobody | Form::One(..) => None,
+            HoldersForm::Nobody | HoldersForm::One(..) => None,
         }
     }
 
@@ -204,7 +206,7 @@ impl ObjectHolders {
     /// The smallest holder but this one, if its mode isn't compatible with this mode.
     #[inline(always)]
     pub fn met_by(&self, tx: u32, mode: Mode) -> Option<u32>
-        ensures { MatchOption result (IsFree (mode_among self.now) tx mode) (IsMetBy (mode_among self.now) tx mode) }
+        ensures { MatchOption result (MayHold (mode_among self.now) tx mode) (IsMetBy (mode_among self.now) tx mode) }
     {
         let (holder, held) = self.first_but(tx)?;
         if mode.is_compatible(held) {

@@ -1,7 +1,7 @@
 ghost use Rattle.std.specs.Prelude.{◌≡◌, ℕ, [], IsTrue, None, IfSome, IfNone, IfOk, IfErr, OnOk, OnErr};
 ghost use Rattle.std.specs.FinMap as map;
 ghost use Rattle.xc_locks.specs.Keys.{holder_of};
-ghost use Rattle.xc_locks.specs.Others.{IsFree, IsReason};
+ghost use Rattle.xc_locks.specs.Others.{MayHold, IsReason};
 ghost use Rattle.xc_locks.specs.Rows.{mode_among, with_mode};
 
 use crate::key::Other;
@@ -25,7 +25,7 @@ impl Model for Others {
     ghost use Rattle.std.specs.FinMap as map;
     ghost use Rattle.xc_data.specs.declared.claim.Mode.{Mode};
     ghost use Rattle.xc_locks.specs.Keys.{holder_cmp, coded_holder, coded_mode};
-    ghost use Rattle.xc_locks.specs.Hashed.{AreApart, others_of};
+    ghost use Rattle.xc_locks.specs.Hashed.{HaveOwnObjects, others_of};
 
     ghost Value = { map.FinMap holder_cmp Mode };
 
@@ -33,7 +33,7 @@ impl Model for Others {
 
     ghost view = { λ a. others_of a.rows.entries };
 
-    ghost invariant = { λ a. AreApart a.rows.entries };
+    ghost invariant = { λ a. HaveOwnObjects a.rows.entries };
 }
 
 // Whether an object keeps its row: a script names only so many, and its prologue makes only so many. Those that transactions make have
@@ -90,7 +90,7 @@ impl Others {
     /// object before.
     pub fn claim(&mut self, object: Other, tx: u32, mode: Mode) -> Result<Option<Mode>, Refusal>
         ensures was { IfOk result (λ was. was ≡ map.get self.old (holder_of object tx)) }
-        ensures free { OnOk result (IsFree (λ n. map.get self.old (holder_of object n)) tx mode) }
+        ensures free { OnOk result (MayHold (λ n. map.get self.old (holder_of object n)) tx mode) }
         ensures ok { OnOk result
             (self.new ≡ map.insert self.old (holder_of object tx) (with_mode (map.get self.old (holder_of object tx)) mode)) }
         ensures err { OnErr result (self.new ≡ self.old) }

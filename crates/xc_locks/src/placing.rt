@@ -1,7 +1,7 @@
 ghost use Rattle.std.specs.Prelude.{◌≡◌, ◌<◌, ◌∷◌, [], List, None, OnOk, OnErr, if◌then◌else◌};
 ghost use Rattle.xc_data.specs.declared.object.Object.{Object};
 ghost use Rattle.xc_locks.specs.Table.{KeepsOthers, claimed, has, held_mode};
-ghost use Rattle.xc_locks.specs.Placing.{Placed, PlacedBehind};
+ghost use Rattle.xc_locks.specs.Placing.{IsPlaced, PlacedBehind};
 
 use crate::holders::Holders;
 use crate::raising::raise_all;
@@ -52,7 +52,7 @@ fn place_all<L: Ledger>(
     tx: u32,
     steps: &mut Steps<L>,
 ) -> Result<(), NoMemory>
-    ensures ok { OnOk result ((added : List Object) × Placed tx claims.now holders.old holders.new added) }
+    ensures ok { OnOk result ((added : List Object) × IsPlaced tx claims.now holders.old holders.new added) }
     ensures err { OnErr result (holders.new ≡ holders.old) }
 {
     let mut added = SmallVec::new(alloc);

@@ -1,6 +1,6 @@
 ghost use Rattle.std.specs.Prelude.{◌≡◌, ◌<◌, MatchOption};
 ghost use Rattle.xc_locks.specs.Table.{held_mode, modes_of};
-ghost use Rattle.xc_locks.specs.Others.{IsFree, IsMetBy};
+ghost use Rattle.xc_locks.specs.Others.{MayHold, IsMetBy};
 
 use crate::holders::Holders;
 use crate::steps::Steps;
@@ -24,7 +24,7 @@ pub fn met_by<L: Ledger>(holders: &Holders, claim: &Claim, tx: u32, blank: Blank
     requires name { blank.name ≡ L.name }
     requires parts { blank.parts ≡ L.parts }
     requires one { 0 < blank.parts }
-    ensures { MatchOption result (IsFree (modes_of holders.now claim.now.object) tx claim.now.mode)
+    ensures { MatchOption result (MayHold (modes_of holders.now claim.now.object) tx claim.now.mode)
         (IsMetBy (modes_of holders.now claim.now.object) tx claim.now.mode) }
 {
     let mut steps = Steps::<L>::new(blank);

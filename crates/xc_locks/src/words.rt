@@ -1,7 +1,7 @@
 ghost use Rattle.std.specs.Prelude.{◌≡◌, ◌<◌, ◌≤◌, ℕ, length, None, IfSome, IfNone, IfOk, IfErr, OnOk, OnErr};
 ghost use Rattle.std.specs.FinMap as map;
 ghost use Rattle.xc_locks.specs.Keys.{word_holder};
-ghost use Rattle.xc_locks.specs.Others.{IsFree, IsReason};
+ghost use Rattle.xc_locks.specs.Others.{MayHold, IsReason};
 ghost use Rattle.xc_locks.specs.Rows.{mode_among, with_mode};
 ghost use Rattle.xc_locks.specs.Words.{words_of};
 
@@ -13,13 +13,13 @@ use xc_data::{Mode, NoMemory};
 
 /// Who holds which word, and in which mode. The holders of a word stand at its place in a list, since words are claimed most.
 #[derive(Drop)]
-pub struct Words {
+pub struct WordLocks {
     alloc: Global,
     // For each word up to the greatest that was claimed, who holds it.
     holders: Vec<ObjectHolders>,
 }
 
-impl Model for Words {
+impl Model for WordLocks {
     ghost use Rattle.std.specs.FinMap as map;
     ghost use Rattle.xc_data.specs.declared.claim.Mode.{Mode};
     ghost use Rattle.xc_locks.specs.Keys.{word_holder_cmp, coded_word_holder, coded_mode};
@@ -44,12 +44,12 @@ fn grow(holders: &mut Vec<ObjectHolders>, at: usize) -> Result<(), NoMemory>
     Ok(())
 }
 
-impl Words {
+impl WordLocks {
     /// Nobody holds a word. It takes no memory.
     pub fn new(alloc: Global) -> Self
         ensures { result ≡ map.empty }
     {
-        Words {
+        WordLocks {
             alloc,
             holders: Vec::new(alloc),
         }
@@ -79,7 +79,7 @@ impl Words {
     /// word before.
     pub fn claim(&mut self, at: u32, tx: u32, mode: Mode) -> Result<Option<Mode>, Refusal>
         ensures was { IfOk result (λ was. was ≡ map.get self.old (word_holder at tx)) }
-        ensures free { OnOk result (IsFree (λ n. map.get self.old (word_holder at n)) tx mode) }
+        ensures free { OnOk result (MayHold (λ n. map.get self.old (word_holder at n)) tx mode) }
         ensures ok { OnOk result
             (self.new ≡ map.insert self.old (word_holder at tx) (with_mode (map.get self.old (word_holder at tx)) mode)) }
         ensures err { OnErr result (self.new ≡ self.old) }

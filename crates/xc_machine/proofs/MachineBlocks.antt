@@ -20,18 +20,18 @@ use Rattle.xc_world.specs.Run.{BodyResult, BlockState, step, block_step, opens, 
 use Rattle.xc_world.specs.Sound.{IsReady, IsSound}
 use Rattle.xc_world.proofs.Laws.{Fits, fit_all, runs_keep, body_keeps, back_sound, body-sound, body_last, body_fits_last, act_sound, act_keeps_ready}
 use Rattle.xc_world.proofs.Laws.{act_leaves_ready}
-use Rattle.xc_machine.specs.declared.body.Body.{Body}
-use Rattle.xc_machine.specs.declared.body.Saved.{Saved}
+use Rattle.xc_machine.specs.declared.body.MachineBody.{MachineBody}
+use Rattle.xc_machine.specs.declared.body.SavedBody.{SavedBody}
 use Rattle.xc_machine.specs.declared.run.Replied.{Replied}
-use Rattle.xc_machine.specs.Blocks.{IsFront, IsSaved, StandsAt}
+use Rattle.xc_machine.specs.Blocks.{IsListFront, IsMachineSave, StandsAt}
 
 -- ---- the late calls that a body leaves are ready at its end
 -- it is sound, and they are ready
-record Readies (tx : ℕ) (r : BodyResult) : Type 0 where
+record ReadiesBody (tx : ℕ) (r : BodyResult) : Type 0 where
   sound : IsSound r.world r.me tx
   ready : All (IsReady r.world) r.late
 
-step_readies : (tx : ℕ) (r : BodyResult) (c : CallWithAnswer) → Fits tx r c → Readies tx r → Readies tx (step tx r c)
+step_readies : (tx : ℕ) (r : BodyResult) (c : CallWithAnswer) → Fits tx r c → ReadiesBody tx r → ReadiesBody tx (step tx r c)
 step_readies tx r c fit so =
     let s = act r.world r.me tx c.call c.answer in
     record {
@@ -45,20 +45,20 @@ step_readies tx r c fit so =
 pub leaves_ready : (w : World) (me : Private) (tx : ℕ) (asked : List CallWithAnswer) → IsSound w me tx → IsTrue (body_fits w me tx asked)
     → All (IsReady (body w me tx asked).world) (body w me tx asked).late
 leaves_ready w me tx asked sound fit =
-    (runs_keep tx (Fits tx) (Readies tx) (record {
+    (runs_keep tx (Fits tx) (ReadiesBody tx) (record {
       plain = step_readies tx;
       back = λ s calls fits was is. record { sound = back_sound tx s calls fits was.sound is.sound; ready = was.ready };
     }) (opens w me) asked (fit_all tx (opens w me) asked fit)
     (record { now = record { sound = sound; ready = All-nil (IsReady w) }; saved = tt })).now.ready
 
 -- ---- one call more, which opens or closes no block
-front_more : {T : Type 0} (n : ℕ) (now saved more : List T) → IsFront n now saved → IsFront n (now ++ more) saved
+front_more : {T : Type 0} (n : ℕ) (now saved more : List T) → IsListFront n now saved → IsListFront n (now ++ more) saved
 front_more n now saved more so =
     let within = so.within in
     record { within = omega (arith, within, length-append now more); front = take-append-le n now more so.within ∙ so.front }
 
-saved_more : (tx : ℕ) (kept : Option Saved) (saved : Option BodyResult) (now : BodyResult) (c : CallWithAnswer) → IsSaved kept saved now
-    → IsSaved kept saved (step tx now c)
+saved_more : (tx : ℕ) (kept : Option SavedBody) (saved : Option BodyResult) (now : BodyResult) (c : CallWithAnswer) → IsMachineSave kept saved now
+    → IsMachineSave kept saved (step tx now c)
 saved_more tx None None now c so = tt
 saved_more tx None (Some s) now c so = absurd so
 saved_more tx (Some k) None now c so = absurd so
@@ -71,13 +71,13 @@ saved_more tx (Some k) (Some s) now c so =
     }
 
 -- what such a call adds, made in this world and with this private state
-pub record Adds (tx : ℕ) (v : World) (m : Private) (c : CallWithAnswer) (step : Step Replied) : Type 0 where
+pub record AddsToBody (tx : ℕ) (v : World) (m : Private) (c : CallWithAnswer) (step : Step Replied) : Type 0 where
   pub late : step.new.late ≡ step.old.late ++ kept_call c.call m (act v m tx c.call c.answer).reply
   pub held : step.new.held.items ≡ holding step.old.held.items (claims_of c.call m (length v.words))
 
 -- a body that such a call is added to stands a step further
-pub stands_more : (tx : ℕ) (v x : World) (m n : Private) (made next : Body) (b : BlockState) (c : CallWithAnswer)
-    → Adds tx v m c (record { old = made.replied; new = next.replied })
+pub stands_more : (tx : ℕ) (v x : World) (m n : Private) (made next : MachineBody) (b : BlockState) (c : CallWithAnswer)
+    → AddsToBody tx v m c (record { old = made.replied; new = next.replied })
     → next.saved ≡ made.saved → x ≡ (act v m tx c.call c.answer).world → n ≡ (act v m tx c.call c.answer).me → StandsAt v m made b
     → StandsAt x n next (record { now = step tx b.now c; saved = b.saved })
 stands_more tx v x m n made next b c gave keeps world me so =
@@ -92,7 +92,7 @@ stands_more tx v x m n made next b c gave keeps world me so =
             gave.held ∙ ap₂ holding so.gave.held (ap₂ (λ p (w : World). claims_of c.call p (length w.words)) so.me_is so.world_is)
             ∙ sym (fold-append holding_one [] b.now.touched (claims_of c.call b.now.me (length b.now.world.words)));
       };
-      saved = saved_more tx next.saved b.saved b.now c (subst (λ k. IsSaved k b.saved b.now) (sym keeps) so.saved);
+      saved = saved_more tx next.saved b.saved b.now c (subst (λ k. IsMachineSave k b.saved b.now) (sym keeps) so.saved);
     }
 
 -- ---- calls one after another
@@ -102,7 +102,7 @@ module _ (w : World) (me : Private) (tx : ℕ) (asked : List CallWithAnswer) whe
   so_far i = body_state w me tx (take i asked)
 
   -- after so many calls, each of which its answer fitted
-  pub record IsMade (i : ℕ) (v : World) (m : Private) (made : Body) : Type 0 where
+  pub record IsMadeSoFar (i : ℕ) (v : World) (m : Private) (made : MachineBody) : Type 0 where
     pub stands : StandsAt v m made (so_far i)
     pub fits : IsTrue (body_fits w me tx (take i asked))
     pub sound : IsSound v m tx
@@ -119,21 +119,21 @@ module _ (w : World) (me : Private) (tx : ℕ) (asked : List CallWithAnswer) whe
       ∙ and_from (body_fits w me tx (take i asked)) (fits (so_far i).now.world (so_far i).now.me tx c.call c.answer) before one
 
   -- where the body stands, it is sound
-  stands_sound : (i : ℕ) (v : World) (m : Private) (made : Body) → IsSound w me tx → IsTrue (body_fits w me tx (take i asked))
+  stands_sound : (i : ℕ) (v : World) (m : Private) (made : MachineBody) → IsSound w me tx → IsTrue (body_fits w me tx (take i asked))
       → StandsAt v m made (so_far i) → IsSound v m tx
   stands_sound i v m made sound fit stands =
       subst (λ x. IsSound x m tx) (sym stands.world_is)
       (subst (λ n. IsSound (so_far i).now.world n tx) (sym stands.me_is) (body-sound w me tx (take i asked) sound fit))
 
   -- it begins
-  pub made_none : (made : Body) → IsSound w me tx → StandsAt w me made (opens w me) → IsMade 0 w me made
+  pub made_none : (made : MachineBody) → IsSound w me tx → StandsAt w me made (opens w me) → IsMadeSoFar 0 w me made
   made_none made sound stands = record { stands = stands; fits = refl; sound = sound; words = refl }
 
   -- and goes on by a call that its answer fits
-  pub made_more : (i : ℕ) (c : CallWithAnswer) (v : World) (m : Private) (made : Body) → IsSound w me tx → i < length asked → c ≡ get_or asked i c
+  pub body_made_more : (i : ℕ) (c : CallWithAnswer) (v : World) (m : Private) (made : MachineBody) → IsSound w me tx → i < length asked → c ≡ get_or asked i c
       → IsTrue (body_fits w me tx (take i asked)) → IsTrue (fits (so_far i).now.world (so_far i).now.me tx c.call c.answer)
-      → StandsAt v m made (block_step tx (so_far i) c) → IsMade (i + 1) v m made
-  made_more i c v m made sound lt e before one stands =
+      → StandsAt v m made (block_step tx (so_far i) c) → IsMadeSoFar (i + 1) v m made
+  body_made_more i c v m made sound lt e before one stands =
       let fit = fits_more i c lt e before one in
       let here = subst (StandsAt v m made) (sym (state_more i c lt e)) stands in
       record {
@@ -144,11 +144,11 @@ module _ (w : World) (me : Private) (tx : ℕ) (asked : List CallWithAnswer) whe
       }
 
   -- what it is at the end: the whole body, which leaves late calls ready
-  pub record MadeWhole (v : World) (m : Private) (made : Body) : Type 0 where
+  pub record MadeWhole (v : World) (m : Private) (made : MachineBody) : Type 0 where
     pub stands : StandsAt v m made (body_state w me tx asked)
     pub ready : All (IsReady v) made.replied.late
 
-  pub made_whole : (i : ℕ) (v : World) (m : Private) (made : Body) → IsSound w me tx → length asked ≤ i → IsMade i v m made → MadeWhole v m made
+  pub made_whole : (i : ℕ) (v : World) (m : Private) (made : MachineBody) → IsSound w me tx → length asked ≤ i → IsMadeSoFar i v m made → MadeWhole v m made
   made_whole i v m made sound le so =
       let all = take_all i asked le in
       let r = body w me tx asked in

@@ -16,9 +16,9 @@ either_at num g false true h = refl
 either_at num g false false h = refl
 
 -- a name that is there goes and an absent one comes, in either order
-pub moved : (m : FinMap name_cmp Num) (from to : List ℕ) (num : Num) → get m from ≡ Some num → get m to ≡ None
+pub moved_either_way : (m : FinMap name_cmp Num) (from to : List ℕ) (num : Num) → get m from ≡ Some num → get m to ≡ None
     → remove (insert m to num) from ≡ insert (remove m from) to num
-moved m from to num there absent = same_map nat_list_cmp_total exact_bytes _ _ (λ q.
+moved_either_way m from to num there absent = same_map nat_list_cmp_total exact_bytes _ _ (λ q.
     get-remove nat_list_cmp_total (insert m to num) from q
     ∙ ap (cond (eq_by_cmp name_cmp q from) None) (get-insert nat_list_cmp_total m to num q)
     ∙ either_at num (get m q) (eq_by_cmp name_cmp q from) (eq_by_cmp name_cmp q to)

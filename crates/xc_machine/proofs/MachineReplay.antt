@@ -32,12 +32,12 @@ asked_length (call ∷ calls) [] = ap suc (asked_length calls [])
 asked_length (call ∷ calls) (reply ∷ replies) = ap suc (asked_length calls replies)
 
 -- a call with its reply stands where both do
-pub asked_at : (calls : List Call) (replies : List Reply) (i : ℕ) (call : Call) (reply : Reply) → i < length calls → i < length replies
+pub asked_stands : (calls : List Call) (replies : List Reply) (i : ℕ) (call : Call) (reply : Reply) → i < length calls → i < length replies
     → call ≡ get_or calls i call → reply ≡ get_or replies i reply → told call reply ≡ get_or (asked_of calls replies) i (told call reply)
-asked_at [] replies i call reply lt few e f = absurd (omega (arith, lt))
-asked_at (c ∷ calls) [] i call reply lt few e f = absurd (omega (arith, few))
-asked_at (c ∷ calls) (r ∷ replies) zero call reply lt few e f = λ k. told (e k) (f k)
-asked_at (c ∷ calls) (r ∷ replies) (suc i) call reply lt few e f = asked_at calls replies i call reply (omega (arith, lt)) (omega (arith, few)) e f
+asked_stands [] replies i call reply lt few e f = absurd (omega (arith, lt))
+asked_stands (c ∷ calls) [] i call reply lt few e f = absurd (omega (arith, few))
+asked_stands (c ∷ calls) (r ∷ replies) zero call reply lt few e f = λ k. told (e k) (f k)
+asked_stands (c ∷ calls) (r ∷ replies) (suc i) call reply lt few e f = asked_stands calls replies i call reply (omega (arith, lt)) (omega (arith, few)) e f
 
 -- all of them were asked behind the last call
 pub asked_all : (calls : List Call) (replies : List Reply) (i : ℕ) → length calls ≤ i
@@ -46,36 +46,38 @@ asked_all calls replies i le =
     take_all i (asked_of calls replies) (subst (λ n. n ≤ i) (sym (asked_length calls replies)) le)
 
 -- each call has its reply
-pub as_many : (tx : ℕ) (b : BlockState) (calls : List Call) (replies : List Reply) → AreReplayedOn tx b calls replies
+pub replies_as_many : (tx : ℕ) (b : BlockState) (calls : List Call) (replies : List Reply) → AreReplayedOn tx b calls replies
     → length calls ≡ length replies
-as_many tx b [] replies h = sym (ap length h)
-as_many tx b (c ∷ calls) [] h = absurd h
-as_many tx b (c ∷ calls) (reply ∷ replies) h = ap suc (as_many tx (block_step tx b (told c reply)) calls replies h.1)
+replies_as_many tx b [] replies h = sym (ap length h)
+replies_as_many tx b (c ∷ calls) [] h = absurd h
+replies_as_many tx b (c ∷ calls) (reply ∷ replies) h = ap suc (replies_as_many tx (block_step tx b (told c reply)) calls replies h.1)
 
 -- where those that are left are replayed, so is the next one, and those behind it
-pub next : (tx : ℕ) (b : BlockState) (c : Call) (reply : Reply) (xs calls : List Call) (ys replies : List Reply) → xs ≡ c ∷ calls → ys ≡ reply ∷ replies
+pub replayed_next : (tx : ℕ) (b : BlockState) (c : Call) (reply : Reply) (xs calls : List Call) (ys replies : List Reply) → xs ≡ c ∷ calls
+    → ys ≡ reply ∷ replies
     → AreReplayedOn tx b xs ys
     → IsReplayed b.now.world b.now.me tx c reply × AreReplayedOn tx (block_step tx b (told c reply)) calls replies
-next tx b c reply xs calls ys replies p q h = subst (λ z. AreReplayedOn tx b z (reply ∷ replies)) p (subst (λ z. AreReplayedOn tx b xs z) q h)
+replayed_next tx b c reply xs calls ys replies p q h = subst (λ z. AreReplayedOn tx b z (reply ∷ replies)) p (subst (λ z. AreReplayedOn tx b xs z) q h)
 
 -- and the other way round
-pub back : (tx : ℕ) (b : BlockState) (c : Call) (reply : Reply) (xs calls : List Call) (ys replies : List Reply) → xs ≡ c ∷ calls → ys ≡ reply ∷ replies
+pub replayed_back : (tx : ℕ) (b : BlockState) (c : Call) (reply : Reply) (xs calls : List Call) (ys replies : List Reply) → xs ≡ c ∷ calls
+    → ys ≡ reply ∷ replies
     → IsReplayed b.now.world b.now.me tx c reply → AreReplayedOn tx (block_step tx b (told c reply)) calls replies → AreReplayedOn tx b xs ys
-back tx b c reply xs calls ys replies p q one rest =
+replayed_back tx b c reply xs calls ys replies p q one rest =
     subst (λ z. AreReplayedOn tx b xs z) (sym q) (subst (λ z. AreReplayedOn tx b z (reply ∷ replies)) (sym p) (one, rest))
 
 -- ---- what is replayed
 -- the replies of calls one after another
-abbrev given : ℕ → BlockState → List CallWithAnswer → List Reply
-given tx b [] = []
-given tx b (c ∷ asked) = (act b.now.world b.now.me tx c.call c.answer).reply ∷ given tx (block_step tx b c) asked
+abbrev replies_given : ℕ → BlockState → List CallWithAnswer → List Reply
+replies_given tx b [] = []
+replies_given tx b (c ∷ asked) = (act b.now.world b.now.me tx c.call c.answer).reply ∷ replies_given tx (block_step tx b c) asked
 
 -- they come behind those before
-given_behind : (tx : ℕ) (b : BlockState) (asked : List CallWithAnswer) → (runs_on tx b asked).now.replies ≡ b.now.replies ++ given tx b asked
+given_behind : (tx : ℕ) (b : BlockState) (asked : List CallWithAnswer) → (runs_on tx b asked).now.replies ≡ b.now.replies ++ replies_given tx b asked
 given_behind tx b [] = sym (append-nil b.now.replies)
 given_behind tx b (c ∷ asked) =
     let one = (act b.now.world b.now.me tx c.call c.answer).reply in
-    let rest = given tx (block_step tx b c) asked in
+    let rest = replies_given tx (block_step tx b c) asked in
     given_behind tx (block_step tx b c) asked
     ∙ ap (λ rs. rs ++ rest) (marked_replies c.call b.saved (step tx b.now c))
     ∙ append_assoc b.now.replies (one ∷ []) rest
@@ -90,7 +92,7 @@ rest_is : {A : Type 0} (x y : A) (xs ys : List A) → x ∷ xs ≡ y ∷ ys → 
 rest_is x y xs ys e = cc
 
 to_given : (tx : ℕ) (b : BlockState) (calls : List Call) (replies : List Reply) → AreReplayedOn tx b calls replies
-    → IsTrue (fits_on tx b (asked_of calls replies)) × (given tx b (asked_of calls replies) ≡ replies)
+    → IsTrue (fits_on tx b (asked_of calls replies)) × (replies_given tx b (asked_of calls replies) ≡ replies)
 to_given tx b [] replies h = (refl, sym h)
 to_given tx b (c ∷ calls) [] h = absurd h
 to_given tx b (c ∷ calls) (reply ∷ replies) h =
@@ -98,11 +100,11 @@ to_given tx b (c ∷ calls) (reply ∷ replies) h =
     let after = block_step tx b (told c reply) in
     let rest = to_given tx after calls replies h.1 in (
       and_from (fits b.now.world b.now.me tx c (answer_of reply)) (fits_on tx after asked) h.0.fits rest.0,
-      ap (λ r. r ∷ given tx after asked) h.0.gives ∙ ap (λ rs. reply ∷ rs) rest.1,
+      ap (λ r. r ∷ replies_given tx after asked) h.0.gives ∙ ap (λ rs. reply ∷ rs) rest.1,
     )
 
 from_given : (tx : ℕ) (b : BlockState) (calls : List Call) (replies : List Reply)
-    → IsTrue (fits_on tx b (asked_of calls replies)) × (given tx b (asked_of calls replies) ≡ replies) → AreReplayedOn tx b calls replies
+    → IsTrue (fits_on tx b (asked_of calls replies)) × (replies_given tx b (asked_of calls replies) ≡ replies) → AreReplayedOn tx b calls replies
 from_given tx b [] replies h = sym h.1
 from_given tx b (c ∷ calls) [] h = absurd (none_is h.1)
 from_given tx b (c ∷ calls) (reply ∷ replies) h =
@@ -110,8 +112,8 @@ from_given tx b (c ∷ calls) (reply ∷ replies) h =
     let after = block_step tx b (told c reply) in
     let one = (act b.now.world b.now.me tx c (answer_of reply)).reply in
     let fit = and_parts (fits b.now.world b.now.me tx c (answer_of reply)) (fits_on tx after asked) h.0 in (
-      record { fits = fit.0; gives = first_is one reply (given tx after asked) replies h.1 },
-      from_given tx after calls replies (fit.1, rest_is one reply (given tx after asked) replies h.1),
+      record { fits = fit.0; gives = first_is one reply (replies_given tx after asked) replies h.1 },
+      from_given tx after calls replies (fit.1, rest_is one reply (replies_given tx after asked) replies h.1),
     )
 
 -- what is replayed fits, and gives these replies

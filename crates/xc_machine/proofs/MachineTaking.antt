@@ -22,9 +22,9 @@ module _ {X : Type 0} where
 
 -- ---- pipes
 -- the front of what a pipe holds is taken
-pub bytes_taken : (w : World) (num : Num) (bytes rest : List ℕ) → is_some (map.get w.pipes num) ≡ true → (pipe_of w num).held ≡ bytes ++ rest
+pub takes_front_bytes : (w : World) (num : Num) (bytes rest : List ℕ) → is_some (map.get w.pipes num) ≡ true → (pipe_of w num).held ≡ bytes ++ rest
     → Takes (Bytes num bytes) w (with_pipe w num (record (pipe_of w num) { held = rest }))
-bytes_taken w num bytes rest there front =
+takes_front_bytes w num bytes rest there front =
     let p = pipe_of w num in
     let q : Pipe = record p { held = rest } in
     let is : map.get (map.insert w.pipes num q) num ≡ Some q = get-insert_same num_total num_exact w.pipes num q in
@@ -91,9 +91,9 @@ side_again true p messages first is = ap (λ ms. record p { first = ms }) (sym i
 side_again false p messages first is = ap (λ ms. record p { second = ms }) (sym is)
 
 -- the first message for a side is taken
-pub message_taken : (w : World) (num : Num) (side : ℕ) (first : List ℕ) (rest : List (List ℕ)) → waiting (pair_of w num) side ≡ first ∷ rest
+pub takes_first_message : (w : World) (num : Num) (side : ℕ) (first : List ℕ) (rest : List (List ℕ)) → waiting (pair_of w num) side ≡ first ∷ rest
     → Takes (Message num side first) w (with_pair w num (with_waiting (pair_of w num) side rest))
-message_taken w num side first rest is =
+takes_first_message w num side first rest is =
     let p = pair_of w num in
     let q = with_waiting p side rest in
     let has : map.get (map.insert w.pairs num q) num ≡ Some q = get-insert_same num_total num_exact w.pairs num q in

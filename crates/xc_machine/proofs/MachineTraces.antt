@@ -13,8 +13,8 @@ use Rattle.xc_machine.specs.Traced.{IsSavedTrail, TracesAt}
 use Rattle.xc_machine.specs.declared.traced.Trail.{Trail}
 
 -- the record that a call with an answer leaves where a body stands
-abbrev pub left_at : ℕ → BodyResult → CallWithAnswer → List Undo
-left_at tx r c = recorded r.world r.me tx c.call (act r.world r.me tx c.call c.answer).reply
+abbrev pub record_left_at : ℕ → BodyResult → CallWithAnswer → List Undo
+record_left_at tx r c = recorded r.world r.me tx c.call (act r.world r.me tx c.call c.answer).reply
 
 saved_more : (tx : ℕ) (kept : Option ℕ) (saved : Option BodyResult) (now : BodyResult) (c : CallWithAnswer) → IsSavedTrail kept saved now
     → IsSavedTrail kept saved (step tx now c)
@@ -24,17 +24,17 @@ saved_more tx (Some k) None now c so = absurd so
 saved_more tx (Some k) (Some s) now c so =
     let within = so.within in
     record {
-      within = omega (arith, within, length-append now.trail (left_at tx now c));
-      front = take-append-le k now.trail (left_at tx now c) so.within ∙ so.front;
+      within = omega (arith, within, length-append now.trail (record_left_at tx now c));
+      front = take-append-le k now.trail (record_left_at tx now c) so.within ∙ so.front;
     }
 
 -- one call more, which opens or closes no block
 pub traces_more : (tx : ℕ) (old new : Trail) (b : BlockState) (c : CallWithAnswer) → TracesAt old b
-    → new.records.items ≡ old.records.items ++ left_at tx b.now c → new.saved ≡ old.saved
+    → new.records.items ≡ old.records.items ++ record_left_at tx b.now c → new.saved ≡ old.saved
     → TracesAt new (record { now = step tx b.now c; saved = b.saved })
 traces_more tx old new b c so records saved =
     record {
-      records = records ∙ ap (λ us. us ++ left_at tx b.now c) so.records;
+      records = records ∙ ap (λ us. us ++ record_left_at tx b.now c) so.records;
       saved = saved_more tx new.saved b.saved b.now c (subst (λ k. IsSavedTrail k b.saved b.now) (sym saved) so.saved);
     }
 

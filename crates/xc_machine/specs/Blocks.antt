@@ -6,26 +6,26 @@ use Rattle.xc_data.specs.declared.private.Private.{Private}
 use Rattle.xc_world.specs.World.{World}
 use Rattle.xc_world.specs.Run.{BodyResult, BlockState}
 use Rattle.xc_machine.specs.declared.run.Replied.{Replied}
-use Rattle.xc_machine.specs.declared.body.Body.{Body}
-use Rattle.xc_machine.specs.declared.body.Saved.{Saved}
+use Rattle.xc_machine.specs.declared.body.MachineBody.{MachineBody}
+use Rattle.xc_machine.specs.declared.body.SavedBody.{SavedBody}
 
 -- so many items from the front of a list are those of the save
-pub record IsFront {T : Type 0} (n : ℕ) (now saved : List T) : Type 0 where
+pub record IsListFront {T : Type 0} (n : ℕ) (now saved : List T) : Type 0 where
   pub within : n ≤ length now
   pub front : take n now ≡ saved
 
 -- the world and the handles of the save, and how many of the late calls were there
-pub record IsCopy (kept : Saved) (saved now : BodyResult) : Type 0 where
+pub record IsMachineCopy (kept : SavedBody) (saved now : BodyResult) : Type 0 where
   pub world : kept.world ≡ saved.world
   pub places : kept.me.places ≡ saved.me.places
-  pub late : IsFront kept.late now.late saved.late
+  pub late : IsListFront kept.late now.late saved.late
 
 -- there is a copy exactly where a block is open
-abbrev pub IsSaved : Option Saved → Option BodyResult → BodyResult → Type 0
-IsSaved None None now = Unit {0}
-IsSaved (Some kept) (Some saved) now = IsCopy kept saved now
-IsSaved None (Some saved) now = ⊥
-IsSaved (Some kept) None now = ⊥
+abbrev pub IsMachineSave : Option SavedBody → Option BodyResult → BodyResult → Type 0
+IsMachineSave None None now = Unit {0}
+IsMachineSave (Some kept) (Some saved) now = IsMachineCopy kept saved now
+IsMachineSave None (Some saved) now = ⊥
+IsMachineSave (Some kept) None now = ⊥
 
 -- the plain machine's body gave this
 pub record HasReplied (replied : Replied) (now : BodyResult) : Type 0 where
@@ -33,8 +33,8 @@ pub record HasReplied (replied : Replied) (now : BodyResult) : Type 0 where
   pub held : replied.held.items ≡ held_of now.touched
 
 -- in this world and with this private state, a body stands where the plain machine's does
-pub record StandsAt (world : World) (me : Private) (body : Body) (b : BlockState) : Type 0 where
+pub record StandsAt (world : World) (me : Private) (body : MachineBody) (b : BlockState) : Type 0 where
   pub world_is : world ≡ b.now.world
   pub me_is : me ≡ b.now.me
   pub gave : HasReplied body.replied b.now
-  pub saved : IsSaved body.saved b.saved b.now
+  pub saved : IsMachineSave body.saved b.saved b.now

@@ -2,13 +2,13 @@
 use Rattle.std.specs.Prelude.{◌≡◌, ℕ, Option}
 use Rattle.std.specs.declared.option.Option.TheVariants.{None, Some}
 use Rattle.xc_world.specs.Run.{BodyResult, BlockState}
-use Rattle.xc_machine.specs.Blocks.{IsFront}
+use Rattle.xc_machine.specs.Blocks.{IsListFront}
 use Rattle.xc_machine.specs.declared.traced.Trail.{Trail}
 
 -- the records of the save stand in front of all exactly where a block is open
 abbrev pub IsSavedTrail : Option ℕ → Option BodyResult → BodyResult → Type 0
 IsSavedTrail None None now = Unit {0}
-IsSavedTrail (Some kept) (Some saved) now = IsFront kept now.trail saved.trail
+IsSavedTrail (Some kept) (Some saved) now = IsListFront kept now.trail saved.trail
 IsSavedTrail None (Some saved) now = ⊥
 IsSavedTrail (Some kept) None now = ⊥
 

@@ -15,7 +15,7 @@ use xc_data::{Answer, Call, Items, NoMemory, Private, Reply};
 
 /// What a body was at the save of its open block: its world and private state, and how many late calls it had.
 #[derive(Drop)]
-pub(crate) struct Saved {
+pub(crate) struct SavedBody {
     world: World,
     me: Private,
     late: usize,
@@ -23,9 +23,9 @@ pub(crate) struct Saved {
 
 /// A body that is made call by call: what it gave so far and, in an open block, what it was at the save.
 #[derive(Drop)]
-pub(crate) struct Body {
+pub(crate) struct MachineBody {
     pub(crate) replied: Replied,
-    saved: Option<Saved>,
+    saved: Option<SavedBody>,
 }
 
 // Keeps the first so many items.
@@ -37,12 +37,12 @@ fn cut<T: Drop>(alloc: Global, list: &mut Items<T>, n: usize)
     *list = Items::from_vec(items);
 }
 
-impl Body {
+impl MachineBody {
     /// No call is made yet.
-    pub(crate) fn new(alloc: Global) -> Body
+    pub(crate) fn new(alloc: Global) -> MachineBody
         ensures { (w : PlainWorld) (me : PlainPrivate) → StandsAt w me result (opens w me) }
     {
-        Body {
+        MachineBody {
             replied: Replied::new(alloc),
             saved: None,
         }
@@ -54,7 +54,7 @@ impl Body {
             → OnOk result (StandsAt world.now me.now self.new (record { now = b.now; saved = Some b.now })) }
         ensures replied { OnOk result (self.new.replied ≡ self.old.replied) }
     {
-        let saved = Saved {
+        let saved = SavedBody {
             world: world.copy()?,
             me: *me,
             late: self.replied.late.len(),

@@ -22,7 +22,7 @@ fn answer_in(end: LateEnd) -> LateAnswer
 }
 
 // A late call, where it ends so.
-#[tactic(auto, using(xc_world::proofs::Runs::late_within))]
+#[tactic(auto, using(xc_world::proofs::Runs::late_answer_within))]
 fn replay_late(world: &mut World, call: &LateCall, end: &LateEnd) -> Result<bool, NoMemory>
     requires ready { IsReady world.old call.now }
     ensures decides { IfOk result (λ yes. Decides yes (IsEnded world.old call.now end.now)) }

@@ -7,7 +7,7 @@ ghost use Rattle.xc_world.specs.Fits.{answer_of};
 ghost use Rattle.xc_world.specs.Run.{BlockState, block_step};
 
 use crate::World;
-use crate::body::Body;
+use crate::body::MachineBody;
 use xc_data::{Answer, Call, NoMemory, Private, Reply};
 
 // What a call met at the host, as its reply tells.
@@ -22,7 +22,7 @@ fn answer_in(reply: &Reply) -> Answer
     }
 }
 
-impl Body {
+impl MachineBody {
     // Makes a call, where it replies so.
     pub(crate) fn replay_call(
         &mut self,

@@ -14,7 +14,7 @@ ghost use Rattle.xc_world.specs.Run.{BlockState, asked_of, back_from, block_step
 ghost use Rattle.xc_world.specs.Trail.{recorded};
 ghost use Rattle.xc_world.specs.World.{World as PlainWorld};
 
-use crate::body::Body;
+use crate::body::MachineBody;
 use crate::{Replied, World};
 use std::alloc::Global;
 use xc_data::{Call, Items, NoMemory, Private, Reply, Undo};
@@ -98,7 +98,7 @@ impl Trail {
     }
 }
 
-impl Body {
+impl MachineBody {
     // Makes a call, where it replies so, and traces its record.
     fn trace_call(
         &mut self,
@@ -152,7 +152,7 @@ pub fn replay_traced(
     if calls.len() != replies.len() {
         return Ok(None);
     }
-    let mut body = Body::new(alloc);
+    let mut body = MachineBody::new(alloc);
     let mut trail = Trail::new(alloc);
     for (at, call) in calls.iter().enumerate() {
         if !body.trace_call(&mut trail, world, me, tx, call, &replies[at])? {

@@ -22,12 +22,12 @@ use xc_maps::{NameMap, NumMap};
 
 /// A pipe's bytes, and whether it is shut.
 #[derive(Drop)]
-pub(crate) struct PipeBody {
+pub(crate) struct MachinePipe {
     held: Chunk,
     shut: bool,
 }
 
-impl Model for PipeBody {
+impl Model for MachinePipe {
     ghost use Rattle.xc_world.specs.World.{Pipe, coded_pipe};
 
     ghost Value = { Pipe };
@@ -37,11 +37,11 @@ impl Model for PipeBody {
     ghost view = { λ a. record { held = a.held; shut = a.shut } };
 }
 
-impl Clone for PipeBody {
+impl Clone for MachinePipe {
     ghost is_clone = { λ pipe copy. copy ≡ pipe };
 
     fn clone(&self) -> Result<Self, AllocError> {
-        Ok(PipeBody {
+        Ok(MachinePipe {
             held: self.held.clone()?,
             shut: self.shut,
         })
@@ -50,13 +50,13 @@ impl Clone for PipeBody {
 
 /// A pair's messages that wait for side 0 and for side 1, and whether it is shut.
 #[derive(Drop)]
-pub(crate) struct PairBody {
+pub(crate) struct MachinePair {
     first: Items<Chunk>,
     second: Items<Chunk>,
     shut: bool,
 }
 
-impl Model for PairBody {
+impl Model for MachinePair {
     ghost use Rattle.xc_world.specs.World.{Pair, coded_pair};
 
     ghost Value = { Pair };
@@ -66,11 +66,11 @@ impl Model for PairBody {
     ghost view = { λ a. record { first = a.first; second = a.second; shut = a.shut } };
 }
 
-impl Clone for PairBody {
+impl Clone for MachinePair {
     ghost is_clone = { λ pair copy. copy ≡ pair };
 
     fn clone(&self) -> Result<Self, AllocError> {
-        Ok(PairBody {
+        Ok(MachinePair {
             first: self.first.clone()?,
             second: self.second.clone()?,
             shut: self.shut,
@@ -85,8 +85,8 @@ pub struct World {
     words: WordList,
     names: NameMap<Num>,
     files: NumMap<Chunk>,
-    pipes: NumMap<PipeBody>,
-    pairs: NumMap<PairBody>,
+    pipes: NumMap<MachinePipe>,
+    pairs: NumMap<MachinePair>,
     started: IdentList,
     blocks: IdentList,
 }
@@ -191,7 +191,7 @@ impl World {
     }
 }
 
-impl PairBody {
+impl MachinePair {
     fn waiting(&self, side: u8) -> &[Chunk]
         ensures { result.now ≡ waiting self.now side }
     {

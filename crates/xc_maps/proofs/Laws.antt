@@ -11,7 +11,7 @@ pub use Rattle.xc_maps.proofs.Maps.{inserted}
 -- entries of which one lacks a key make maps that differ there
 pub use Rattle.xc_maps.proofs.Maps.{removed}
 -- a new key that is inserted and then removed leaves the map as it was
-pub use Rattle.xc_maps.proofs.Maps.{undone}
+pub use Rattle.xc_maps.proofs.Maps.{insert_undone}
 use Rattle.std.proofs.Common.{◌≡◌, ◌≢◌, ◌⊎◌, inl, inr, Bool, true, false, cond, Option, Some, None, refl, ap, sym, ◌∙◌}
 use Rattle.std.specs.declared.cmp.Ordering.{Ordering}
 use Rattle.std.specs.declared.cmp.Ordering.TheVariants.{Less, Equal, Greater}

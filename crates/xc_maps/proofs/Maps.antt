@@ -55,6 +55,6 @@ module _ {K X : Type 0} {R : K → K → Ordering} (o : IsTotalOrder R) where
   undone_at m k q x none Greater e = refl
 
   -- a new key that is inserted and then removed leaves the map as it was
-  pub undone : CmpEqualImpliesEq R → (m : FinMap R X) (k : K) (x : X) → get m k ≡ None → remove (insert m k x) k ≡ m
-  undone same m k x none = same_map o same _ _ (λ q.
+  pub insert_undone : CmpEqualImpliesEq R → (m : FinMap R X) (k : K) (x : X) → get m k ≡ None → remove (insert m k x) k ≡ m
+  insert_undone same m k x none = same_map o same _ _ (λ q.
       get-remove o (insert m k x) k q ∙ ap (cond (eq_by_cmp R q k) None) (get-insert o m k x q) ∙ undone_at m k q x none (R q k) refl)

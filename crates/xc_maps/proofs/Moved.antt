@@ -20,8 +20,8 @@ module _ {K : Type 0} {R : K → K → Ordering} (o : IsTotalOrder R) (same : Cm
   tie a b e = tied o same a b e
 
 -- a tree that differs from another at one key
-abbrev pub Changes : {K X : Type 0} → (K → K → Ordering) → K → Option X → List (K × X) → List (K × X) → Type 0
-Changes {K = K} R k w es fs = (q : K) → lookup (is_at (R q)) fs ≡ cond (is_at (R k) q) w (lookup (is_at (R q)) es)
+abbrev pub ChangesAt : {K X : Type 0} → (K → K → Ordering) → K → Option X → List (K × X) → List (K × X) → Type 0
+ChangesAt {K = K} R k w es fs = (q : K) → lookup (is_at (R q)) fs ≡ cond (is_at (R k) q) w (lookup (is_at (R q)) es)
 
 module _ {K X : Type 0} {R : K → K → Ordering} (o : IsTotalOrder R) (same : CmpEqualImpliesEq R) where
   -- what two lists, one after the other, have at a key
@@ -50,20 +50,20 @@ module _ {K X : Type 0} {R : K → K → Ordering} (o : IsTotalOrder R) (same : 
       passed _ _ w _ u v (λ b c. absurd (let p = sym other ∙ ap (λ a. is_at (R a) e.0) (tie o same k q b) ∙ c in cc)) is
 
   -- what no entry outside has is what the tree has
-  pub behind : (es tree : List (K × X)) (k : K) → lookup (is_at (R k)) es ≡ None → at es tree k ≡ lookup (is_at (R k)) tree
-  behind [] tree k none = refl
-  behind (e ∷ es) tree k none =
+  pub tree_behind : (es tree : List (K × X)) (k : K) → lookup (is_at (R k)) es ≡ None → at es tree k ≡ lookup (is_at (R k)) tree
+  tree_behind [] tree k none = refl
+  tree_behind (e ∷ es) tree k none =
       let p = parts _ _ _ none in
-      ap (λ b. cond b (Some e.1) (at es tree k)) p.0 ∙ behind es tree k p.1
+      ap (λ b. cond b (Some e.1) (at es tree k)) p.0 ∙ tree_behind es tree k p.1
 
   -- an entry that stands outside is what the lists have at its key
-  pub found_at : (es tree : List (K × X)) (i : ℕ) (k : K) (x : X) → AreNew R es tree → slice_get es i ≡ Some (k, x) → at es tree k ≡ Some x
-  found_at [] tree i k x h is = absurd (cc)
-  found_at (e ∷ es) tree zero k x h is =
+  pub found_outside : (es tree : List (K × X)) (i : ℕ) (k : K) (x : X) → AreNew R es tree → slice_get es i ≡ Some (k, x) → at es tree k ≡ Some x
+  found_outside [] tree i k x h is = absurd (cc)
+  found_outside (e ∷ es) tree zero k x h is =
       let p : e ≡ (k, x) = cc in
       ap (λ (d : K × X). cond (is_at (R k) d.0) (Some d.1) (at es tree k)) p ∙ ap (λ b. cond b (Some x) (at es tree k)) (alike o same k)
-  found_at (e ∷ es) tree (suc i) k x h is =
-      let rest = found_at es tree i k x h.1 is in
+  found_outside (e ∷ es) tree (suc i) k x h is =
+      let rest = found_outside es tree i k x h.1 is in
       ap (λ b. cond b (Some e.1) (at es tree k)) (other_at es tree k e.0 x _ refl h.0 rest) ∙ rest
 
   first_cut : (es tree : List (K × X)) (k q : K) (x : X) (b : Bool) → is_at (R k) q ≡ b → at es tree k ≡ None
@@ -73,32 +73,32 @@ module _ {K X : Type 0} {R : K → K → Ordering} (o : IsTotalOrder R) (same : 
 
   -- it is taken out
   pub cut_at : (es tree : List (K × X)) (i : ℕ) (k : K) (x : X) → AreNew R es tree → slice_get es i ≡ Some (k, x)
-      → Changes R k None (es ++ tree) (list.remove es i ++ tree)
+      → ChangesAt R k None (es ++ tree) (list.remove es i ++ tree)
   cut_at [] tree i k x h is q = absurd (cc)
   cut_at (e ∷ es) tree zero k x h is q =
       let p : e ≡ (k, x) = cc in
       first_cut es tree k q x _ refl (ap (λ (d : K × X). at es tree d.0) (sym p) ∙ h.0)
       ∙ ap (λ (d : K × X). cond (is_at (R k) q) None (cond (is_at (R q) d.0) (Some d.1) (at es tree q))) (sym p)
   cut_at (e ∷ es) tree (suc i) k x h is q =
-      step k q e None _ _ (other_at es tree k e.0 x _ refl h.0 (found_at es tree i k x h.1 is)) (cut_at es tree i k x h.1 is q)
+      step k q e None _ _ (other_at es tree k e.0 x _ refl h.0 (found_outside es tree i k x h.1 is)) (cut_at es tree i k x h.1 is q)
 
   -- the tree changes at a key that no entry outside has
-  pub tree_changed : (es tree next : List (K × X)) (k : K) (w : Option X) → lookup (is_at (R k)) es ≡ None → Changes R k w tree next
-      → Changes R k w (es ++ tree) (es ++ next)
+  pub tree_changed : (es tree next : List (K × X)) (k : K) (w : Option X) → lookup (is_at (R k)) es ≡ None → ChangesAt R k w tree next
+      → ChangesAt R k w (es ++ tree) (es ++ next)
   tree_changed [] tree next k w none h q = h q
   tree_changed (e ∷ es) tree next k w none h q =
       let p = parts _ _ _ none in
       step k q e w _ _ p.0 (tree_changed es tree next k w p.1 h q)
 
   -- an entry of a new key is put outside
-  pub put_at : (es tree : List (K × X)) (k : K) (x : X) → at es tree k ≡ None → Changes R k (Some x) (es ++ tree) ((es ++ (k, x) ∷ []) ++ tree)
-  put_at [] tree k x none q = ap (λ b. cond b (Some x) (lookup (is_at (R q)) tree)) (turn o same q k)
-  put_at (e ∷ es) tree k x none q =
+  pub put_outside : (es tree : List (K × X)) (k : K) (x : X) → at es tree k ≡ None → ChangesAt R k (Some x) (es ++ tree) ((es ++ (k, x) ∷ []) ++ tree)
+  put_outside [] tree k x none q = ap (λ b. cond b (Some x) (lookup (is_at (R q)) tree)) (turn o same q k)
+  put_outside (e ∷ es) tree k x none q =
       let p = parts _ _ _ none in
-      step k q e (Some x) _ _ p.0 (put_at es tree k x p.1 q)
+      step k q e (Some x) _ _ p.0 (put_outside es tree k x p.1 q)
 
   -- the last entry outside is put into the tree
-  pub away_at : (es tree next : List (K × X)) (k : K) (x : X) → Changes R k (Some x) tree next → (q : K) → at es next q ≡ at (es ++ (k, x) ∷ []) tree q
+  pub away_at : (es tree next : List (K × X)) (k : K) (x : X) → ChangesAt R k (Some x) tree next → (q : K) → at es next q ≡ at (es ++ (k, x) ∷ []) tree q
   away_at [] tree next k x h q = h q ∙ ap (λ b. cond b (Some x) (lookup (is_at (R q)) tree)) (turn o same k q)
   away_at (e ∷ es) tree next k x h q = ap (cond (is_at (R q) e.0) (Some e.1)) (away_at es tree next k x h q)
 
@@ -116,7 +116,7 @@ module _ {K X : Type 0} {R : K → K → Ordering} (o : IsTotalOrder R) (same : 
   fresh_cut (e ∷ es) tree (suc i) k x h is = (cut_at es tree i k x h.1 is e.0 ∙ none_either _ _ h.0, fresh_cut es tree i k x h.1 is)
 
   -- beside a tree that changed at another key
-  pub fresh_changed : (es tree next : List (K × X)) (k : K) (w : Option X) → lookup (is_at (R k)) es ≡ None → Changes R k w tree next
+  pub fresh_changed : (es tree next : List (K × X)) (k : K) (w : Option X) → lookup (is_at (R k)) es ≡ None → ChangesAt R k w tree next
       → AreNew R es tree → AreNew R es next
   fresh_changed [] tree next k w none h fresh = tt
   fresh_changed (e ∷ es) tree next k w none h fresh =
@@ -128,17 +128,17 @@ module _ {K X : Type 0} {R : K → K → Ordering} (o : IsTotalOrder R) (same : 
   fresh_put [] tree k x none fresh = (none, tt)
   fresh_put (e ∷ es) tree k x none fresh =
       let p = parts _ _ _ none in
-      (put_at es tree k x p.1 e.0 ∙ ap (λ b. cond b (Some x) (at es tree e.0)) p.0 ∙ fresh.0, fresh_put es tree k x p.1 fresh.1)
+      (put_outside es tree k x p.1 e.0 ∙ ap (λ b. cond b (Some x) (at es tree e.0)) p.0 ∙ fresh.0, fresh_put es tree k x p.1 fresh.1)
 
   -- with the last entry in the tree
-  pub fresh_away : (es tree next : List (K × X)) (k : K) (x : X) → Changes R k (Some x) tree next → AreNew R (es ++ (k, x) ∷ []) tree → AreNew R es next
+  pub fresh_away : (es tree next : List (K × X)) (k : K) (x : X) → ChangesAt R k (Some x) tree next → AreNew R (es ++ (k, x) ∷ []) tree → AreNew R es next
   fresh_away [] tree next k x h fresh = tt
   fresh_away (e ∷ es) tree next k x h fresh = (away_at es tree next k x h e.0 ∙ fresh.0, fresh_away es tree next k x h fresh.1)
 
   -- the entry that stands at a place, by its key
-  pub entry_at : (es : List (K × X)) (i : ℕ) (k : K) (e : K × X) → i < length es → e ≡ get_or es i e → is_at (R k) e.0 ≡ true
+  pub entry_stands : (es : List (K × X)) (i : ℕ) (k : K) (e : K × X) → i < length es → e ≡ get_or es i e → is_at (R k) e.0 ≡ true
       → slice_get es i ≡ Some (k, e.1)
-  entry_at es i k e lt is tied_to = slice_get-get_or es i e lt ∙ ap Some (sym is ∙ ap (λ a. (a, e.1)) (sym (tie o same k e.0 tied_to)))
+  entry_stands es i k e lt is tied_to = slice_get-get_or es i e lt ∙ ap Some (sym is ∙ ap (λ a. (a, e.1)) (sym (tie o same k e.0 tied_to)))
 
   twice_at : (x : X) (g : Option X) (b : Bool) → cond b (Some x) (cond b None g) ≡ cond b (Some x) g
   twice_at x g true = refl
@@ -151,9 +151,9 @@ module _ {K X : Type 0} {R : K → K → Ordering} (o : IsTotalOrder R) (same : 
 
   -- an entry outside has another value
   pub replaced_at : (es tree : List (K × X)) (i : ℕ) (k : K) (x y : X) → AreNew R es tree → slice_get es i ≡ Some (k, x)
-      → Changes R k (Some y) (es ++ tree) ((list.remove es i ++ (k, y) ∷ []) ++ tree)
+      → ChangesAt R k (Some y) (es ++ tree) ((list.remove es i ++ (k, y) ∷ []) ++ tree)
   replaced_at es tree i k x y h is q =
-      put_at (list.remove es i) tree k y (none_left es tree i k x h is) q ∙ ap (cond (is_at (R k) q) (Some y)) (cut_at es tree i k x h is q)
+      put_outside (list.remove es i) tree k y (none_left es tree i k x h is) q ∙ ap (cond (is_at (R k) q) (Some y)) (cut_at es tree i k x h is q)
       ∙ twice_at y (at es tree q) (is_at (R k) q)
 
   -- each key still stands once
@@ -173,9 +173,9 @@ module _ {X : Type 0} where
   on_some (Some x) e h = h
 
   -- what is said where none is there
-  pub none_of : {P : Type 0} (r : Option X) → is_some r ≡ false → IfNone r P → P
-  none_of None e h = h
-  none_of (Some x) e h = absurd (cc)
+  pub if_none_holds : {P : Type 0} (r : Option X) → is_some r ≡ false → IfNone r P → P
+  if_none_holds None e h = h
+  if_none_holds (Some x) e h = absurd (cc)
 
   -- there is room for one entry more where it is new
   pub room_kept : (old : Option X) (next tree outside capacity : ℕ) → next ≡ tree + (if is_some old then 0 else 1)

@@ -11,6 +11,6 @@ module _ {K X : Type 0} (R : K → K → Ordering) where
   AreNew (e ∷ es) tree = (lookup (is_at (R e.0)) (es ++ tree) ≡ None) × AreNew es tree
 
   -- each key stands once, and there is room outside for all entries
-  pub record AreKept (es tree : List (K × X)) (capacity : ℕ) : Type 0 where
+  pub record FitOutside (es tree : List (K × X)) (capacity : ℕ) : Type 0 where
     pub fresh : AreNew es tree
     pub room : length tree + length es ≤ capacity

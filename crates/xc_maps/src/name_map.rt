@@ -22,7 +22,7 @@ impl<V> Model for NameMap<V> {
     ghost use Rattle.std.specs.Prelude.{◌++◌, vec_capacity};
     ghost use Rattle.std.specs.FinMap as map;
     ghost use Rattle.xc_maps.specs.Keys.{name_cmp, coded_name};
-    ghost use Rattle.xc_maps.specs.Moved.{AreKept};
+    ghost use Rattle.xc_maps.specs.Moved.{FitOutside};
 
     ghost Value = { map.FinMap name_cmp V };
 
@@ -30,7 +30,7 @@ impl<V> Model for NameMap<V> {
 
     ghost view = { λ a. map.from_entries (a.moved.items ++ a.entries.entries) };
 
-    ghost invariant = { λ a. AreKept name_cmp a.moved.items a.entries.entries (vec_capacity a.moved) };
+    ghost invariant = { λ a. FitOutside name_cmp a.moved.items a.entries.entries (vec_capacity a.moved) };
 }
 
 impl<V> NameMap<V> {

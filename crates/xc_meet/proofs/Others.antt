@@ -11,15 +11,15 @@ use Rattle.xc_data.specs.Counts.{counted}
 use Rattle.xc_data.specs.Step.{Step}
 use Rattle.xc_data.specs.declared.entry.Entry.{Entry}
 use Rattle.xc_links.specs.Wires.{Wire}
-use Rattle.xc_links.specs.Links.{LinksView, Gives}
+use Rattle.xc_links.specs.Links.{LinksView, GivesLink}
 use Rattle.xc_meet.specs.declared.session.Session.{Session}
-use Rattle.xc_meet.specs.Members.{AreAll, AreFirst, HaveEntry, IsSitting, Leaves, Sitting, links_of}
+use Rattle.xc_meet.specs.Members.{AreAll, AreFirst, HaveEntry, IsSitting, LeavesSessions, Sitting, links_of}
 use Rattle.xc_meet.specs.Parts.{IsParted}
 use Rattle.xc_roomy.specs.Room.{Roomy}
 use Rattle.xc_serve.specs.Sessions.{IsSession}
 use Rattle.xc_turnstile.specs.declared.view.View.{View}
 use Rattle.xc_turnstile.specs.Known.{Known}
-use Rattle.xc_turnstile.specs.Views.{BeginsWith, HasPlace, both, longer}
+use Rattle.xc_turnstile.specs.Views.{BeginsWith, HasPlace, views_met, longer}
 use Rattle.xc_turnstile.proofs.Laws.{starts_self, starts_trans}
 
 module _ (a b : List Entry) where
@@ -49,8 +49,8 @@ module _ (a b : List Entry) where
   longer_second h = second_by (nat_lt (length a) (length b)) refl h
 
 -- before and after
-abbrev step : {A : Type 0} → A → A → Step A
-step a b = record { old = a; new = b }
+abbrev step_of : {A : Type 0} → A → A → Step A
+step_of a b = record { old = a; new = b }
 
 -- a count that rose in a part rose in the whole
 failed_later : (x y z : ℕ) → x ≤ y → counted y ≤ z → counted x ≤ z
@@ -67,7 +67,7 @@ module _ {L : Type 0} (told : L → Wire) where
       (record { served = h.0.served; fresh = h.0.fresh; seen = starts_trans more log x.last.view.seen b h.0.seen }, sittings_later log more b xs ss h.1)
 
   -- what was given is the first of those that were to come
-  first_given : (a b : Option (List L)) (link : L) (accepted : List L) → Gives a b link → AreFirst b accepted → AreFirst a (link ∷ accepted)
+  first_given : (a b : Option (List L)) (link : L) (accepted : List L) → GivesLink a b link → AreFirst b accepted → AreFirst a (link ∷ accepted)
   first_given None b link accepted g f = tt
   first_given (Some links) None link accepted g f = absurd g
   first_given (Some links) (Some rest) link accepted g f = (f.0, g ∙ ap (λ (l : List L). link ∷ l) f.1)
@@ -78,9 +78,9 @@ module _ {L : Type 0} (told : L → Wire) where
   no_first (Some links) = (links, refl)
 
   -- none was accepted
-  pub none_left : (pass : Known) (before after : LinksView L) (list : Roomy (Session L)) (count : ℕ) → list.items ≡ [] → before.faults ≤ after.faults
-      → (0 ≡ count) ⊎ (counted before.faults ≤ after.faults) → Leaves told (step pass pass) (step before after) (step list list) count
-  none_left pass before after list count none rose all =
+  pub none_accepted : (pass : Known) (before after : LinksView L) (list : Roomy (Session L)) (count : ℕ) → list.items ≡ [] → before.faults ≤ after.faults
+      → (0 ≡ count) ⊎ (counted before.faults ≤ after.faults) → LeavesSessions told (step_of pass pass) (step_of before after) (step_of list list) count
+  none_accepted pass before after list count none rose all =
       record {
         together = record { table = refl; shares = refl; origin = refl; seen = starts_self pass.view.seen };
         sessions = [];
@@ -96,15 +96,15 @@ module _ {L : Type 0} (told : L → Wire) where
   module _ (old rest own met served new : Known) (before mid after : LinksView L) (list done last : Roomy (Session L)) (left count : ℕ) (x : L)
       (s : Session L) where
     -- one was accepted and served, and so were others behind it
-    pub one_more : IsParted old rest own → Gives before.left mid.left x → before.faults ≤ mid.faults → IsSession own served (told x) (told s.link) s.end
-        → Leaves told (step rest met) (step mid after) (step list done) left
-        → new.table ≡ met.table → new.view ≡ both met.view served.view
+    pub one_accepted : IsParted old rest own → GivesLink before.left mid.left x → before.faults ≤ mid.faults → IsSession own served (told x) (told s.link) s.end
+        → LeavesSessions told (step_of rest met) (step_of mid after) (step_of list done) left
+        → new.table ≡ met.table → new.view ≡ views_met met.view served.view
         → BeginsWith met.view.seen served.view.seen ⊎ BeginsWith served.view.seen met.view.seen
         → ((k : ℕ) → HasPlace k met.view.mine → HasPlace k served.view.mine → ⊥)
         → ((k : ℕ) → HasPlace k new.view.mine ↔ (HasPlace k met.view.mine ⊎ HasPlace k served.view.mine))
         → last.items ≡ done.items ++ s ∷ [] → last.spare + 1 ≡ done.spare → count ≡ left + 1
-        → Leaves told (step old new) (step before after) (step list last) count
-    one_more parted gives rose session others at is either apart places items spare counts =
+        → LeavesSessions told (step_of old new) (step_of before after) (step_of list last) count
+    one_accepted parted gives rose session others at is either apart places items spare counts =
         let with_met : BeginsWith new.view.seen met.view.seen =
         subst (λ (v : View). BeginsWith v.seen met.view.seen) (sym is) (longer_first met.view.seen served.view.seen either) in
         let with_own : BeginsWith new.view.seen served.view.seen =
@@ -141,11 +141,11 @@ module _ {L : Type 0} (told : L → Wire) where
 
   -- the sessions of a run, from the list that is turned round, with the journal at the end
   pub all_served : (old new : Known) (before after : LinksView L) (list done : Roomy (Session L)) (count : ℕ) (journal : List Entry) (turned : List (Session L))
-      → Leaves told (step old new) (step before after) (step list done) count → BeginsWith journal new.view.seen → turned ≡ reverse done.items
-      → AreAll told journal (step before after) count turned
+      → LeavesSessions told (step_of old new) (step_of before after) (step_of list done) count → BeginsWith journal new.view.seen → turned ≡ reverse done.items
+      → AreAll told journal (step_of before after) count turned
   all_served old new before after list done count journal turned h front is =
       let same : turned ≡ h.sessions = is ∙ (ap (λ (l : List (Session L)). reverse l) h.backwards ∙ reverse-reverse h.sessions) in
-      subst (λ (l : List (Session L)). AreAll told journal (step before after) count l) (sym same)
+      subst (λ (l : List (Session L)). AreAll told journal (step_of before after) count l) (sym same)
       (record {
         are = record {
           sittings = h.are.sittings;

@@ -33,9 +33,9 @@ HaveEntry k [] = ⊥
 HaveEntry k (x ∷ xs) = HasPlace k x.last.view.mine ⊎ HaveEntry k xs
 
 -- no two of them have an entry at the same place
-abbrev pub AreApart : {L : Type 0} → List (Sitting L) → Type 0
-AreApart [] = Unit {0}
-AreApart (x ∷ xs) = ((k : ℕ) → HasPlace k x.last.view.mine → HaveEntry k xs → ⊥) × AreApart xs
+abbrev pub ShareNoPlace : {L : Type 0} → List (Sitting L) → Type 0
+ShareNoPlace [] = Unit {0}
+ShareNoPlace (x ∷ xs) = ((k : ℕ) → HasPlace k x.last.view.mine → HaveEntry k xs → ⊥) × ShareNoPlace xs
 
 -- their links as they were accepted
 abbrev pub links_of : {L : Type 0} → List (Sitting L) → List L
@@ -53,7 +53,7 @@ pub record AreSessions {L : Type 0} (told : L → Wire) (journal : List Entry) (
   pub sittings : List (Sitting L)
   pub each : AllZip (IsSitting told journal) sittings sessions
   pub accepted : AreFirst links (links_of sittings)
-  pub apart : AreApart sittings
+  pub apart : ShareNoPlace sittings
 
 -- all sessions of a run: as many as were wanted, unless the links' count rose
 pub record AreAll {L : Type 0} (told : L → Wire) (journal : List Entry) (links : Step (LinksView L)) (count : ℕ)
@@ -65,7 +65,7 @@ pub record AreAll {L : Type 0} (told : L → Wire) (journal : List Entry) (links
 
 -- ---- as the code has it
 -- so many links were to be accepted, and their sessions were entered backwards
-pub record Leaves {L : Type 0} (told : L → Wire) (pass : Step Known) (links : Step (LinksView L)) (list : Step (Roomy (Session L)))
+pub record LeavesSessions {L : Type 0} (told : L → Wire) (pass : Step Known) (links : Step (LinksView L)) (list : Step (Roomy (Session L)))
     (count : ℕ) : Type 0 where
   pub together : Together pass.old pass.new
   pub sessions : List (Session L)

@@ -1,6 +1,6 @@
 ghost use Rattle.std.specs.Prelude.{◌≡◌, ◌≤◌, ◌*◌, ◌^◌, []};
 ghost use Rattle.std.specs.Thread.{IsSync};
-ghost use Rattle.xc_meet.specs.Members.{Leaves};
+ghost use Rattle.xc_meet.specs.Members.{LeavesSessions};
 ghost use Rattle.xc_serve.specs.Sessions.{IsSession};
 
 use crate::part::part;
@@ -36,7 +36,7 @@ pub fn serve_all<
     requires shares { (2 ^ 25 * count ≤ pass.view.shares) × (pass.view.shares ≤ 2 ^ 32) }
     requires none { backwards.items ≡ [] }
     requires room { count ≤ backwards.spare }
-    ensures { Leaves L.told (record { old = pass; new = result.0 }) (record { old = Ls.told links; new = Ls.told result.1 })
+    ensures { LeavesSessions L.told (record { old = pass; new = result.0 }) (record { old = Ls.told links; new = Ls.told result.1 })
         (record { old = backwards; new = result.2 }) count }
 {
     if count == 0 {
@@ -56,7 +56,7 @@ pub fn serve_all<
             requires shares { (2 ^ 25 * left ≤ rest.view.shares) × (rest.view.shares ≤ 2 ^ 32) }
             requires none { backwards.items ≡ [] }
             requires room { left ≤ backwards.spare }
-            ensures { Leaves L.told (record { old = rest; new = result.0 }) (record { old = Ls.told links; new = Ls.told result.1 })
+            ensures { LeavesSessions L.told (record { old = rest; new = result.0 }) (record { old = Ls.told links; new = Ls.told result.1 })
                 (record { old = backwards; new = result.2 }) left }
         { serve_all(rt, alloc, shop, rest, links, backwards, left) },
         || -> (Pass<Box<Station<H>>>, Session<L>)

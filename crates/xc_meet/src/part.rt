@@ -1,5 +1,5 @@
 ghost use Rattle.std.specs.Prelude.{◌≡◌, ◌≤◌, ◌+◌, ◌/◌, ◌^◌, ◌<◌};
-ghost use Rattle.xc_meet.specs.Parts.{IsHalved, IsParted};
+ghost use Rattle.xc_meet.specs.Parts.{IsHalfReturned, IsParted};
 
 use xc_host::Host;
 use xc_station::Station;
@@ -14,7 +14,7 @@ fn halved<H: Host>(
     requires tables { (kept.table ≡ shop.now.table.shared.table_id) × (small.table ≡ shop.now.table.shared.table_id) }
     requires enough { 2 ≤ small.view.shares }
     requires few { kept.view.shares + small.view.shares < 2 ^ 64 }
-    ensures { IsHalved kept small result.0 result.1 }
+    ensures { IsHalfReturned kept small result.0 result.1 }
 {
     let mut back = small;
     let small = shop.split(&mut back);

@@ -14,7 +14,7 @@ use Rattle.xc_host.specs.Pairs.{IsReceivedOf, after_receipt}
 use Rattle.xc_host.specs.Pipes.{pipe_in}
 use Rattle.xc_host.specs.declared.pipes.Took.{Took}
 use Rattle.xc_host.specs.declared.pipes.Took.TheVariants as took
-use Rattle.xc_memhost.specs.Pairs.{first, took_of, received_of, without_first}
+use Rattle.xc_memhost.specs.Pairs.{first_message, message_took, received_of, pair_without_first}
 
 -- a line opens nothing but contents
 pub opens_contents : (c : Contents) (num : Num) (o : Opened) → with_opened (world_of c) num o ≡ world_of (contents_of (with_opened (world_of c) num o))
@@ -80,7 +80,7 @@ pair_same c num body empty next without with_it held taken same put =
 -- ---- the first message that waits for a side of a pair
 -- it is what a receipt gives
 first_is : (pair : Pair) (side : ℕ) (messages : List (List ℕ)) (shut : Bool) → waiting pair side ≡ messages → pair.shut ≡ shut
-    → IsReceivedOf pair side (took_of shut (first messages))
+    → IsReceivedOf pair side (message_took shut (first_message messages))
 first_is pair side [] false none how = (none, how)
 first_is pair side [] true none how = (none, how)
 first_is pair side (message ∷ messages) shut is how = (messages, is)
@@ -97,16 +97,16 @@ none_leaves_by : (pair : Pair) (is_first : Bool) → (if is_first then pair.firs
 none_leaves_by pair true none = ap (λ m. record pair { first = m }) (ap (drop 1) none ∙ sym none)
 none_leaves_by pair false none = ap (λ m. record pair { second = m }) (ap (drop 1) none ∙ sym none)
 
-none_leaves : (pair : Pair) (side : ℕ) → waiting pair side ≡ [] → without_first pair side ≡ pair
+none_leaves : (pair : Pair) (side : ℕ) → waiting pair side ≡ [] → pair_without_first pair side ≡ pair
 none_leaves pair side none = none_leaves_by pair (side == 0) none
 
 -- a pair's body is taken out, its first message leaves it, and it is put back
 pub pair_received : (c : Contents) (num : Num) (side : ℕ) (took : Took) (body empty next : Pair) (without with_it : map.FinMap num_cmp Pair)
     → Some body ≡ map.get c.pairs num → without ≡ map.insert c.pairs num empty → took ≡ received_of body side
-    → next ≡ without_first body side → with_it ≡ map.insert without num next
+    → next ≡ pair_without_first body side → with_it ≡ map.insert without num next
     → record c { pairs = with_it } ≡ after_receipt num side took c
 pair_received c num side (took.Bytes message) body empty next without with_it held taken is rest put =
-    pair_changed (λ p. without_first p side) c num body empty next without with_it held taken rest put
+    pair_changed (λ p. pair_without_first p side) c num body empty next without with_it held taken rest put
 pair_received c num side took.Empty body empty next without with_it held taken is rest put =
     pair_same c num body empty next without with_it held taken
     (rest ∙ none_leaves body side (received_is body side took.Empty is).0) put

@@ -19,23 +19,23 @@ pub record AreFew (messages : List (List ℕ)) : Type 0 where
   pub small : All IsSmall messages
 
 -- the first of them
-abbrev pub first : List (List ℕ) → Option (List ℕ)
-first [] = None
-first (message ∷ messages) = Some message
+abbrev pub first_message : List (List ℕ) → Option (List ℕ)
+first_message [] = None
+first_message (message ∷ messages) = Some message
 
 -- ---- what a receipt gives
 -- the message, or that none waits, of a pair that is shut or isn't
-abbrev pub took_of : Bool → Option (List ℕ) → Took
-took_of shut None = if shut then End else Empty
-took_of shut (Some message) = Bytes message
+abbrev pub message_took : Bool → Option (List ℕ) → Took
+message_took shut None = if shut then End else Empty
+message_took shut (Some message) = Bytes message
 
 -- what one call takes of the messages that wait for a side
 abbrev pub received_of : Pair → ℕ → Took
-received_of pair side = took_of pair.shut (first (waiting pair side))
+received_of pair side = message_took pair.shut (first_message (waiting pair side))
 
 -- the pair without the first message that waits for a side
-abbrev pub without_first : Pair → ℕ → Pair
-without_first pair side = with_waiting pair side (drop 1 (waiting pair side))
+abbrev pub pair_without_first : Pair → ℕ → Pair
+pair_without_first pair side = with_waiting pair side (drop 1 (waiting pair side))
 
 -- ---- what a call may ask
 -- it asks of a side of a pair that is there

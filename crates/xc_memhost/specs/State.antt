@@ -9,7 +9,7 @@ use Rattle.xc_data.specs.declared.script.Prologue.{Prologue}
 use Rattle.xc_data.specs.contracts.script.FaultLine as fault_line
 use Rattle.xc_maps.specs.Keys.{name_cmp, num_cmp, coded_name, coded_num}
 use Rattle.xc_world.specs.World.{Pipe, Pair, coded_pipe, coded_pair}
-use Rattle.xc_host.specs.Contents.{Contents, nothing, opened}
+use Rattle.xc_host.specs.Contents.{Contents, no_contents, opened}
 use Rattle.xc_host.specs.Counting.{no_calls, calls_of}
 use Rattle.xc_host.specs.Model.{HostModel}
 
@@ -24,7 +24,7 @@ pub record MemState : Type 0 where
 
 -- holds nothing, and nothing fails
 abbrev pub empty_state : MemState
-empty_state = record { contents = nothing; lines = []; grain = None; calls = no_calls; fault_count = 0 }
+empty_state = record { contents = no_contents; lines = []; grain = None; calls = no_calls; fault_count = 0 }
 
 -- opened with a prologue, after so many faults
 abbrev pub opened_state : Prologue → ℕ → MemState

@@ -1,7 +1,7 @@
 ghost use Rattle.std.specs.Prelude.{◌≡◌, IfOk, OnOk, OnErr, MatchResult};
-ghost use Rattle.xc_memhost.specs.Faults.{begun};
+ghost use Rattle.xc_memhost.specs.Faults.{call_begun};
 ghost use Rattle.xc_memhost.specs.Telling.{Tells};
-ghost use Rattle.xc_memhost.specs.Machine.{kind_of, answer, after, answers, after_all, Stops, IsAllowed, AreAllowed};
+ghost use Rattle.xc_memhost.specs.Machine.{host_call_kind, answer, after_host_call, answers, after_all, StopsAmong, IsAllowed, AreAllowed};
 
 use crate::MemHost;
 use std::alloc::Global;
@@ -126,8 +126,8 @@ fn done(told: Result<(), HostErr>) -> Result<HostAnswer, NoMemory>
 fn ask(host: &mut MemHost, call: &HostCall) -> Result<HostAnswer, NoMemory>
     requires { IsAllowed host.old.contents call.now }
     ensures answer { IfOk result (λ a. a ≡ answer host.old call.now) }
-    ensures state { OnOk result (host.new ≡ after host.old call.now) }
-    ensures memory { OnErr result (host.new ≡ begun (kind_of call.now) host.old) }
+    ensures state { OnOk result (host.new ≡ after_host_call host.old call.now) }
+    ensures memory { OnErr result (host.new ≡ call_begun (host_call_kind call.now) host.old) }
 {
     match call {
         HostCall::Lookup(name) => found(host.lookup(name)),
@@ -173,7 +173,7 @@ pub fn run_calls(
     requires { AreAllowed host.old calls.now }
     ensures answers { IfOk result (λ list. list ≡ answers host.old calls.now) }
     ensures state { OnOk result (host.new ≡ after_all host.old calls.now) }
-    ensures memory { OnErr result (Stops host.old calls.now host.new) }
+    ensures memory { OnErr result (StopsAmong host.old calls.now host.new) }
 {
     let mut list = Items::new(alloc);
     for call in calls {

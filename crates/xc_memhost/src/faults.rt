@@ -7,7 +7,7 @@ ghost use Rattle.xc_memhost.specs.Spans.{IsIndex};
 use crate::spans::Spans;
 use std::alloc::Global;
 use std::marker::Model;
-use xc_data::{FaultLine, FaultList, Items, Kind, NoMemory};
+use xc_data::{FaultLine, FaultList, HostCallKind, Items, NoMemory};
 use xc_host::{KINDS, place_of};
 
 /// The lines of faults, and for each kind the numbers that they list. Whether a call is listed takes
@@ -64,7 +64,7 @@ impl Faults {
     }
 
     // Whether a line of this kind lists the number.
-    fn of_kind(&self, kind: Kind, number: u64) -> bool
+    fn of_kind(&self, kind: HostCallKind, number: u64) -> bool
         ensures { result ≡ list_any (is_line_of kind number) self.now }
     {
         match self.listed.get(place_of(kind)) {
@@ -74,10 +74,10 @@ impl Faults {
     }
 
     /// Whether a line lists call `number` of this kind, which is number `all` of all calls.
-    pub(crate) fn lists(&self, kind: Kind, number: u64, all: u64) -> bool
+    pub(crate) fn lists(&self, kind: HostCallKind, number: u64, all: u64) -> bool
         ensures { result ≡ list_any (lists kind number all) self.now }
     {
-        self.of_kind(kind, number) || self.of_kind(Kind::Any, all)
+        self.of_kind(kind, number) || self.of_kind(HostCallKind::Any, all)
     }
 }
 

@@ -1,29 +1,29 @@
 ghost use Rattle.std.specs.Prelude.{◌≡◌, ◌≤◌, ◌<◌, ◌+◌, true, [], ◌∷◌, length, IfOk, IfSome, OnOk, OnErr, is_some};
 ghost use Rattle.std.specs.FinMap as map;
 ghost use Rattle.xc_data.specs.Counts.{CountsFault};
-ghost use Rattle.xc_data.specs.declared.script.Kind.TheVariants as PlainKind;
+ghost use Rattle.xc_data.specs.declared.script.HostCallKind.TheVariants as PlainKind;
 ghost use Rattle.xc_host.specs.Cause.{IsCalled};
 ghost use Rattle.xc_host.specs.Contents.{file_in, has_file};
 ghost use Rattle.xc_host.specs.Counting.{calls_of};
 ghost use Rattle.xc_memhost.specs.State.{empty_state};
-ghost use Rattle.xc_memhost.specs.Faults.{is_listed, begun};
-ghost use Rattle.xc_host.specs.Pipes.{pipe_in, has_pipe, state_of, after_take, IsTakenOf, IsSomeOf};
-ghost use Rattle.xc_memhost.specs.Machine.{written_of, written, lengthened, taken, filled};
+ghost use Rattle.xc_memhost.specs.Faults.{is_listed, call_begun};
+ghost use Rattle.xc_host.specs.Pipes.{pipe_in, has_pipe, pipe_state, after_take, IsTakenOf, IsSomeOf};
+ghost use Rattle.xc_memhost.specs.Machine.{written_count, written, lengthened, pipe_take, filled};
 
 mod host;
 
 use crate::faults::{Faults, grained};
-use crate::objects::Objects;
+use crate::objects::HostObjects;
 use std::alloc::Global;
 use std::marker::Model;
-use xc_data::{Kind, Name, NoMemory, Num};
+use xc_data::{HostCallKind, Name, NoMemory, Num};
 use xc_host::{HostState, KindCounts, Took};
 
 /// A host in memory. It tells its contents, and exactly the calls that its prologue lists fail.
 #[derive(Drop)]
 pub struct MemHost {
     alloc: Global,
-    objects: Objects,
+    objects: HostObjects,
     lines: Faults,
     grain: Option<u32>,
     calls: KindCounts,
@@ -51,7 +51,7 @@ impl MemHost {
     {
         MemHost {
             alloc,
-            objects: Objects::new(alloc),
+            objects: HostObjects::new(alloc),
             lines: Faults::none(alloc),
             grain: None,
             calls: KindCounts::none(),
@@ -63,7 +63,7 @@ impl MemHost {
     pub fn calls(&self) -> u64
         ensures { result ≡ calls_of self.now.calls PlainKind.Any }
     {
-        self.calls.of(Kind::Any)
+        self.calls.of(HostCallKind::Any)
     }
 
     /// A file's bytes. Looking at them is no call of the host.
@@ -84,21 +84,21 @@ impl MemHost {
     /// How a pipe stands, where there is one. Looking at it is no call of the host.
     pub fn pipe_of(&self, pipe: Num) -> Option<HostState>
         ensures there { is_some result ≡ has_pipe self.now.contents pipe }
-        ensures value { IfSome result (λ state. state ≡ state_of (pipe_in self.now.contents pipe)) }
+        ensures value { IfSome result (λ state. state ≡ pipe_state (pipe_in self.now.contents pipe)) }
     {
         self.objects.pipe_of(pipe)
     }
 
     // Counts a call, and says whether it fails.
     #[inline(always)]
-    fn fails(&mut self, kind: Kind) -> bool
+    fn fails(&mut self, kind: HostCallKind) -> bool
         ensures value { result ≡ is_listed kind self.old }
-        ensures state { self.new ≡ begun kind self.old }
+        ensures state { self.new ≡ call_begun kind self.old }
         ensures called { IsCalled (kind ∷ []) (calls_of self.old.calls) (calls_of self.new.calls) }
         ensures cause { CountsFault result self.old.fault_count self.new.fault_count }
     {
         let number = self.calls.next(kind);
-        let all = self.calls.next(Kind::Any);
+        let all = self.calls.next(HostCallKind::Any);
         let fails = self.lines.lists(kind, number, all);
         self.calls.count(kind);
         if fails {
@@ -113,7 +113,7 @@ impl MemHost {
         requires fits { length (file_in self.old.contents file) + length bytes.now ≤ 65536 }
         requires some { 0 < length bytes.now }
         ensures bound { IfOk result (λ n. (0 < n) × (n ≤ length bytes.now)) }
-        ensures size { IfOk result (λ n. n ≡ written_of self.old bytes.now) }
+        ensures size { IfOk result (λ n. n ≡ written_count self.old bytes.now) }
         ensures state { OnOk result (self.new ≡ record self.old { contents = lengthened self.old file bytes.now }) }
         ensures failed { OnErr result (self.new ≡ self.old) }
     {
@@ -128,7 +128,7 @@ impl MemHost {
         requires inside { at + length bytes.now ≤ length (file_in self.old.contents file) }
         requires some { 0 < length bytes.now }
         ensures bound { (0 < result) × (result ≤ length bytes.now) }
-        ensures size { result ≡ written_of self.old bytes.now }
+        ensures size { result ≡ written_count self.old bytes.now }
         ensures state { self.new ≡ record self.old { contents = written self.old file at bytes.now } }
     {
         // The bytes end inside the file, so their number fits.
@@ -143,7 +143,7 @@ impl MemHost {
         requires some { 0 < n }
         ensures bound { IfOk result (IsSomeOf n) }
         ensures value { IfOk result (IsTakenOf (pipe_in self.old.contents pipe)) }
-        ensures front { IfOk result (λ took. took ≡ taken self.old pipe n) }
+        ensures front { IfOk result (λ took. took ≡ pipe_take self.old pipe n) }
         ensures state { IfOk result (λ took. self.new ≡ record self.old { contents = after_take pipe took self.old.contents }) }
         ensures failed { OnErr result (self.new ≡ self.old) }
     {
@@ -161,7 +161,7 @@ impl MemHost {
         requires fits { length (pipe_in self.old.contents pipe).held + length bytes.now ≤ 4096 }
         requires some { 0 < length bytes.now }
         ensures bound { IfOk result (λ n. (0 < n) × (n ≤ length bytes.now)) }
-        ensures size { IfOk result (λ n. n ≡ written_of self.old bytes.now) }
+        ensures size { IfOk result (λ n. n ≡ written_count self.old bytes.now) }
         ensures state { OnOk result (self.new ≡ record self.old { contents = filled self.old pipe bytes.now }) }
         ensures failed { OnErr result (self.new ≡ self.old) }
     {

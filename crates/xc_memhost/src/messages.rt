@@ -1,5 +1,5 @@
 ghost use Rattle.std.specs.Prelude.{◌≡◌, ◌<◌, ◌++◌, [], ◌∷◌, length, drop, IfSome, OnOk, OnErr};
-ghost use Rattle.xc_memhost.specs.Pairs.{IsSmall, first};
+ghost use Rattle.xc_memhost.specs.Pairs.{IsSmall, first_message};
 
 use std::alloc::Global;
 use std::marker::Model;
@@ -40,7 +40,7 @@ impl Messages {
     // The first leaves. None is copied, of it or of the rest.
     pub(crate) fn take(&mut self) -> Option<Chunk>
         ensures bound { IfSome result IsSmall }
-        ensures first { result ≡ first self.old }
+        ensures first { result ≡ first_message self.old }
         ensures rest { self.new ≡ drop 1 self.old }
     {
         if self.messages.is_empty() {

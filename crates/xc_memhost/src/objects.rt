@@ -3,9 +3,9 @@ ghost use Rattle.std.specs.Prelude.{IfOk, IfSome, OnOk, OnErr};
 ghost use Rattle.std.specs.FinMap as map;
 ghost use Rattle.xc_data.specs.Limits.{IsOpenedFit};
 ghost use Rattle.xc_world.specs.Opening.{with_opened};
-ghost use Rattle.xc_host.specs.Contents.{nothing, opened, file_in, has_file, wrote, world_of, contents_of};
+ghost use Rattle.xc_host.specs.Contents.{no_contents, opened, file_in, has_file, wrote, world_of, contents_of};
 ghost use Rattle.xc_host.specs.Contents.{appended, shortened, created, uncreated, renamed, unnamed};
-ghost use Rattle.xc_host.specs.Pipes.{pipe_in, has_pipe, with_new_pipe, taken_from, put_into, shut_in, without_pipe, state_of};
+ghost use Rattle.xc_host.specs.Pipes.{pipe_in, has_pipe, with_new_pipe, taken_from, put_into, shut_in, without_pipe, pipe_state};
 ghost use Rattle.xc_host.specs.Pairs.{IsMessage, IsReceivedOf, after_receipt, has_pair, pair_in, sent_from, side_state};
 ghost use Rattle.xc_host.specs.Pairs.{with_new_pair, without_pair};
 ghost use Rattle.xc_memhost.specs.Pairs.{IsSmall, received_of};
@@ -24,7 +24,7 @@ use xc_maps::{NameMap, NumMap};
 
 /// The names, files, pipes and pairs.
 #[derive(Drop)]
-pub(crate) struct Objects {
+pub(crate) struct HostObjects {
     alloc: Global,
     names: NameMap<Num>,
     files: NumMap<FileBody>,
@@ -32,7 +32,7 @@ pub(crate) struct Objects {
     pairs: NumMap<PairBody>,
 }
 
-impl Model for Objects {
+impl Model for HostObjects {
     ghost use Rattle.xc_host.specs.Contents.{Contents};
     ghost use Rattle.xc_memhost.specs.State.{coded_contents};
 
@@ -43,11 +43,11 @@ impl Model for Objects {
     ghost view = { λ a. record { names = a.names; files = a.files; pipes = a.pipes; pairs = a.pairs } };
 }
 
-impl Objects {
-    pub(crate) fn new(alloc: Global) -> Objects
-        ensures { result ≡ nothing }
+impl HostObjects {
+    pub(crate) fn new(alloc: Global) -> HostObjects
+        ensures { result ≡ no_contents }
     {
-        Objects {
+        HostObjects {
             alloc,
             names: NameMap::new(alloc),
             files: NumMap::new(alloc),
@@ -76,12 +76,12 @@ impl Objects {
 
     // Exactly the objects of these lines.
     #[tactic(auto, using(crate::proofs::Bodies::opens_contents))]
-    pub(crate) fn of(alloc: Global, objects: &[Opened]) -> Result<Objects, NoMemory>
+    pub(crate) fn of(alloc: Global, objects: &[Opened]) -> Result<HostObjects, NoMemory>
         requires count { length objects.now ≤ 4096 }
         requires fit { All IsOpenedFit objects.now }
         ensures { IfOk result (λ made. made ≡ opened objects.now) }
     {
-        let mut made = Objects::new(alloc);
+        let mut made = HostObjects::new(alloc);
         for (line, opened) in objects.iter().enumerate() {
             let num = Num {
                 tx: 0,
@@ -219,7 +219,7 @@ impl Objects {
     // How a pipe stands, where it is there.
     pub(crate) fn pipe_of(&self, pipe: Num) -> Option<HostState>
         ensures there { is_some result ≡ has_pipe self.now pipe }
-        ensures value { IfSome result (λ state. state ≡ state_of (pipe_in self.now pipe)) }
+        ensures value { IfSome result (λ state. state ≡ pipe_state (pipe_in self.now pipe)) }
     {
         match self.pipes.get(pipe) {
             Some(body) => Some(body.state()),
@@ -228,7 +228,7 @@ impl Objects {
     }
 
     pub(crate) fn pipe_state(&self, pipe: Num) -> HostState
-        ensures { result ≡ state_of (pipe_in self.now pipe) }
+        ensures { result ≡ pipe_state (pipe_in self.now pipe) }
     {
         match self.pipes.get(pipe) {
             Some(body) => body.state(),

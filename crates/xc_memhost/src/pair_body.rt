@@ -1,6 +1,6 @@
 ghost use Rattle.std.specs.Prelude.{◌≡◌, ◌<◌, true, length, OnOk, OnErr};
 ghost use Rattle.xc_host.specs.Pairs.{IsMessage, side_state};
-ghost use Rattle.xc_memhost.specs.Pairs.{IsSmall, received_of, without_first};
+ghost use Rattle.xc_memhost.specs.Pairs.{IsSmall, received_of, pair_without_first};
 ghost use Rattle.xc_world.specs.Late.{sent_to};
 ghost use Rattle.xc_world.specs.World.{empty_pair, other_side, waiting};
 
@@ -57,7 +57,7 @@ impl PairBody {
     pub(crate) fn take(&mut self, side: u8) -> Took
         ensures bound { IsMessage result }
         ensures first { result ≡ received_of self.old side }
-        ensures rest { self.new ≡ without_first self.old side }
+        ensures rest { self.new ≡ pair_without_first self.old side }
     {
         let first = if side == 0 {
             self.first.take()

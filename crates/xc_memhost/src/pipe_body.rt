@@ -1,5 +1,5 @@
 ghost use Rattle.std.specs.Prelude.{◌≡◌, ◌≤◌, ◌+◌, ◌++◌, true, false, length, take, drop, IfOk, OnOk, OnErr};
-ghost use Rattle.xc_host.specs.Pipes.{state_of};
+ghost use Rattle.xc_host.specs.Pipes.{pipe_state};
 ghost use Rattle.xc_world.specs.World.{empty_pipe};
 
 use bytes::BytesMut;
@@ -50,7 +50,7 @@ impl PipeBody {
     }
 
     pub(crate) fn state(&self) -> HostState
-        ensures { result ≡ state_of self.now }
+        ensures { result ≡ pipe_state self.now }
     {
         HostState {
             held: self.held.len() as u32,

@@ -1,7 +1,7 @@
 ghost use Rattle.std.specs.Prelude.{◌≡◌, ◌&&◌, ◌==◌, ℕ, IfOk};
 ghost use Rattle.std.specs.List.{filter};
 ghost use Rattle.xc_memhost.specs.Faults.{any_within};
-ghost use Rattle.xc_memhost.specs.Spans.{is_at_place, IsRising, AreApart};
+ghost use Rattle.xc_memhost.specs.Spans.{is_at_place, IsRising, AreDisjoint};
 
 use std::alloc::Global;
 use std::marker::Model;
@@ -17,13 +17,13 @@ pub(crate) struct Spans {
 impl Model for Spans {
     ghost use Rattle.std.specs.Prelude.{List};
     ghost use Rattle.xc_data.specs.declared.script.FaultLine.{FaultLine};
-    ghost use Rattle.xc_memhost.specs.Spans.{AreApart};
+    ghost use Rattle.xc_memhost.specs.Spans.{AreDisjoint};
 
     ghost Value = { List FaultLine };
 
     ghost view = { λ a. a.spans.items };
 
-    ghost invariant = { λ a. AreApart a.spans.items };
+    ghost invariant = { λ a. AreDisjoint a.spans.items };
 }
 
 // The lines whose kind has this place.
@@ -49,7 +49,7 @@ fn sort(lines: &mut [FaultLine])
 // Lines that overlap become one.
 fn merged(alloc: Global, lines: &[FaultLine]) -> Result<Vec<FaultLine>, NoMemory>
     requires { IsRising lines.now }
-    ensures apart { IfOk result (λ list. AreApart list.items) }
+    ensures apart { IfOk result (λ list. AreDisjoint list.items) }
     ensures same { IfOk result (λ list. (n : ℕ) → any_within n list.items ≡ any_within n lines.now) }
 {
     let mut list = Vec::new(alloc);

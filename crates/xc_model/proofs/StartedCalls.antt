@@ -8,9 +8,9 @@ use Rattle.xc_data.specs.declared.call.LateEnd.{LateEnd}
 use Rattle.xc_data.specs.declared.call.LateEnd.TheVariants as end
 use Rattle.xc_model.specs.LateCalls.{started_late, started_with}
 use Rattle.xc_data.specs.Calls.{thread_asked, thread_in}
-use Rattle.xc_model.specs.Progress.{started_blocks, started_by}
+use Rattle.xc_model.specs.Progress.{started_blocks, started_by_call}
 
-started_one : (c : Call) (o : Option (List ℕ)) (e : LateEnd) → o ≡ thread_asked c → started_with o e ≡ started_by c e
+started_one : (c : Call) (o : Option (List ℕ)) (e : LateEnd) → o ≡ thread_asked c → started_with o e ≡ started_by_call c e
 started_one (call.XThreadCreate block slot) o end.Done same = ap (λ p. started_with p end.Done) same
 started_one (call.XThreadCreate block slot) o (end.Full n) same = ap (λ p. started_with p (end.Full n)) same
 started_one (call.XThreadCreate block slot) o end.Shut same = ap (λ p. started_with p end.Shut) same

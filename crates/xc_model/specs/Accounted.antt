@@ -13,7 +13,7 @@ use Rattle.xc_data.specs.declared.entry.Outcome.TheVariants.{Committed, Aborted}
 use Rattle.xc_data.specs.declared.call.Call.TheVariants as call
 use Rattle.xc_script.specs.declared.ask.Ask.{Ask}
 use Rattle.xc_script.specs.declared.ask.Ask.TheVariants as ask
-use Rattle.xc_script.specs.Position.{is_call}
+use Rattle.xc_script.specs.Position.{is_call_asked}
 use Rattle.xc_script.specs.Blocks.{kept_calls}
 use Rattle.xc_world.specs.Ends.{Ending}
 use Rattle.xc_world.specs.Fits.{late_answer_of}
@@ -69,21 +69,21 @@ module _ (a : Account) where
 
   -- after its calls a transaction was asked an abort; or a call, which met what another one held; an older one revoked
   -- it; memory ran out; or it was asked to go back, and these records tell where that failed in its open block
-  abbrev pub HasCause : List Ending → Cause → Type 0
-  HasCause records cause.Asked = a.next ≡ ask.Abort
-  HasCause records (cause.Conflict object holder at) =
-      (is_call a.next ≡ true) × Ground own_scene a.place own_part (record { object = object; number = holder; at = at })
-  HasCause records (cause.Revoked object by at) =
+  abbrev pub CauseHolds : List Ending → Cause → Type 0
+  CauseHolds records cause.Asked = a.next ≡ ask.Abort
+  CauseHolds records (cause.Conflict object holder at) =
+      (is_call_asked a.next ≡ true) × Ground own_scene a.place own_part (record { object = object; number = holder; at = at })
+  CauseHolds records (cause.Revoked object by at) =
       Revocation own_scene a.place own_part (record { object = object; number = by; at = at })
-  HasCause records cause.NoMemory = Unit {0}
-  HasCause records (cause.Stuck failed) =
+  CauseHolds records cause.NoMemory = Unit {0}
+  CauseHolds records (cause.Stuck failed) =
       (a.next ≡ ask.Call call.Back)
       × IsStuckIn (saved_records (all_records no_records a.entry.calls a.entry.replies)) 1 records (cause.Stuck failed)
 
   -- it committed so, or was aborted with a cause
   abbrev pub IsAccounted : Outcome → Type 0
   IsAccounted (Committed ends) = HasCommitted ends
-  IsAccounted (Aborted report) = HasCause report.records report.cause
+  IsAccounted (Aborted report) = CauseHolds report.records report.cause
 
 -- what the entries before this place led to
 abbrev pub progress_before : Setting → List Entry → ℕ → Progress

@@ -12,7 +12,7 @@ use Rattle.xc_data.specs.declared.entry.Turn.TheVariants as turn
 use Rattle.xc_deferred.specs.Does.{EndsAsPlain}
 use Rattle.xc_host.specs.Uses.{LatesFor}
 use Rattle.xc_model.specs.Moment.{TxView, Moment}
-use Rattle.xc_model.specs.Moment.{late_left, with_job, entering, joined}
+use Rattle.xc_model.specs.Moment.{late_left, with_job, entering, jobs_joined}
 use Rattle.xc_model.specs.Moment.{Touches}
 use Rattle.xc_model.specs.Movers.{with_tx, Mover, HasCalled}
 use Rattle.xc_model.specs.Entering.{entry_of, behind_commit, started_jobs}
@@ -48,7 +48,7 @@ module _ (m : Mover) (tx : TxView) where
   -- than 1,000 are
   abbrev pub EntersCommitted : Moment → Type 0
   EntersCommitted new =
-      (new ≡ joined (entering m.old m.at (behind_commit m.job tx) (entry_of tx m.at (Committed tx.ends)))
+      (new ≡ jobs_joined (entering m.old m.at (behind_commit m.job tx) (entry_of tx m.at (Committed tx.ends)))
       (started_jobs m.setting.script m.job tx))
       × (length new.jobs ≤ 1000)
 

@@ -47,13 +47,13 @@ AreEnds s entries (f ∷ jobs) [] = ⊥
 AreEnds s entries (f ∷ jobs) (line ∷ lines) = IsLine s entries f line × AreEnds s entries jobs lines
 
 -- a job had no transaction left
-abbrev pub is_done : JobEnd → Bool
-is_done job_end.Done = true
-is_done _ = false
+abbrev pub is_done_end : JobEnd → Bool
+is_done_end job_end.Done = true
+is_done_end _ = false
 
 -- no job ended but by its last transaction
 abbrev pub all_done : List JobLine → Bool
-all_done lines = list_all (λ (line : JobLine). is_done line.end) lines
+all_done lines = list_all (λ (line : JobLine). is_done_end line.end) lines
 
 -- a job ended for lack of memory
 abbrev pub is_memory : JobEnd → Bool

@@ -18,7 +18,7 @@ use Rattle.xc_data.specs.declared.entry.Report.{Report}
 use Rattle.xc_data.specs.declared.undo.Undo.{Undo}
 use Rattle.xc_script.specs.declared.ask.Ask.{Ask}
 use Rattle.xc_script.specs.declared.ask.Ask.TheVariants as ask
-use Rattle.xc_script.specs.Position.{is_call}
+use Rattle.xc_script.specs.Position.{is_call_asked}
 use Rattle.xc_world.specs.Act.{act}
 use Rattle.xc_world.specs.Ends.{AreLegal}
 use Rattle.xc_world.specs.Fits.{fits}
@@ -34,14 +34,14 @@ use Rattle.xc_model.specs.Recorded.{Recorded, HasRecords, IsStuckIn, saved_recor
 -- revoked or memory ran out
 abbrev pub IsCauseOf : Cause → Ask → Type 0
 IsCauseOf cause.Asked last = last ≡ ask.Abort
-IsCauseOf (cause.Conflict object holder at) last = is_call last ≡ true
+IsCauseOf (cause.Conflict object holder at) last = is_call_asked last ≡ true
 IsCauseOf cause.NoMemory last = Unit {0}
 IsCauseOf (cause.Revoked object by at) last = Unit {0}
 IsCauseOf (cause.Stuck failed) last = last ≡ ask.Call call.Back
 
 -- why a transaction was aborted of which these calls left a record: it was asked what leads there, and a way back got stuck at a
 -- record of its block
-pub record IsCaused (k : Recorded) (last : Ask) (report : Report) : Type 0 where
+pub record HasAbortCause (k : Recorded) (last : Ask) (report : Report) : Type 0 where
   pub asked : IsCauseOf report.cause last
   pub stuck : IsStuckIn (saved_records k) 1 report.records report.cause
 

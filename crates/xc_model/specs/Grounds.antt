@@ -49,7 +49,7 @@ pub record Other (scene : Scene) (number at job : ℕ) : Type 0 where
   pub began : who.began ≤ at
 
 -- one of these claims is of this object
-pub record Holds (held : List Claim) (object : Object) : Type 0 where
+pub record HoldsObject (held : List Claim) (object : Object) : Type 0 where
   pub claim : Claim
   pub names : claim.object ≡ object
   pub among : Contains held claim
@@ -64,7 +64,7 @@ pub record Ground (scene : Scene) (place : ℕ) (e : Part) (blame : Blame) : Typ
   pub before : e.began ≤ blame.at
   pub within : blame.at ≤ place
   pub named : Other scene blame.number blame.at e.job
-  pub holds : Holds named.who.held blame.object
+  pub holds : HoldsObject named.who.held blame.object
   pub clash : IsTrue scene.tells → Clashes e.wanted holds.claim
 
 -- a revocation of the one at this place: it had begun by then, holds the object, and names an older transaction; over a
@@ -74,7 +74,7 @@ pub record Revocation (scene : Scene) (place : ℕ) (e : Part) (blame : Blame) :
   pub within : blame.at ≤ place
   pub named : Other scene blame.number blame.at e.job
   pub older : named.who.rank < e.rank
-  pub holds : Holds e.held blame.object
+  pub holds : HoldsObject e.held blame.object
   pub clash : IsTrue scene.tells → Clashes (named.who.held ++ named.who.wanted) holds.claim
 
 -- why one is aborted is grounded

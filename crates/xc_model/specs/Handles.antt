@@ -16,7 +16,7 @@ use Rattle.xc_data.specs.declared.entry.Outcome.{Outcome}
 use Rattle.xc_data.specs.declared.entry.Outcome.TheVariants.{Committed, Aborted}
 use Rattle.xc_data.specs.declared.private.Place.{Place}
 use Rattle.xc_data.specs.declared.private.Private.{Private}
-use Rattle.xc_data.specs.declared.script.Kind.{Kind}
+use Rattle.xc_data.specs.declared.script.HostCallKind.{HostCallKind}
 use Rattle.xc_data.specs.declared.script.Outline.{Outline}
 use Rattle.xc_data.specs.declared.undo.Undo.{Undo}
 use Rattle.xc_data.specs.declared.undo.UndoEnd.{UndoEnd}
@@ -47,7 +47,7 @@ pub record Handled : Type 0 where
   pub me : Private
   pub late : List LateCall
   pub saved : Option AtSave
-  pub made : List Kind
+  pub made : List HostCallKind
 
 -- at the begin of a transaction with these handles
 abbrev pub handled_anew : List Place → Handled
@@ -59,7 +59,7 @@ at_save h = record { places = h.me.places; late = h.late }
 
 -- the block went back, and its compensations made these: the handles and the late calls are those of its save, and what was made and
 -- stored counts on
-abbrev pub handled_back : Handled → List Kind → Handled
+abbrev pub handled_back : Handled → List HostCallKind → Handled
 handled_back h made =
     let kept = unwrap_or h.saved (at_save h) in
     record { me = record h.me { places = kept.places }; late = kept.late; saved = None; made = h.made ++ made }
@@ -71,20 +71,20 @@ pub record IsHandled (tx : ℕ) (call : Call) (reply : Reply) (was is : Handled)
   pub after : IsMeAfter tx call reply was.me is.me
   pub late : is.late ≡ was.late ++ kept_call call was.me reply
   pub saved : is.saved ≡ saved_by call was.saved (at_save is)
-  pub uses : (more : List Kind) × CallsOf (refusal_of call was.me) call reply more × (is.made ≡ was.made ++ more)
+  pub uses : (more : List HostCallKind) × CallsOf (refusal_of call was.me) call reply more × (is.made ≡ was.made ++ more)
 
 -- a back undid some records of its block, with the faults of its reply, and made the calls of their compensations
-pub record IsBack (r : Reply) (was is : Handled) : Type 0 where
+pub record IsBackReply (r : Reply) (was is : Handled) : Type 0 where
   pub records : List (Undo × UndoEnd)
   pub undone : All (λ record_end. is_undone record_end.1 ≡ true) records
   pub faults : r ≡ reply.Undone (sum_by undo_faults records)
-  pub made : List Kind
+  pub made : List HostCallKind
   pub uses : BacksMake records made
   pub behind : is ≡ handled_back was made
 
 -- one call of the transaction of this number
 abbrev pub HandlesCall : ℕ → Call → Reply → Handled → Handled → Type 0
-HandlesCall tx call.Back r was is = IsBack r was is
+HandlesCall tx call.Back r was is = IsBackReply r was is
 -- any other call stays in its block, also one yet to come
 HandlesCall tx c r was is = IsHandled tx c r was is
 
@@ -104,13 +104,13 @@ handles_behind all e left (Aborted report) = all
 -- how far a journal led: each started job's handles, and which calls of the host its entries made
 pub record Reached : Type 0 where
   pub places : List (List Place)
-  pub made : List Kind
+  pub made : List HostCallKind
 
 -- an entry, after whose replies `last` was asked, leads from there to here
 pub record HandlesEntry (was : Reached) (last : Ask) (e : Entry) (is : Reached) : Type 0 where
   pub left : Handled
   pub calls : HandlesCalls e.tx e.calls e.replies (handled_anew (unwrap_or (slice_get was.places (e.job - 1)) [])) left
-  pub ends : List Kind
+  pub ends : List HostCallKind
   pub uses : EndMakes last left.late e.outcome ends
   pub places : is.places ≡ handles_behind was.places e left.me.places e.outcome
   pub made : is.made ≡ was.made ++ left.made ++ ends
@@ -131,7 +131,7 @@ abbrev pub IsHandledJournal : Outline → List Ask → List Entry → Type 0
 IsHandledJournal outline lasts journal = (ends : Reached) × AreHandled (opened_reach outline) lasts journal ends
 
 -- the host was called since its opening by the entries of a journal, as often as they say, and by nothing else
-pub record AreCalled (script : Script) (journal : List Entry) (calls : Kind → ℕ) : Type 0 where
+pub record AreCalled (script : Script) (journal : List Entry) (calls : HostCallKind → ℕ) : Type 0 where
   pub ends : Reached
   pub entries : AreHandled (opened_reach script.outline) (lasts_of script journal) journal ends
-  pub called : (kind : Kind) → RisesBy (times kind ends.made) 0 (calls kind)
+  pub called : (kind : HostCallKind) → RisesBy (times kind ends.made) 0 (calls kind)

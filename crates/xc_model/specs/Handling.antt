@@ -4,7 +4,7 @@ use Rattle.std.specs.declared.option.Option.TheVariants.{None, Some}
 use Rattle.xc_data.specs.Counts.{RisesBy}
 use Rattle.xc_data.specs.declared.entry.Entry.{Entry}
 use Rattle.xc_data.specs.declared.private.Place.{Place}
-use Rattle.xc_data.specs.declared.script.Kind.{Kind}
+use Rattle.xc_data.specs.declared.script.HostCallKind.{HostCallKind}
 use Rattle.xc_host.specs.Cause.{times}
 use Rattle.xc_script.specs.declared.ask.Ask.{Ask}
 use Rattle.xc_script.specs.Ask.{Job}
@@ -18,12 +18,12 @@ use Rattle.xc_model.specs.Handles.{AtSave, Handled, HandlesCalls, AreHandled, ha
 use Rattle.xc_model.specs.Moment.{TxView, SavedView, JobView, active_of}
 
 -- what a save keeps of handles and late calls
-abbrev pub saved_in : SavedView → AtSave
-saved_in kept = record { places = kept.places; late = kept.late }
+abbrev pub handles_at_save : SavedView → AtSave
+handles_at_save kept = record { places = kept.places; late = kept.late }
 
 -- where a transaction stands whose calls made these calls of the host
-abbrev pub handled_in : TxView → List Kind → Handled
-handled_in tx made = record { me = tx.me; late = tx.late; saved = option_map saved_in tx.saved; made = made }
+abbrev pub handled_in : TxView → List HostCallKind → Handled
+handled_in tx made = record { me = tx.me; late = tx.late; saved = option_map handles_at_save tx.saved; made = made }
 
 -- the job at its transaction's begin
 abbrev pub begun_job : Position → Job
@@ -34,7 +34,7 @@ abbrev pub asked_in : Script → Position → TxView → Ask
 asked_in script place tx = asked_after script (begun_job place) tx.replies
 
 -- where memory ran out, the call that was asked made these
-abbrev pub StopsIn : Phase → Ask → List Kind → Type 0
+abbrev pub StopsIn : Phase → Ask → List HostCallKind → Type 0
 StopsIn (Undoing c) last made = StopsBy c last made
 StopsIn Running last made = made ≡ []
 StopsIn Committing last made = made ≡ []
@@ -42,11 +42,11 @@ StopsIn Backing last made = made ≡ []
 
 -- a job's active transaction made these calls of the host: its own calls lead from the job's handles to where it stands; then come
 -- that at which memory ran out, the compensations that ended, and the late calls that did
-pub record HasMade (script : Script) (job : JobView) (tx : TxView) (made : List Kind) : Type 0 where
-  pub body : List Kind
-  pub stops : List Kind
-  pub backs : List Kind
-  pub lates : List Kind
+pub record HasMade (script : Script) (job : JobView) (tx : TxView) (made : List HostCallKind) : Type 0 where
+  pub body : List HostCallKind
+  pub stops : List HostCallKind
+  pub backs : List HostCallKind
+  pub lates : List HostCallKind
   pub calls : HandlesCalls tx.number tx.calls tx.replies (handled_anew job.me.places) (handled_in tx body)
   pub stopped : StopsIn tx.phase (asked_in script job.place tx) stops
   pub undone : BacksMake tx.undo.ended backs
@@ -54,12 +54,12 @@ pub record HasMade (script : Script) (job : JobView) (tx : TxView) (made : List 
   pub all : made ≡ body ++ stops ++ backs ++ lates
 
 -- without one it made none
-abbrev pub MadeBy : Script → JobView → Option TxView → List Kind → Type 0
+abbrev pub MadeBy : Script → JobView → Option TxView → List HostCallKind → Type 0
 MadeBy script job None made = made ≡ []
 MadeBy script job (Some tx) made = HasMade script job tx made
 
 -- the same of each job
-abbrev pub AreMade : Script → List JobView → List (List Kind) → Type 0
+abbrev pub AreMade : Script → List JobView → List (List HostCallKind) → Type 0
 AreMade script [] mades = mades ≡ []
 AreMade script (job ∷ jobs) [] = ⊥
 AreMade script (job ∷ jobs) (made ∷ mades) = MadeBy script job (active_of job) made × AreMade script jobs mades
@@ -70,10 +70,10 @@ places_of jobs = map (λ (job : JobView). job.me.places) jobs
 
 -- the journal leads from the opening's handles to those of the jobs, and each active transaction from its job's on; the host was
 -- called by them since its opening, as often as they say, and by nothing else
-pub record HandlesAgree (script : Script) (journal : List Entry) (jobs : List JobView) (calls : Kind → ℕ) : Type 0 where
-  pub entered : List Kind
+pub record HandlesAgree (script : Script) (journal : List Entry) (jobs : List JobView) (calls : HostCallKind → ℕ) : Type 0 where
+  pub entered : List HostCallKind
   pub entries : AreHandled (opened_reach script.outline) (lasts_of script journal) journal
       (record { places = places_of jobs; made = entered })
-  pub under_way : List (List Kind)
+  pub under_way : List (List HostCallKind)
   pub active : AreMade script jobs under_way
-  pub called : (kind : Kind) → RisesBy (times kind entered + sum_by (times kind) under_way) 0 (calls kind)
+  pub called : (kind : HostCallKind) → RisesBy (times kind entered + sum_by (times kind) under_way) 0 (calls kind)

@@ -16,22 +16,22 @@ use Rattle.xc_model.specs.declared.phase.Phase.TheVariants.{Running}
 use Rattle.xc_model.specs.Setting.{Setting}
 use Rattle.xc_model.specs.Moment.{TxView, JobView, Ended, Moment}
 use Rattle.xc_model.specs.Moment.{begun_count, failures, rank_of, with_job}
-use Rattle.xc_model.specs.Moment.{unmarked, waiting}
+use Rattle.xc_model.specs.Moment.{unmarked, asked_to_wait}
 use Rattle.xc_model.specs.Movers.{body_at, with_tx, IsActiveAt, Mover}
 
 -- ---- an idle job
 -- this cause names this transaction, for this object
-abbrev pub Names : Cause → Object → ℕ → Type 0
-Names (cause.Conflict met holder at) object number = (met ≡ object) × (holder ≡ number)
-Names (cause.Revoked met by at) object number = (met ≡ object) × (by ≡ number)
-Names cause.Asked object number = ⊥
-Names cause.NoMemory object number = ⊥
-Names (cause.Stuck failed) object number = ⊥
+abbrev pub CauseNames : Cause → Object → ℕ → Type 0
+CauseNames (cause.Conflict met holder at) object number = (met ≡ object) × (holder ≡ number)
+CauseNames (cause.Revoked met by at) object number = (met ≡ object) × (by ≡ number)
+CauseNames cause.Asked object number = ⊥
+CauseNames cause.NoMemory object number = ⊥
+CauseNames (cause.Stuck failed) object number = ⊥
 
 -- the last attempt's does, where one failed
 abbrev pub NamesLast : Option Attempts → Object → ℕ → Type 0
 NamesLast None object number = ⊥
-NamesLast (Some a) object number = Names a.last object number
+NamesLast (Some a) object number = CauseNames a.last object number
 
 -- a transaction of this number is active
 abbrev pub IsActiveNumber : List JobView → ℕ → Type 0
@@ -46,14 +46,14 @@ pub record IsWaiting (s : Setting) (now : Moment) (job : JobView) (object : Obje
   pub patient : job.busy < s.rules.patience
 
 -- it waits for nobody
-abbrev pub IsFree : Setting → Moment → JobView → Type 0
-IsFree s now job = (object : Object) (number : ℕ) → IsWaiting s now job object number → ⊥
+abbrev pub WaitsForNobody : Setting → Moment → JobView → Type 0
+WaitsForNobody s now job = (object : Object) (number : ℕ) → IsWaiting s now job object number → ⊥
 
 -- its next transaction may begin
-pub record IsReady (s : Setting) (now : Moment) (job : JobView) : Type 0 where
+pub record MayBegin (s : Setting) (now : Moment) (job : JobView) : Type 0 where
   pub left : IsSome (body_at s job.place)
   pub attempts : failures job.attempts < s.rules.attempts
-  pub free : IsFree s now job
+  pub free : WaitsForNobody s now job
   pub room : begun_count now < 10000
 
 -- a transaction that has just begun
@@ -98,13 +98,13 @@ abbrev pub IsEnding : Setting → Moment → JobView → JobEnd → Type 0
 IsEnding s now job job_end.Done = body_at s job.place ≡ None
 IsEnding s now job (job_end.GaveUp c) = IsSome (body_at s job.place) × IsSpent s job.attempts c
 IsEnding s now job job_end.JournalFull =
-    IsSome (body_at s job.place) × (failures job.attempts < s.rules.attempts) × IsFree s now job × (10000 ≤ begun_count now)
+    IsSome (body_at s job.place) × (failures job.attempts < s.rules.attempts) × WaitsForNobody s now job × (10000 ≤ begun_count now)
 IsEnding s now job job_end.NoMemory = IsSome (body_at s job.place)
 
 module _ (m : Mover) where
   -- an idle job ends, waits, or its next transaction begins
   abbrev pub IdleTurn : Turn → Moment → Type 0
   IdleTurn (turn.Ended end) new = IsEnding m.setting m.old m.job end × (new ≡ with_job m.old m.at (record m.job { doing = Ended end }))
-  IdleTurn turn.Went new = IsReady m.setting m.old m.job × (new ≡ beginning_at m.old m.at m.job)
-  IdleTurn (turn.Busy object number) new = IsWaiting m.setting m.old m.job object number × (new ≡ with_job m.old m.at (waiting m.job))
+  IdleTurn turn.Went new = MayBegin m.setting m.old m.job × (new ≡ beginning_at m.old m.at m.job)
+  IdleTurn (turn.Busy object number) new = IsWaiting m.setting m.old m.job object number × (new ≡ with_job m.old m.at (asked_to_wait m.job))
   IdleTurn _ new = ⊥

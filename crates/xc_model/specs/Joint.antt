@@ -14,7 +14,7 @@ use Rattle.xc_script.specs.Ask.{next_body}
 use Rattle.xc_script.specs.Blocks.{block_from, kept_calls}
 use Rattle.xc_world.specs.Run.{body_fits, asked_of}
 use Rattle.xc_model.specs.Asked.{AsksEach, StartsJobs, lasts_of, next_of}
-use Rattle.xc_model.specs.EntryEnds.{AreRecords, IsCaused, IsCommit, IsHeld, IsReport, failures_with}
+use Rattle.xc_model.specs.EntryEnds.{AreRecords, HasAbortCause, IsCommit, IsHeld, IsReport, failures_with}
 use Rattle.xc_model.specs.Grounds.{Part, AreGrounded, scene_of}
 use Rattle.xc_model.specs.Handles.{IsHandledJournal}
 use Rattle.xc_model.specs.InTime.{AreInTime}
@@ -32,7 +32,7 @@ abbrev pub IsAskedFor : ℕ → Entry → Ask → Outcome → Type 0
 IsAskedFor tries e next (Committed late) = (next ≡ ask.Commit) × (length late ≡ length (kept_calls e.calls e.replies))
 IsAskedFor tries e next (Aborted report) =
     let k = all_records no_records e.calls e.replies in
-    IsCaused k next report × IsReport tries k report
+    HasAbortCause k next report × IsReport tries k report
 
 -- one entry's part in the story of its job f, after the entries before it
 pub record IsStory (s : Setting) (p : Progress) (f : Following) (e : Entry) : Type 0 where

@@ -15,7 +15,7 @@ use Rattle.xc_world.specs.Run.{body_fits, asked_of}
 use Rattle.xc_world.specs.World.{State}
 use Rattle.xc_model.specs.declared.rules.Rules.{Rules}
 use Rattle.xc_model.specs.Course.{Course, Standing, after_course, opening_course, standing_of}
-use Rattle.xc_model.specs.EntryEnds.{AreRecords, IsCaused, IsCommit, IsHeld, IsReport, cause_in, failures_with, next_claims}
+use Rattle.xc_model.specs.EntryEnds.{AreRecords, HasAbortCause, IsCommit, IsHeld, IsReport, cause_in, failures_with, next_claims}
 use Rattle.xc_model.specs.Grounds.{Part, AreGrounded, scene_of}
 use Rattle.xc_model.specs.Handles.{IsHandledJournal}
 use Rattle.xc_model.specs.InTime.{AreInTime}
@@ -76,7 +76,7 @@ HasRecordsOf t c last e (Aborted report) = HasReport t c last e report
 -- asked: a committed transaction's commit, or what led to the abort
 abbrev pub IsEndAsked : Ask → Entry → Outcome → Type 0
 IsEndAsked last e (Committed late) = last ≡ ask.Commit
-IsEndAsked last e (Aborted report) = IsCaused (all_records no_records e.calls e.replies) last report
+IsEndAsked last e (Aborted report) = HasAbortCause (all_records no_records e.calls e.replies) last report
 
 -- an entry of the job that stands so; `last` was asked after its replies
 pub record IsMachineEntry (t : Terms) (c : Course) (last : Ask) (f : Standing) (e : Entry) : Type 0 where

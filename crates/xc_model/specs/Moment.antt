@@ -15,9 +15,9 @@ use Rattle.xc_data.specs.declared.entry.JobEnd.{JobEnd}
 use Rattle.xc_data.specs.declared.entry.KeptItem.{KeptItem}
 use Rattle.xc_data.specs.declared.private.Private.{Private}
 use Rattle.xc_data.specs.declared.undo.Undo.{Undo}
-use Rattle.xc_data.specs.declared.script.Kind.{Kind}
+use Rattle.xc_data.specs.declared.script.HostCallKind.{HostCallKind}
 use Rattle.xc_compensate.specs.Records.{Records}
-use Rattle.xc_deferred.specs.Queue.{Queue, left}
+use Rattle.xc_deferred.specs.Queue.{Queue, late_calls_left}
 use Rattle.xc_host.specs.Contents.{Contents}
 use Rattle.xc_script.specs.Position.{Position}
 use Rattle.xc_world.specs.Run.{given_back}
@@ -88,7 +88,7 @@ pub record Moment : Type 0 where
   pub words : List ℕ
   pub contents : Contents
   pub faults : ℕ
-  pub calls : Kind → ℕ
+  pub calls : HostCallKind → ℕ
   pub kept : List KeptItem
   pub journal : List Entry
   pub jobs : List JobView
@@ -123,7 +123,7 @@ with_queue tx queue = record tx { late = queue.calls; ends = queue.ends }
 
 -- its late calls that have no end yet
 abbrev pub late_left : TxView → List LateCall
-late_left tx = left (queue_of tx)
+late_left tx = late_calls_left (queue_of tx)
 
 -- ---- attempts
 -- how many ended in a conflict
@@ -173,9 +173,9 @@ entering now at job entry =
     record (with_job now at job) { journal = now.journal ++ entry ∷ []; marks = unmarked now.marks entry.tx }
 
 -- and with more jobs, which have the next numbers
-abbrev pub joined : Moment → List JobView → Moment
-joined now more = record now { jobs = now.jobs ++ more }
+abbrev pub jobs_joined : Moment → List JobView → Moment
+jobs_joined now more = record now { jobs = now.jobs ++ more }
 
 -- the job, told to wait once more
-abbrev pub waiting : JobView → JobView
-waiting job = record job { busy = job.busy + 1 }
+abbrev pub asked_to_wait : JobView → JobView
+asked_to_wait job = record job { busy = job.busy + 1 }

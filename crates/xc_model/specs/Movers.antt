@@ -2,7 +2,7 @@
 use Rattle.std.specs.Prelude.{◌≡◌, ℕ, ◌≤◌, List, slice_get}
 use Rattle.std.specs.Prelude.{Option}
 use Rattle.std.specs.declared.option.Option.TheVariants.{Some}
-use Rattle.xc_data.specs.declared.script.Kind.{Kind}
+use Rattle.xc_data.specs.declared.script.HostCallKind.{HostCallKind}
 use Rattle.xc_host.specs.Cause.{IsCalled}
 use Rattle.xc_text.specs.Stated.{Statement}
 use Rattle.xc_script.specs.declared.ask.Ask.{Ask}
@@ -55,5 +55,5 @@ abbrev pub mover : Setting → ℕ → Moment → JobView → Mover
 mover s at old job = record { setting = s; at = at; old = old; job = job }
 
 -- the host was called so, from one moment to another
-abbrev pub HasCalled : (List Kind → Type 0) → Moment → Moment → Type 0
-HasCalled IsMade old new = (made : List Kind) × IsMade made × IsCalled made old.calls new.calls
+abbrev pub HasCalled : (List HostCallKind → Type 0) → Moment → Moment → Type 0
+HasCalled IsMade old new = (made : List HostCallKind) × IsMade made × IsCalled made old.calls new.calls

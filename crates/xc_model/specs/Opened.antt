@@ -1,7 +1,7 @@
 -- A station before its first turn.
 use Rattle.std.specs.Prelude.{◌≡◌, ℕ, List, [], map}
 use Rattle.std.specs.declared.option.Option.TheVariants.{None}
-use Rattle.xc_data.specs.declared.script.Kind.{Kind}
+use Rattle.xc_data.specs.declared.script.HostCallKind.{HostCallKind}
 use Rattle.xc_text.specs.declared.script.Script.{Script}
 use Rattle.xc_world.specs.Opening.{opening_handles}
 use Rattle.xc_world.specs.World.{beginning}
@@ -30,4 +30,4 @@ pub record IsOpening (script : Script) (now : Moment) : Type 0 where
   pub jobs : now.jobs ≡ map (opened_job script) script.outline.jobs
   pub started : now.started ≡ script.outline.jobs
   pub marks : (n : ℕ) → now.marks n ≡ None
-  pub calls : (kind : Kind) → now.calls kind ≡ 0
+  pub calls : (kind : HostCallKind) → now.calls kind ≡ 0

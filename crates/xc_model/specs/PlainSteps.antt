@@ -43,8 +43,8 @@ pub record Parts : Type 0 where
   pub undo : Records
 
 -- what a transaction sees: the world with the host's contents, its stores laid over the words
-abbrev pub seen : World → Contents → List (ℕ × ℕ) → World
-seen w contents stores = record (with_contents w contents) { words = overlaid w.words stores }
+abbrev pub contents_seen : World → Contents → List (ℕ × ℕ) → World
+contents_seen w contents stores = record (with_contents w contents) { words = overlaid w.words stores }
 
 -- from one world to another a call is the plain machine's, with the answer that its reply records
 pub record StepsAsPlain (worlds : Step World) (parts : Step Parts) (call : Call) (reply : Reply) : Type 0 where
@@ -56,7 +56,8 @@ pub record StepsAsPlain (worlds : Step World) (parts : Step Parts) (call : Call)
 abbrev pub StepsAsPlainIn : List ℕ → Step Contents → Step Parts → Call → Reply → Type 0
 StepsAsPlainIn words contents parts call reply =
     (w : World) → w.words ≡ words
-    → StepsAsPlain (record { old = seen w contents.old parts.old.stores; new = seen w contents.new parts.new.stores }) parts call reply
+    → StepsAsPlain (record
+    { old = contents_seen w contents.old parts.old.stores; new = contents_seen w contents.new parts.new.stores }) parts call reply
 
 -- these parts of a transaction
 abbrev pub tx_parts : TxView → Parts
@@ -123,7 +124,8 @@ pub record LeavesAsPlain (worlds : Step World) (parts : Parts) (asked : CallWith
 abbrev pub LeavesAsPlainIn : List ℕ → Step Contents → Parts → CallWithAnswer → List Undo → Type 0
 LeavesAsPlainIn words contents parts asked left =
     (w : World) → w.words ≡ words
-    → LeavesAsPlain (record { old = seen w contents.old parts.stores; new = seen w contents.new parts.stores }) parts asked left
+    → LeavesAsPlain
+    (record { old = contents_seen w contents.old parts.stores; new = contents_seen w contents.new parts.stores }) parts asked left
 
 -- a call that is asked left these records before memory ran out: with some answer it did its part
 abbrev pub LeavesPart : Moment → Moment → Parts → Ask → List Undo → Type 0

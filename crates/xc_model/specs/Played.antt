@@ -33,12 +33,12 @@ abbrev pub ran_behind : Progress → ℕ → TxView → BodyResult
 ran_behind p at tx = body p.state.world (private_of p.state (at + 1)) tx.number (asked_of tx.calls tx.replies)
 
 -- its late calls that have an end, with the answers that their ends tell of
-abbrev pub late_done : BodyResult → TxView → List (LateCall × LateAnswer)
-late_done ran tx = late_asked_of (take (length tx.ends) ran.late) tx.ends
+abbrev pub played_late : BodyResult → TxView → List (LateCall × LateAnswer)
+played_late ran tx = late_asked_of (take (length tx.ends) ran.late) tx.ends
 
 -- where they lead
-abbrev pub done_late : BodyResult → TxView → LateResult
-done_late ran tx = lates ran.world (late_done ran tx)
+abbrev pub played_late_result : BodyResult → TxView → LateResult
+played_late_result ran tx = lates ran.world (played_late ran tx)
 
 -- it gives what the transaction noted; `words` is the number of words
 pub record IsPlayedSoFar (s : Setting) (words : ℕ) (p : Progress) (at : ℕ) (tx : TxView) : Type 0 where
@@ -47,8 +47,8 @@ pub record IsPlayedSoFar (s : Setting) (words : ℕ) (p : Progress) (at : ℕ) (
   pub me : (ran_behind p at tx).me ≡ tx.me
   pub late : (ran_behind p at tx).late ≡ tx.late
   -- the late calls that are done ended as the plain machine's do
-  pub ends : (done_late (ran_behind p at tx) tx).ends ≡ tx.ends
-  pub late_fits : IsTrue (lates_fit (ran_behind p at tx).world (late_done (ran_behind p at tx) tx))
+  pub ends : (played_late_result (ran_behind p at tx) tx).ends ≡ tx.ends
+  pub late_fits : IsTrue (lates_fit (ran_behind p at tx).world (played_late (ran_behind p at tx) tx))
   pub records : RecordsFor (ran_behind p at tx) tx.number (asked_of_tx s (slice_get p.jobs at) tx) tx.phase
       (tx.undo.pending ++ map (λ r. r.0) tx.undo.ended)
   pub holds : HoldsFor (ran_behind p at tx) (asked_of_tx s (slice_get p.jobs at) tx) tx.phase tx.held

@@ -78,21 +78,21 @@ run_of state e late = run state.world (private_of state e.job) e.tx (asked_of e.
 
 -- ---- the jobs that an entry starts
 -- the block that a kept call with its end started
-abbrev pub started_by : Call → LateEnd → List (List ℕ)
-started_by (XThreadCreate block slot) end.Done = block ∷ []
+abbrev pub started_by_call : Call → LateEnd → List (List ℕ)
+started_by_call (XThreadCreate block slot) end.Done = block ∷ []
 -- no other call starts one, nor does one that was not done
-started_by _ _ = []
+started_by_call _ _ = []
 
 -- the blocks that kept calls with their ends started
 abbrev pub started_blocks : List Call → List LateEnd → List (List ℕ)
 started_blocks [] ends = []
 started_blocks (c ∷ calls) [] = []
-started_blocks (c ∷ calls) (e ∷ ends) = started_by c e ++ started_blocks calls ends
+started_blocks (c ∷ calls) (e ∷ ends) = started_by_call c e ++ started_blocks calls ends
 
 -- ---- after a commit: the whole run's world, the job's handles at its end, and the jobs it started
 -- with copies of these handles and of its variables, and with all slots unset
-abbrev pub with_job : List Following → ℕ → Following → List Following
-with_job jobs job f = slice_set jobs (job - 1) f
+abbrev pub with_following : List Following → ℕ → Following → List Following
+with_following jobs job f = slice_set jobs (job - 1) f
 
 -- the state, where a job's run started these blocks
 abbrev pub committed_state : State → ℕ → Run → List (List ℕ) → State
@@ -107,8 +107,8 @@ abbrev pub started_from : Script → Variables → List ℕ → Job
 started_from script variables block = record { block = block_place script block; next = 0; variables = handed_on script variables }
 
 -- the job of a block that was started
-abbrev pub started_job : Script → Job → ℕ → List ℕ → Following
-started_job script starter since block =
+abbrev pub started_following : Script → Job → ℕ → List ℕ → Following
+started_following script starter since block =
     untried block (started_from script starter.variables block) since
 
 -- the job after a commit: at its next transaction, where the slots of the kept calls have taken their ends
@@ -118,13 +118,13 @@ committed_job script job calls replies late =
     record behind { variables = with_ends behind.variables (kept_calls calls replies) late }
 
 -- what a committed entry of a job leads to
-abbrev pub after_commit : Script → Progress → Following → Entry → List LateEnd → Progress
-after_commit script p f e late =
+abbrev pub progress_after_commit : Script → Progress → Following → Entry → List LateEnd → Progress
+progress_after_commit script p f e late =
     let blocks = started_blocks (kept_calls e.calls e.replies) late in
     let job = committed_job script f.job e.calls e.replies late in
     record {
       state = committed_state p.state e.job (run_of p.state e late) blocks;
-      jobs = with_job p.jobs e.job (untried f.block job (p.entered + 1)) ++ map (started_job script job (p.entered + 1)) blocks;
+      jobs = with_following p.jobs e.job (untried f.block job (p.entered + 1)) ++ map (started_following script job (p.entered + 1)) blocks;
       entered = p.entered;
       words = p.words;
     }
@@ -137,19 +137,19 @@ following_abort entered f e cause.NoMemory = record f { starved = true; since = 
 following_abort entered f e c = record f { first = Some (unwrap_or f.first e.tx); failed = f.failed ++ c ∷ []; since = entered + 1 }
 
 -- what an aborted entry of a job leads to
-abbrev pub after_abort : Progress → Following → Entry → Report → Progress
-after_abort p f e report =
+abbrev pub progress_after_abort : Progress → Following → Entry → Report → Progress
+progress_after_abort p f e report =
     record {
       state = record p.state { world = with_remains p.state.world (remains report.records) };
-      jobs = with_job p.jobs e.job (following_abort p.entered f e report.cause);
+      jobs = with_following p.jobs e.job (following_abort p.entered f e report.cause);
       entered = p.entered;
       words = p.words;
     }
 
 -- what an entry with this outcome leads to
 abbrev pub after_outcome : Script → Progress → Following → Entry → Outcome → Progress
-after_outcome script p f e (Committed late) = after_commit script p f e late
-after_outcome script p f e (Aborted report) = after_abort p f e report
+after_outcome script p f e (Committed late) = progress_after_commit script p f e late
+after_outcome script p f e (Aborted report) = progress_after_abort p f e report
 
 -- the job that an entry is of
 abbrev pub following_of : Progress → Entry → Option Following

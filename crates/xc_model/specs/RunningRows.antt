@@ -35,7 +35,7 @@ use Rattle.xc_model.specs.declared.phase.Phase.TheVariants.{Running, Committing,
 use Rattle.xc_model.specs.WordCalls.{IsWordStep}
 use Rattle.xc_model.specs.Moment.{TxView, Moment}
 use Rattle.xc_model.specs.Moment.{with_job}
-use Rattle.xc_model.specs.Moment.{revoked, waiting, kept_between, TouchesData}
+use Rattle.xc_model.specs.Moment.{revoked, asked_to_wait, kept_between, TouchesData}
 use Rattle.xc_model.specs.Movers.{asked_at, IsSameBegin, IsSamePosition, with_tx, Mover, HasCalled}
 use Rattle.xc_model.specs.Rivals.{HasNoRival, IsFirstRival}
 use Rattle.xc_model.specs.PlainSteps.{Parts, StepsAsPlainIn, tx_parts, noting, stored_by, claims_at, IsReplyInTime, StopsAt, saved_by}
@@ -48,8 +48,8 @@ mark_behind Backing None new = Some new
 mark_behind phase kept new = kept
 
 -- the marks, where this transaction takes this one
-abbrev pub marked : (ℕ → Option Mark) → TxView → Mark → ℕ → Option Mark
-marked marks tx new n = if nat_eq n tx.number then mark_behind tx.phase (marks n) new else marks n
+abbrev pub marks_with : (ℕ → Option Mark) → TxView → Mark → ℕ → Option Mark
+marks_with marks tx new n = if nat_eq n tx.number then mark_behind tx.phase (marks n) new else marks n
 
 -- the values of the variables where the next call is asked
 abbrev pub values_at : Mover → Values
@@ -137,8 +137,8 @@ module _ (m : Mover) (tx : TxView) where
     pub patient : m.job.busy < m.setting.rules.patience
     pub place : Position
     pub same : IsSamePosition m.setting m.job.place place
-    pub behind : new ≡ record (with_job m.old m.at (waiting (with_tx m.job place tx))) {
-      marks = marked m.old.marks met.rival.rival (record { object = object; by = tx.number; at = length m.old.journal });
+    pub behind : new ≡ record (with_job m.old m.at (asked_to_wait (with_tx m.job place tx))) {
+      marks = marks_with m.old.marks met.rival.rival (record { object = object; by = tx.number; at = length m.old.journal });
     }
 
   -- it is revoked, as its mark says

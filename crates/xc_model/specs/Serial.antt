@@ -18,9 +18,9 @@ is_alone (Aborted report) = not (is_tried_again report.cause)
 
 -- each entry began at its own place, the numbers rise by one, and no transaction met another; the first of these
 -- entries stands at this place
-abbrev pub AreInOrder : ℕ → List Entry → Type 0
-AreInOrder place [] = Unit {0}
-AreInOrder place (e ∷ journal) = (e.tx ≡ place + 1) × (e.began ≡ place) × (is_alone e.outcome ≡ true) × AreInOrder (place + 1) journal
+abbrev pub AreSerial : ℕ → List Entry → Type 0
+AreSerial place [] = Unit {0}
+AreSerial place (e ∷ journal) = (e.tx ≡ place + 1) × (e.began ≡ place) × (is_alone e.outcome ≡ true) × AreSerial (place + 1) journal
 
 -- the jobs' numbers never fall
 abbrev pub JobsRise : List Entry → Type 0
@@ -28,7 +28,7 @@ JobsRise journal = (i j : ℕ) (a b : Entry) → slice_get journal i ≡ Some a 
 
 -- a journal of jobs that ran one after another
 pub record IsSerial (journal : List Entry) : Type 0 where
-  pub order : AreInOrder 0 journal
+  pub order : AreSerial 0 journal
   pub jobs : JobsRise journal
 
 -- ---- how transactions ended

@@ -16,8 +16,8 @@ abbrev pub started_by : TxView → List (List ℕ)
 started_by tx = started_late tx.late tx.ends
 
 -- how many
-abbrev pub starting : TxView → ℕ
-starting tx = length (started_by tx)
+abbrev pub start_count : TxView → ℕ
+start_count tx = length (started_by tx)
 
 -- it starts a job where it is done
 abbrev pub is_start : LateCall → Bool
@@ -32,8 +32,8 @@ abbrev pub blocks : List JobView → List (List ℕ)
 blocks jobs = map (λ (job : JobView). job.block) jobs
 
 -- the late calls of this transaction that start jobs ended so far as they must, from these blocks of started jobs on
-abbrev pub HasStarts : Script → List (List ℕ) → TxView → Type 0
-HasStarts script was tx = AreStarts script was (map thread_in tx.late) tx.ends
+abbrev pub HasStartEnds : Script → List (List ℕ) → TxView → Type 0
+HasStartEnds script was tx = AreStarts script was (map thread_in tx.late) tx.ends
 
 -- the started jobs are those that are live or have ended, and after them those that active transactions have started; no more
 -- than 1,000. Whoever keeps a start holds the jobs exclusively, so that one transaction at most has started some
@@ -42,4 +42,4 @@ pub record AreStarted (script : Script) (now : Moment) : Type 0 where
   pub few : length now.started ≤ 1000
   pub holds : (j : ℕ) (tx : TxView) → IsActiveAt now.jobs j tx → keeps_start tx ≡ true → Contains (owned tx.held) object.Jobs
   -- each start has its end by the script's blocks and by how many were started before it
-  pub starts : (j : ℕ) (tx : TxView) → IsActiveAt now.jobs j tx → HasStarts script (blocks now.jobs) tx
+  pub starts : (j : ℕ) (tx : TxView) → IsActiveAt now.jobs j tx → HasStartEnds script (blocks now.jobs) tx

@@ -47,8 +47,8 @@ pub record IsInNextTx (f : Following) (place : Position) : Type 0 where
   pub begun : place.begun ≡ f.job.variables
 
 -- the job stands after its transaction's replies
-abbrev pub IsAhead : Setting → Following → Position → TxView → Type 0
-IsAhead s f place tx =
+abbrev pub StandsAfterReplies : Setting → Following → Position → TxView → Type 0
+StandsAfterReplies s f place tx =
     record { walk = walk_of s.script place; saved = place.saved } ≡ all_replied (block_from s.script f.job) tx.replies
 
 -- the records at an open block's save are among those that have no end
@@ -63,14 +63,14 @@ IsSidedSave (Some kept) = All IsSided kept.places
 
 -- a running one: no compensation was tried
 pub record IsRunning (s : Setting) (f : Following) (place : Position) (tx : TxView) : Type 0 where
-  pub ahead : IsAhead s f place tx
+  pub ahead : StandsAfterReplies s f place tx
   pub none : tx.undo.ended ≡ []
   pub no_ends : tx.ends ≡ []
   pub within : IsWithinSave tx.saved tx.undo.pending
 
 -- a committing one: its commit was asked, and the job stands where its walk does
 pub record IsCommitting (s : Setting) (f : Following) (place : Position) (tx : TxView) : Type 0 where
-  pub ahead : IsAhead s f place tx
+  pub ahead : StandsAfterReplies s f place tx
   pub asked : asks (walk_of s.script place) ≡ ask.Commit
   pub settled : IsPastSilent s.script place
   pub none : tx.undo.ended ≡ []
@@ -90,7 +90,7 @@ IsAboveSave (Some kept) pending = length kept.trail ≤ length pending
 
 -- one whose block goes back: the back is asked, and each compensation so far undid its record
 pub record IsBacking (s : Setting) (f : Following) (place : Position) (tx : TxView) : Type 0 where
-  pub ahead : IsAhead s f place tx
+  pub ahead : StandsAfterReplies s f place tx
   pub asked : asks (walk_of s.script place) ≡ ask.Call call.Back
   pub settled : IsPastSilent s.script place
   pub legal : AreLegal s.rules.undo_tries (length tx.undo.pending + 1) tx.undo.ended

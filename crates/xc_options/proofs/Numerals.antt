@@ -7,10 +7,10 @@ use Rattle.clap.specs.Values.{IsUnsignedIn}
 use Rattle.clap.specs.ValueTests.{is_unsigned_in}
 use Rattle.clap.specs.declared.builder.value_parser.ValueParser.TheVariants.{Unsigned}
 use Rattle.clap.proofs.ValueTestLemmas.{Accepts-accepts, accepts-Accepts}
-use Rattle.xc_options.specs.Options.{number_in}
+use Rattle.xc_options.specs.Options.{number_between}
 
 -- a text that no number from `least` to `most` is spelled by
-refused : (least most : ℕ) (text : List ℕ) → (IsUnsignedIn least most text → ⊥) → number_in least most text ≡ None
+refused : (least most : ℕ) (text : List ℕ) → (IsUnsignedIn least most text → ⊥) → number_between least most text ≡ None
 refused least most text lacks = by_test (is_unsigned_in least most text) refl
   where
     by_test : (t : Bool) → is_unsigned_in least most text ≡ t
@@ -20,18 +20,18 @@ refused least most text lacks = by_test (is_unsigned_in least most text) refl
 
 module _ {E : Type 0} (least most : ℕ) (text : List ℕ) where
   -- a number that is read counts where it is within the bounds
-  pub number_in-inside : (r : Result ℕ E) → ParsesUnsigned 32 10 text r → (n : ℕ) → result_ok r ≡ Some n → least ≤ n → n ≤ most
-      → number_in least most text ≡ Some n
-  number_in-inside (Ok m) reads n is low high =
+  pub number_between-inside : (r : Result ℕ E) → ParsesUnsigned 32 10 text r → (n : ℕ) → result_ok r ≡ Some n → least ≤ n → n ≤ most
+      → number_between least most text ≡ Some n
+  number_between-inside (Ok m) reads n is low high =
       let same : m ≡ n = cc in
       let inside : IsUnsignedIn least most text =
       (reads.0.0, omega (arith, reads.0.1), omega (arith, low, same, reads.1), omega (arith, high, same, reads.1)) in
       ap (λ (t : Bool). if t then Some (digits_value 10 (without_leading_plus text)) else None)
       (Accepts-accepts false (Unsigned least most) text inside) ∙ ap Some (sym reads.1 ∙ same)
-  number_in-inside (Err e) reads n is low high = absurd cc
+  number_between-inside (Err e) reads n is low high = absurd cc
 
   -- a text that isn't read spells none
   pub number_in-unread : (r : Result ℕ E) → ParsesUnsigned 32 10 text r → result_ok r ≡ None → most < 2 ^ 32
-      → number_in least most text ≡ None
+      → number_between least most text ≡ None
   number_in-unread (Ok m) reads is few = absurd cc
   number_in-unread (Err e) reads is few = refused least most text (λ inside. reads (inside.0, omega (arith, few, inside.3)))

@@ -22,13 +22,13 @@ given_by app words = if is_empty (fault_of app words) then Some (λ id. first_of
 
 -- ---- numbers
 -- the number that a text spells, in digits that a plus may lead, where it is from `least` to `most`
-abbrev pub number_in : ℕ → ℕ → Text → Option ℕ
-number_in least most text = if is_unsigned_in least most text then Some (digits_value 10 (without_leading_plus text)) else None
+abbrev pub number_between : ℕ → ℕ → Text → Option ℕ
+number_between least most text = if is_unsigned_in least most text then Some (digits_value 10 (without_leading_plus text)) else None
 
 -- the number that an option's text spells, or its default
 abbrev pub number_given : ℕ → ℕ → ℕ → Option Text → Option ℕ
 number_given default least most None = Some default
-number_given default least most (Some text) = number_in least most text
+number_given default least most (Some text) = number_between least most text
 
 -- ---- the rules of a run
 -- how often one transaction is tried

@@ -3,13 +3,13 @@
 ghost use Rattle.std.specs.Prelude.{◌≡◌, IfSome};
 ghost use Rattle.clap.specs.Words.{first_value, found_of};
 ghost use Rattle.xc_settings.specs.Options.{IsBetween};
-ghost use Rattle.xc_options.specs.Options.{number_given, number_in};
+ghost use Rattle.xc_options.specs.Options.{number_given, number_between};
 
 use clap::ArgMatches;
 
 /// The number that a text spells, where it is from `least` to `most`. A plus may lead its digits, and so may zeros.
 pub fn number_of(text: &str, least: u32, most: u32) -> Option<u32>
-    ensures value { result ≡ number_in least most text.now }
+    ensures value { result ≡ number_between least most text.now }
     ensures bounds { IfSome result (IsBetween least most) }
 {
     let number = text.parse::<u32>().ok()?;

@@ -13,11 +13,11 @@ use Rattle.xc_data.specs.declared.entry.JobLine.{JobLine}
 use Rattle.xc_edge.specs.Streams.{AppendsWhole}
 use Rattle.xc_edge.specs.View.{StreamView}
 use Rattle.xc_host.specs.Model.{HostModel}
-use Rattle.xc_model.specs.Ending.{IsEnd, AreEnds, is_done, all_done, is_memory, is_starved, some_late_starved}
+use Rattle.xc_model.specs.Ending.{IsEnd, AreEnds, is_done_end, all_done, is_memory, is_starved, some_late_starved}
 use Rattle.xc_model.specs.Progress.{Following, progress_of}
 use Rattle.xc_model.specs.Setting.{Setting, setting}
 use Rattle.xc_model.specs.declared.rules.Rules.{Rules}
-use Rattle.xc_station.specs.declared.start.End.{End}
+use Rattle.xc_station.specs.declared.run_result.End.{End}
 use Rattle.xc_text.specs.Scripts.{parse_of}
 use Rattle.xc_text.specs.declared.script.Script.{Script}
 use Rattle.xc_tokens.specs.declared.why.Why.{Why}
@@ -169,7 +169,7 @@ or_false true b h = let no : true ≡ false = h in cc
 or_false false b h = (refl, h)
 
 done_end : (s : Setting) (entries : ℕ) (f : Following) (end : JobEnd) → IsEnd s entries f end → is_memory end ≡ false → is_given_up end ≡ false
-    → is_done end ≡ true
+    → is_done_end end ≡ true
 done_end s entries f job_end.Done h e d = refl
 done_end s entries f (job_end.GaveUp c) h e d = cc
 done_end s entries f job_end.JournalFull h e d = cc

@@ -12,15 +12,15 @@ use Rattle.xc_data.specs.declared.entry.JobEnd.TheVariants as job_end
 use Rattle.xc_data.specs.declared.entry.JobLine.{JobLine}
 use Rattle.xc_edge.specs.View.{StreamView}
 use Rattle.xc_host.specs.Model.{HostModel}
-use Rattle.xc_model.specs.Ending.{IsTrueEnd, StopWhereFull, all_done, is_done}
+use Rattle.xc_model.specs.Ending.{IsTrueEnd, StopWhereFull, all_done, is_done_end}
 use Rattle.xc_model.specs.Handles.{AreCalled}
 use Rattle.xc_model.specs.Progress.{opening_progress}
 use Rattle.xc_model.specs.Serial.{IsSerial}
 use Rattle.xc_model.specs.Setting.{Setting, setting}
 use Rattle.xc_model.specs.declared.rules.Rules.{Rules}
 use Rattle.xc_serial.proofs.Laws.{all_are_done, plain_end, nothing_remains}
-use Rattle.xc_station.specs.declared.start.End.{End}
-use Rattle.xc_station.specs.declared.start.Opening.{Opening}
+use Rattle.xc_station.specs.declared.run_result.End.{End}
+use Rattle.xc_station.specs.declared.run_result.Opening.{Opening}
 use Rattle.xc_station.specs.Stations.{StationView, KeepsOrigin, RanAlone}
 use Rattle.xc_turns.proofs.Laws.{journal_accounts, alone_stops, joint_of_parts}
 use Rattle.xc_outcome.specs.declared.choice.Choice.{Choice}
@@ -99,10 +99,10 @@ is_run model choice chosen source host first last end chose prepared origin left
 none_gave_up : (lines : List JobLine) → all_done lines ≡ true → list_any gives_up lines ≡ false
 none_gave_up [] done = refl
 none_gave_up (line ∷ lines) done =
-    let parts = and_parts (is_done line.end) (all_done lines) done in
+    let parts = and_parts (is_done_end line.end) (all_done lines) done in
     ap (λ b. b || list_any gives_up lines) (by_end line.end parts.0) ∙ none_gave_up lines parts.1
   where
-    by_end : (d : JobEnd) → is_done d ≡ true → is_given_up d ≡ false
+    by_end : (d : JobEnd) → is_done_end d ≡ true → is_given_up d ≡ false
     by_end job_end.Done is = refl
     by_end (job_end.GaveUp c) is = cc
     by_end job_end.JournalFull is = cc

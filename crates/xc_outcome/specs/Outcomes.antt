@@ -12,7 +12,7 @@ use Rattle.xc_model.specs.Handles.{AreCalled}
 use Rattle.xc_model.specs.Opened.{IsOpening}
 use Rattle.xc_model.specs.Setting.{setting}
 use Rattle.xc_model.specs.declared.rules.Rules.{Rules}
-use Rattle.xc_station.specs.declared.start.End.{End}
+use Rattle.xc_station.specs.declared.run_result.End.{End}
 use Rattle.xc_station.specs.Jobs.{job_views}
 use Rattle.xc_station.specs.Stations.{StationView, now_of}
 use Rattle.xc_text.specs.Scripts.{parse_of}

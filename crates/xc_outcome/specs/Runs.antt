@@ -22,7 +22,7 @@ use Rattle.xc_model.specs.Setting.{setting}
 use Rattle.xc_model.specs.declared.rules.Rules.{Rules}
 use Rattle.xc_print.specs.Text.{rendered}
 use Rattle.xc_serial.specs.Plain.{plain_text}
-use Rattle.xc_station.specs.declared.start.End.{End}
+use Rattle.xc_station.specs.declared.run_result.End.{End}
 use Rattle.xc_text.specs.Scripts.{parse_of}
 use Rattle.xc_text.specs.declared.script.Script.{Script}
 use Rattle.xc_tokens.specs.declared.why.Why.{Why}

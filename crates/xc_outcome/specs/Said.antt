@@ -14,7 +14,7 @@ use Rattle.xc_model.specs.Ending.{IsComplete}
 use Rattle.xc_print.specs.Totals.{totals_of}
 use Rattle.xc_serial.specs.Plain.{plain_text}
 use Rattle.xc_serial.specs.Undisturbed.{all_alone, is_full}
-use Rattle.xc_station.specs.declared.start.End.{End}
+use Rattle.xc_station.specs.declared.run_result.End.{End}
 use Rattle.xc_tokens.specs.declared.why.Why.{Why}
 use Rattle.xc_outcome.specs.declared.choice.Choice.{Choice}
 use Rattle.xc_outcome.specs.declared.finish.Finish.{Finish}
@@ -112,8 +112,8 @@ IsWritten meant ends due old new =
     ((ends ≡ meant) × AppendsWhole old new due) ⊎ ((ends ≡ status.WriteFault) × AppendsPart old new due × HasFailed old new)
 
 -- what is due with this status was written, or a front of it
-abbrev pub IsSaid : {H : Type 0} → List ℕ → Option ℕ → Status → Finish H → Step StreamView → Type 0
-IsSaid usage seed meant finish sink =
+abbrev pub IsDueSaid : {H : Type 0} → List ℕ → Option ℕ → Status → Finish H → Step StreamView → Type 0
+IsDueSaid usage seed meant finish sink =
     (due : List ℕ) × IsDue usage seed meant finish.end due × IsWritten meant finish.status due sink.old sink.new
 
 -- a source and a sink, before and after
@@ -125,7 +125,7 @@ pub record Edges : Type 0 where
 abbrev pub IsAnswered : {H : Type 0} → Option Choice → List ℕ → Bool → Edges → Finish H → Type 0
 IsAnswered choice usage takes_scripts edges finish =
     (meant : Status) × IsCaused choice takes_scripts edges.source meant × IsDoneWith meant finish.end
-    × IsSaid usage (chosen_seed choice) meant finish edges.sink
+    × IsDueSaid usage (chosen_seed choice) meant finish edges.sink
 
 -- without the words of the command line: the line of status 2 or of status 5 is written, or a front of it
 abbrev pub IsWordless : List ℕ → Status → Step StreamView → Type 0

@@ -2,7 +2,7 @@
 
 ghost use Rattle.std.specs.Prelude.{◌≡◌, ◌≤◌, ℕ, IfOk, List, None, Some, length};
 ghost use Rattle.xc_station.specs.Stations.{NobodyLives};
-ghost use Rattle.xc_station.specs.declared.start.End.{End as PlainEnd};
+ghost use Rattle.xc_station.specs.declared.run_result.End.{End as PlainEnd};
 ghost use Rattle.xc_outcome.specs.Due.{due_bytes};
 ghost use Rattle.xc_outcome.specs.Outcomes.{IsEndOf, IsWrittenAs};
 ghost use Rattle.xc_outcome.specs.Runs.{written_of};

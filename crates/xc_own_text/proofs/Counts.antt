@@ -82,9 +82,9 @@ as_many_replies s (c ∷ calls) [] h = absurd h
 as_many_replies s (c ∷ calls) (r ∷ replies) h = omega (arith, as_many_replies (word_step s c) calls replies h.1)
 
 -- each entry of a true journal has as many as calls
-pub all_answered : (t : Terms) (c : Course) (lasts : List Ask) (journal : List Entry) → AreMachineTrue t c lasts journal
+pub each_answered : (t : Terms) (c : Course) (lasts : List Ask) (journal : List Entry) → AreMachineTrue t c lasts journal
     → AllByRecursion (λ (e : Entry). length e.replies ≡ length e.calls) journal
-all_answered t c lasts [] h = tt
-all_answered t c [] (e ∷ journal) h = absurd h
-all_answered t c (last ∷ lasts) (e ∷ journal) h =
-    (as_many_replies (begin_words c.words) e.calls e.replies h.0.entry.replies.words, all_answered t (after_course c e) lasts journal h.1)
+each_answered t c lasts [] h = tt
+each_answered t c [] (e ∷ journal) h = absurd h
+each_answered t c (last ∷ lasts) (e ∷ journal) h =
+    (as_many_replies (begin_words c.words) e.calls e.replies h.0.entry.replies.words, each_answered t (after_course c e) lasts journal h.1)

@@ -8,10 +8,10 @@ use Rattle.xc_host.specs.Model.{HostModel}
 use Rattle.xc_model.specs.Setting.{setting}
 use Rattle.xc_model.specs.declared.rules.Rules.{Rules}
 use Rattle.xc_outcome.specs.Runs.{IsEndOver, end_text}
-use Rattle.xc_station.specs.declared.start.End.{End}
+use Rattle.xc_station.specs.declared.run_result.End.{End}
 use Rattle.xc_text.proofs.Laws.{in_limits, parsed}
 use Rattle.xc_text.specs.Scripts.{parse_of}
-use Rattle.xc_own_text.proofs.Counts.{all_answered, as_many_words}
+use Rattle.xc_own_text.proofs.Counts.{each_answered, as_many_words}
 use Rattle.xc_text.specs.declared.script.Script.{Script}
 
 -- the script that bytes are read as is one
@@ -66,4 +66,4 @@ module _ {H : Type 0} (model : HostModel H) (rules : Rules) (host : H) (end : En
       )
 
   pub own_replies : AllByRecursion (λ (e : Entry). length e.replies ≡ length e.calls) end.journal.items
-  own_replies = all_answered _ _ over.whole.journal.lasts end.journal.items over.whole.journal.machine.entries
+  own_replies = each_answered _ _ over.whole.journal.lasts end.journal.items over.whole.journal.machine.entries

@@ -2,7 +2,7 @@ ghost use Rattle.std.specs.Prelude.{◌≡◌, ℕ, List, IsTrue, Ok};
 ghost use Rattle.xc_check.specs.TrueTexts.{IsTrueText, telling};
 ghost use Rattle.xc_model.specs.declared.rules.Rules.{Rules};
 ghost use Rattle.xc_outcome.specs.Runs.{IsRunOf, end_text};
-ghost use Rattle.xc_station.specs.declared.start.End.{End};
+ghost use Rattle.xc_station.specs.declared.run_result.End.{End};
 ghost use Rattle.xc_text.specs.Scripts.{parse_of};
 ghost use Rattle.xc_text.specs.declared.script.Script.{Script};
 

@@ -48,8 +48,8 @@ nothing_there : (tx : ℕ) (spot : Spot) → map.get {R = num_cmp} map.empty (ke
 nothing_there tx spot e = true≢false (sym (ap (λ (o : Option Spot). is_some o) (sym (get-empty num_cmp (key_of tx)) ∙ e)))
 
 -- a place found is that of a bar
-pub found : (bars : List Bar) (tx : ℕ) (spot : Spot) → rival_spot (spots_with map.empty bars) (Some tx) ≡ Some spot → IsSpotAmong tx spot bars
-found bars tx spot e = either (found_from map.empty bars tx spot e)
+pub spot_found : (bars : List Bar) (tx : ℕ) (spot : Spot) → rival_spot (spots_with map.empty bars) (Some tx) ≡ Some spot → IsSpotAmong tx spot bars
+spot_found bars tx spot e = either (found_from map.empty bars tx spot e)
   where
     either : ((map.get {R = num_cmp} map.empty (key_of tx) ≡ Some spot) ⊎ IsSpotAmong tx spot bars) → IsSpotAmong tx spot bars
     either (inl there) = absurd (nothing_there tx spot there)

@@ -12,8 +12,8 @@ use Rattle.xc_picture.specs.declared.scene.Bar.{Bar}
 use Rattle.xc_picture.specs.declared.scene.LaneName.{LaneName}
 use Rattle.xc_picture.specs.declared.scene.Scene.{Scene}
 use Rattle.xc_picture.specs.declared.shapes.Area.{Area}
-use Rattle.xc_picture.specs.declared.shapes.Look.{Look}
-use Rattle.xc_picture.specs.declared.shapes.Look.TheVariants as look
+use Rattle.xc_picture.specs.declared.shapes.ShapeStyle.{ShapeStyle}
+use Rattle.xc_picture.specs.declared.shapes.ShapeStyle.TheVariants as look
 use Rattle.xc_picture.specs.declared.shapes.Point.{Point}
 
 -- ---- where bars are
@@ -37,18 +37,18 @@ mark_area place bar = record {
 
 -- ---- bars
 -- a mark, where there is something to mark
-unfoldable pub mark_if : Bool → Area → Look → List ℕ → List Element
+unfoldable pub mark_if : Bool → Area → ShapeStyle → List ℕ → List Element
 mark_if false area look tip = []
 mark_if true area look tip = Rect area look tip ∷ []
 
 -- the marks of a bar
-abbrev pub marks_of : Bar → List Element
-marks_of bar = mark_if bar.late (mark_area 0 bar) look.Late (codes "late calls") ++
+abbrev pub marks_drawn : Bar → List Element
+marks_drawn bar = mark_if bar.late (mark_area 0 bar) look.Late (codes "late calls") ++
     mark_if bar.faults (mark_area 1 bar) look.Faults (codes "faults") ++
     mark_if bar.remains (mark_area 2 bar) look.Remains (codes "something remains")
 
 -- how a bar looks
-abbrev pub bar_look : Bool → Look
+abbrev pub bar_look : Bool → ShapeStyle
 bar_look true = look.Committed
 bar_look false = look.Aborted
 
@@ -62,7 +62,7 @@ tx_point bar = record { x = column_x bar.from + 3; y = lane_y (lane_of bar.job) 
 
 -- the elements of a bar
 unfoldable pub bar_elements : Bar → List Element
-bar_elements bar = Rect (bar_area bar) (bar_look bar.committed) bar.tip ∷ Label (tx_point bar) (tx_name bar.tx) ∷ marks_of bar
+bar_elements bar = Rect (bar_area bar) (bar_look bar.committed) bar.tip ∷ Label (tx_point bar) (tx_name bar.tx) ∷ marks_drawn bar
 
 -- those of bars
 abbrev pub bars_elements : List Bar → List Element

@@ -1,23 +1,23 @@
 -- The elements of a picture, and their texts.
 use Rattle.std.specs.Prelude.{ℕ, List, [], ◌∷◌, ◌++◌, codes}
 use Rattle.std.specs.Fmt.{decimal}
-use Rattle.xc_picture.specs.Escapes.{escaped}
+use Rattle.xc_picture.specs.Escapes.{svg_escaped}
 use Rattle.xc_picture.specs.declared.shapes.Area.{Area}
-use Rattle.xc_picture.specs.declared.shapes.Look.{Look}
-use Rattle.xc_picture.specs.declared.shapes.Look.TheVariants as look
+use Rattle.xc_picture.specs.declared.shapes.ShapeStyle.{ShapeStyle}
+use Rattle.xc_picture.specs.declared.shapes.ShapeStyle.TheVariants as look
 use Rattle.xc_picture.specs.declared.shapes.Point.{Point}
 
 -- an element: its bytes aren't escaped yet
 pub data Element : Type 0 where
   -- a rectangle with a tooltip
-  Rect : Area → Look → List ℕ → Element
+  Rect : Area → ShapeStyle → List ℕ → Element
   -- a line from a point to one where its head is
   Arrow : Point → Point → Element
   -- a text that begins at a point
   Label : Point → List ℕ → Element
 
 -- the word that the style knows a look by
-abbrev pub look_name : Look → List ℕ
+abbrev pub look_name : ShapeStyle → List ℕ
 look_name look.Committed = codes "committed"
 look_name look.Aborted = codes "aborted"
 look_name look.Late = codes "late"
@@ -41,9 +41,10 @@ point_text at = codes " x=\"" ++ decimal at.x ++ codes "\" y=\"" ++ decimal at.y
 -- the text of an element, a line for each
 abbrev pub element_text : Element → List ℕ
 element_text (Rect area look tip) =
-    codes "<rect class=\"" ++ look_name look ++ codes "\"" ++ area_text area ++ codes "><title>" ++ escaped tip ++ codes "</title></rect>\n"
+    codes "<rect class=\"" ++ look_name look ++ codes "\"" ++ area_text area ++ codes "><title>" ++ svg_escaped tip
+    ++ codes "</title></rect>\n"
 element_text (Arrow from to) = codes "<line class=\"arrow\"" ++ ends_text from to ++ codes "/>\n"
-element_text (Label at text) = codes "<text" ++ point_text at ++ codes ">" ++ escaped text ++ codes "</text>\n"
+element_text (Label at text) = codes "<text" ++ point_text at ++ codes ">" ++ svg_escaped text ++ codes "</text>\n"
 
 -- the texts of elements in their order
 abbrev pub elements_text : List Element → List ℕ

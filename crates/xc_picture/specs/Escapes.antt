@@ -12,8 +12,8 @@ abbrev pub is_safe : ℕ → Bool
 is_safe b = is_printable b && not (b == 34) && not (b == 60) && not (b == 62)
 
 -- whether a byte stands for itself
-abbrev pub is_plain : ℕ → Bool
-is_plain b = is_safe b && not (b == 38)
+abbrev pub is_svg_plain : ℕ → Bool
+is_svg_plain b = is_safe b && not (b == 38)
 
 -- whether bytes are the rest of a reference: letters, digits and number signs, and a semicolon at the end
 abbrev pub is_reference_rest : List ℕ → Bool
@@ -22,9 +22,9 @@ is_reference_rest (b ∷ rest) = b == 59 && (length rest == 0) ||
     (nat_le 48 b && nat_le b 57 || nat_le 97 b && nat_le b 122 || b == 35) && is_reference_rest rest
 
 -- whether bytes are one plain byte, or a reference: an ampersand and its rest
-abbrev pub is_escape : List ℕ → Bool
-is_escape [] = false
-is_escape (b ∷ rest) = is_plain b && (length rest == 0) || b == 38 && is_reference_rest rest
+abbrev pub is_svg_escape : List ℕ → Bool
+is_svg_escape [] = false
+is_svg_escape (b ∷ rest) = is_svg_plain b && (length rest == 0) || b == 38 && is_reference_rest rest
 
 -- whether a byte is a character that XML doesn't allow
 abbrev pub is_barred : ℕ → Bool
@@ -35,11 +35,11 @@ abbrev pub reference : ℕ → List ℕ
 reference b = if is_barred b then codes "&#65533;" else codes "&#x" ++ digit_glyph false (b / 16) ∷ digit_glyph false (b % 16) ∷ codes ";"
 
 -- a byte in the text of a picture
-abbrev pub escaped_byte : ℕ → List ℕ
-escaped_byte b = if b == 34 then codes "&quot;" else if b == 38 then codes "&amp;" else if b == 60 then codes "&lt;"
+abbrev pub svg_escaped_byte : ℕ → List ℕ
+svg_escaped_byte b = if b == 34 then codes "&quot;" else if b == 38 then codes "&amp;" else if b == 60 then codes "&lt;"
     else if b == 62 then codes "&gt;" else if is_printable b then b ∷ [] else reference b
 
 -- bytes in the text of a picture
-abbrev pub escaped : List ℕ → List ℕ
-escaped [] = []
-escaped (b ∷ bs) = escaped_byte b ++ escaped bs
+abbrev pub svg_escaped : List ℕ → List ℕ
+svg_escaped [] = []
+svg_escaped (b ∷ bs) = svg_escaped_byte b ++ svg_escaped bs

@@ -37,9 +37,9 @@ is_inner (line.Held claims) = true
 is_inner _ = false
 
 -- whether a line tells how a late call ended
-abbrev pub is_late : Line → Bool
-is_late (line.Late number end) = true
-is_late _ = false
+abbrev pub is_late_line : Line → Bool
+is_late_line (line.Late number end) = true
+is_late_line _ = false
 
 -- whether a line tells of a fault
 abbrev pub tells_fault : Line → Bool
@@ -78,7 +78,7 @@ bar_of number head lines = record {
   to = number;
   committed = is_none head.cause;
   rival = rival_of head.cause;
-  late = list_any is_late lines;
+  late = list_any is_late_line lines;
   faults = list_any tells_fault lines;
   remains = list_any is_remains lines;
   tip = texts_of lines;
@@ -117,15 +117,15 @@ last_lane [] = 0
 last_lane (l ∷ lines) = max (lane_in l) (last_lane lines)
 
 -- the name of the job that a line tells of, if its number is at most 2,000, and how it ended
-abbrev pub name_in : Line → List LaneName
-name_in (line.Job number block end) =
+abbrev pub lane_name_in : Line → List LaneName
+lane_name_in (line.Job number block end) =
     if nat_le number 2000 then record { lane = number; name = block ++ codes " " ++ job_end_name end } ∷ [] else []
-name_in _ = []
+lane_name_in _ = []
 
 -- the names that lines tell
-abbrev pub names_of : List Line → List LaneName
-names_of [] = []
-names_of (l ∷ lines) = name_in l ++ names_of lines
+abbrev pub lane_names : List Line → List LaneName
+lane_names [] = []
+lane_names (l ∷ lines) = lane_name_in l ++ lane_names lines
 
 -- ---- the whole
 -- the number of the line at which a text broke
@@ -134,10 +134,10 @@ break_of Whole = None
 break_of (Broken line) = Some line
 
 -- what is drawn of the lines that were read of a text, and of how that ended
-abbrev pub scene_of : List Line → Ending → Scene
-scene_of lines ending = record {
+abbrev pub drawn_scene : List Line → Ending → Scene
+drawn_scene lines ending = record {
   bars = bars_from 1 lines;
-  names = names_of lines;
+  names = lane_names lines;
   lanes = last_lane lines;
   left_out = count_by is_head lines - 2000;
   break_at = break_of ending;

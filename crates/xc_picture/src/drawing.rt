@@ -1,7 +1,7 @@
 ghost use Rattle.std.specs.Prelude.{◌≡◌, ◌++◌, ◌≤◌, IfOk, OnOk};
 ghost use Rattle.std.specs.FinMap as map;
 ghost use Rattle.xc_picture.specs.Arrows.{middle};
-ghost use Rattle.xc_picture.specs.Drawn.{bar_area, mark_area, mark_if, marks_of, bar_look, tx_name, tx_point};
+ghost use Rattle.xc_picture.specs.Drawn.{bar_area, mark_area, mark_if, marks_drawn, bar_look, tx_name, tx_point};
 ghost use Rattle.xc_picture.specs.Places.{column_x};
 ghost use Rattle.xc_picture.specs.Drawn.{bar_elements};
 ghost use Rattle.xc_picture.specs.Arrows.{key_of, spot_of, spots_with, arrow_between, arrow_to, rival_spot, arrows_of};
@@ -12,7 +12,7 @@ ghost use Rattle.xc_picture.specs.Scenes.{lane_of};
 use crate::elements::{push_arrow, push_label, push_rect};
 use crate::labels::lane_y;
 use crate::scene::{Bar, Spot};
-use crate::shapes::{Area, Look, Point};
+use crate::shapes::{Area, Point, ShapeStyle};
 use std::alloc::Global;
 use xc_data::{NoMemory, Num, Text};
 use xc_maps::NumMap;
@@ -68,7 +68,7 @@ fn push_mark(
     out: &mut Page,
     is_there: bool,
     area: Area,
-    look: Look,
+    look: ShapeStyle,
     tip: &str,
 ) -> Result<(), NoMemory>
     ensures { OnOk result (out.new ≡ out.old ++ elements_text (mark_if is_there area look tip.now)) }
@@ -80,27 +80,39 @@ fn push_mark(
 }
 
 fn push_marks(out: &mut Page, bar: &Bar) -> Result<(), NoMemory>
-    ensures { OnOk result (out.new ≡ out.old ++ elements_text (marks_of bar.now)) }
+    ensures { OnOk result (out.new ≡ out.old ++ elements_text (marks_drawn bar.now)) }
 {
-    push_mark(out, bar.late, mark_area(0, bar), Look::Late, "late calls")?;
-    push_mark(out, bar.faults, mark_area(1, bar), Look::Faults, "faults")?;
+    push_mark(
+        out,
+        bar.late,
+        mark_area(0, bar),
+        ShapeStyle::Late,
+        "late calls",
+    )?;
+    push_mark(
+        out,
+        bar.faults,
+        mark_area(1, bar),
+        ShapeStyle::Faults,
+        "faults",
+    )?;
     push_mark(
         out,
         bar.remains,
         mark_area(2, bar),
-        Look::Remains,
+        ShapeStyle::Remains,
         "something remains",
     )?;
     Ok(())
 }
 
-fn bar_look(committed: bool) -> Look
+fn bar_look(committed: bool) -> ShapeStyle
     ensures { result ≡ bar_look committed }
 {
     if committed {
-        Look::Committed
+        ShapeStyle::Committed
     } else {
-        Look::Aborted
+        ShapeStyle::Aborted
     }
 }
 

@@ -3,7 +3,7 @@ ghost use Rattle.xc_picture.specs.Elements.{Rect, Arrow, Label, look_name, area_
 ghost use Rattle.xc_picture.specs.Elements.{root_text, size_text, style_text};
 
 use crate::escapes::push_escaped;
-use crate::shapes::{Area, Look, Point};
+use crate::shapes::{Area, Point, ShapeStyle};
 use xc_data::NoMemory;
 use xc_print::Page;
 
@@ -15,15 +15,15 @@ const STYLE: &str = "<style>text{font:11px monospace;fill:#222}rect{stroke:#222;
 <path d=\"M0 0L6 3L0 6Z\" fill=\"#b2182b\"/></marker></defs>\n\
 <rect width=\"100%\" height=\"100%\" style=\"fill:#fff;stroke:none\"/>\n";
 
-fn push_look(out: &mut Page, look: Look) -> Result<(), NoMemory>
+fn push_look(out: &mut Page, look: ShapeStyle) -> Result<(), NoMemory>
     ensures { OnOk result (out.new ≡ out.old ++ look_name look) }
 {
     match look {
-        Look::Committed => out.text("committed"),
-        Look::Aborted => out.text("aborted"),
-        Look::Late => out.text("late"),
-        Look::Faults => out.text("faults"),
-        Look::Remains => out.text("remains"),
+        ShapeStyle::Committed => out.text("committed"),
+        ShapeStyle::Aborted => out.text("aborted"),
+        ShapeStyle::Late => out.text("late"),
+        ShapeStyle::Faults => out.text("faults"),
+        ShapeStyle::Remains => out.text("remains"),
     }
 }
 
@@ -56,7 +56,7 @@ fn push_point(out: &mut Page, at: Point) -> Result<(), NoMemory>
 }
 
 /// A rectangle with a tooltip.
-pub fn push_rect(out: &mut Page, area: Area, look: Look, tip: &[u8]) -> Result<(), NoMemory>
+pub fn push_rect(out: &mut Page, area: Area, look: ShapeStyle, tip: &[u8]) -> Result<(), NoMemory>
     ensures { OnOk result (out.new ≡ out.old ++ element_text (Rect area look tip.now)) }
 {
     out.text("<rect class=\"")?;

@@ -1,6 +1,6 @@
 ghost use Rattle.std.specs.Prelude.{◌≡◌, ◌++◌, ◌<◌, false, OnOk};
 ghost use Rattle.std.specs.Fmt.{digit_glyph};
-ghost use Rattle.xc_picture.specs.Escapes.{is_barred, reference, escaped_byte, escaped};
+ghost use Rattle.xc_picture.specs.Escapes.{is_barred, reference, svg_escaped_byte, svg_escaped};
 
 use xc_data::NoMemory;
 use xc_print::Page;
@@ -28,7 +28,7 @@ fn push_reference(out: &mut Page, b: u8) -> Result<(), NoMemory>
 }
 
 fn push_byte(out: &mut Page, b: u8) -> Result<(), NoMemory>
-    ensures { OnOk result (out.new ≡ out.old ++ escaped_byte b) }
+    ensures { OnOk result (out.new ≡ out.old ++ svg_escaped_byte b) }
 {
     match b {
         b'"' => out.text("&quot;"),
@@ -42,7 +42,7 @@ fn push_byte(out: &mut Page, b: u8) -> Result<(), NoMemory>
 
 /// Bytes, escaped, at the end of the page.
 pub fn push_escaped(out: &mut Page, bytes: &[u8]) -> Result<(), NoMemory>
-    ensures { OnOk result (out.new ≡ out.old ++ escaped bytes.now) }
+    ensures { OnOk result (out.new ≡ out.old ++ svg_escaped bytes.now) }
 {
     for b in bytes {
         push_byte(out, *b)?;

@@ -7,14 +7,14 @@ ghost use Rattle.std.specs.FinMap as map;
 ghost use Rattle.xc_picture.specs.Arrows.{IsSpotAmong, rival_spot, spots_with};
 ghost use Rattle.xc_picture.specs.declared.scene.Bar.{Bar};
 ghost use Rattle.xc_picture.specs.declared.scene.Spot.{Spot};
-ghost use Rattle.xc_picture.specs.Escapes.{is_safe, is_escape, escaped_byte, escaped};
+ghost use Rattle.xc_picture.specs.Escapes.{is_safe, is_svg_escape, svg_escaped_byte, svg_escaped};
 ghost use Rattle.xc_picture.specs.Scenes.{StandInOrder, bar_of, bars_from};
 
 /// Bytes in a picture can't end the text or the attribute that they stand in, nor begin a mark: each gives one plain byte or a
 /// reference.
 pub fn what_is_escaped_is_safe()
-    ensures safe { (bytes : List ℕ) → AreBytes bytes → list_all is_safe (escaped bytes) ≡ true }
-    ensures each { (b : ℕ) → b < 256 → is_escape (escaped_byte b) ≡ true }
+    ensures safe { (bytes : List ℕ) → AreBytes bytes → list_all is_safe (svg_escaped bytes) ≡ true }
+    ensures each { (b : ℕ) → b < 256 → is_svg_escape (svg_escaped_byte b) ≡ true }
 {}
 
 /// An arrow to a transaction ends at a bar that has this transaction's number; and where there is such a bar, there is an arrow.

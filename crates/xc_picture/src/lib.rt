@@ -17,5 +17,5 @@ mod whole;
 
 pub use reading::scene_of;
 pub use scene::{Bar, LaneName, Scene, Spot};
-pub use shapes::{Area, Look, Point};
+pub use shapes::{Area, Point, ShapeStyle};
 pub use whole::{Unpictured, picture, picture_of};

@@ -1,6 +1,6 @@
 ghost use Rattle.std.specs.Prelude.{◌≡◌, ◌++◌, codes, IfOk, OnOk};
 ghost use Rattle.xc_lines.specs.Tails.{job_end_name};
-ghost use Rattle.xc_picture.specs.Scenes.{lane_of, lane_in, last_lane, name_in, names_of};
+ghost use Rattle.xc_picture.specs.Scenes.{lane_of, lane_in, last_lane, lane_name_in, lane_names};
 
 use crate::scene::LaneName;
 use std::alloc::Global;
@@ -59,7 +59,7 @@ fn name_of(alloc: Global, block: &[u8], end: JobShown) -> Result<Text, NoMemory>
 
 // The name that a line tells, where it tells one.
 fn add_name(alloc: Global, names: &mut Items<LaneName>, line: &Line) -> Result<(), NoMemory>
-    ensures { OnOk result (names.new ≡ names.old ++ name_in line.now) }
+    ensures { OnOk result (names.new ≡ names.old ++ lane_name_in line.now) }
 {
     if let Line::Job { number, block, end } = line {
         if *number <= 2000 {
@@ -75,7 +75,7 @@ fn add_name(alloc: Global, names: &mut Items<LaneName>, line: &Line) -> Result<(
 
 /// The names of the jobs up to 2,000, each with how it ended.
 pub fn names_of(alloc: Global, lines: &[Line]) -> Result<Items<LaneName>, NoMemory>
-    ensures { IfOk result (λ names. names ≡ names_of lines.now) }
+    ensures { IfOk result (λ names. names ≡ lane_names lines.now) }
 {
     let mut names = Items::new(alloc);
     for line in lines {

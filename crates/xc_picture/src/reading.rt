@@ -2,9 +2,9 @@ ghost use Rattle.std.specs.Prelude.{◌≡◌, ◌++◌, ◌∷◌, ◌≤◌, l
 ghost use Rattle.std.specs.List.{list_any, prefix_len};
 ghost use Rattle.std.specs.Option.{option_copied};
 ghost use Rattle.xc_sheet.specs.declared.lines.Line.TheVariants as line;
-ghost use Rattle.xc_picture.specs.Scenes.{head_in, is_head, is_inner, is_late, tells_fault, is_remains};
+ghost use Rattle.xc_picture.specs.Scenes.{head_in, is_head, is_inner, is_late_line, tells_fault, is_remains};
 ghost use Rattle.xc_picture.specs.Scenes.{own_lines, texts_of, rival_of, bar_of, bars_from};
-ghost use Rattle.xc_picture.specs.Scenes.{break_of, scene_of};
+ghost use Rattle.xc_picture.specs.Scenes.{break_of, drawn_scene};
 
 use crate::naming::{last_lane, names_of};
 use crate::scene::{Bar, Scene};
@@ -41,7 +41,7 @@ fn is_inner(line: &Line) -> bool
 }
 
 fn is_late(line: &Line) -> bool
-    ensures { result ≡ is_late line.now }
+    ensures { result ≡ is_late_line line.now }
 {
     matches!(line, Line::Late { .. })
 }
@@ -117,7 +117,7 @@ fn rival_of(cause: &Option<Cause>) -> Option<u32>
 }
 
 fn has_late(lines: &[Line]) -> bool
-    ensures { result ≡ list_any is_late lines.now }
+    ensures { result ≡ list_any is_late_line lines.now }
 {
     lines.iter().any(is_late)
 }
@@ -211,7 +211,7 @@ fn break_of(ending: Ending) -> Option<u32>
 #[tactic(auto, using(crate::proofs::Bars::few_bars))]
 pub fn scene_of(alloc: Global, sheet: &Sheet) -> Result<Scene, NoMemory>
     ensures few { IfOk result (λ scene. length scene.bars ≤ 2000) }
-    ensures scene { IfOk result (λ scene. scene ≡ scene_of sheet.now.lines sheet.now.ending) }
+    ensures scene { IfOk result (λ scene. scene ≡ drawn_scene sheet.now.lines sheet.now.ending) }
 {
     let lines = sheet.lines.as_slice();
     Ok(Scene {

@@ -16,7 +16,7 @@ pub struct Area {
 
 /// What a rectangle stands for: a transaction, or a mark in it.
 #[derive(Clone, Copy, Debug)]
-pub enum Look {
+pub enum ShapeStyle {
     Committed,
     Aborted,
     Late,

@@ -2,7 +2,7 @@ ghost use Rattle.std.specs.Prelude.{◌≡◌, ◌↔◌, ◌++◌, ◌≤◌, �
 ghost use Rattle.xc_picture.specs.Drawn.{elements_of, size_of, picture_text};
 ghost use Rattle.xc_picture.specs.Elements.{elements_text};
 ghost use Rattle.xc_picture.specs.Pictures.{IsPictureOf};
-ghost use Rattle.xc_picture.specs.Scenes.{scene_of};
+ghost use Rattle.xc_picture.specs.Scenes.{drawn_scene};
 ghost use Rattle.xc_picture.specs.declared.whole.Unpictured.TheVariants as unpictured;
 ghost use Rattle.xc_data.specs.declared.entry.Entry.{Entry};
 ghost use Rattle.xc_data.specs.declared.entry.JobLine.{JobLine};
@@ -13,7 +13,7 @@ ghost use Rattle.xc_sheet.specs.declared.sheet.Unreadable.TheVariants as unreada
 ghost use Rattle.xc_sheet.specs.EndRanges.{IsEndInRange};
 ghost use Rattle.xc_sheet.specs.Ends.{end_lines};
 ghost use Rattle.xc_sheet.specs.Sheets.{NoLineFits};
-ghost use Rattle.xc_sheet.specs.declared.places.Place.TheVariants as place;
+ghost use Rattle.xc_sheet.specs.declared.places.LinePlace.TheVariants as place;
 
 use crate::drawing::{column_x, push_arrows, push_bars, spots_of};
 use crate::elements::push_front;
@@ -67,7 +67,7 @@ fn drawn(alloc: Global, scene: &Scene) -> Result<Text, NoMemory>
 /// At most 2,000 entries are drawn, and a text in the picture says how many aren't, and where the journal broke, if it did. It takes
 /// time in proportion to the lines, but for the map that finds the arrows' ends.
 pub fn picture(alloc: Global, sheet: &Sheet) -> Result<Text, NoMemory>
-    ensures { IfOk result (λ text. text ≡ picture_text (scene_of sheet.now.lines sheet.now.ending)) }
+    ensures { IfOk result (λ text. text ≡ picture_text (drawn_scene sheet.now.lines sheet.now.ending)) }
 {
     let scene = scene_of(alloc, sheet)?;
     drawn(alloc, &scene)
@@ -95,7 +95,7 @@ fn reason_of(why: Unreadable) -> Unpictured
 
 // The picture of what was read, if there was something to read.
 fn picture_of_some(alloc: Global, sheet: &Sheet) -> Result<Text, Unpictured>
-    ensures some { IfOk result (λ svg. svg ≡ picture_text (scene_of sheet.now.lines sheet.now.ending)) }
+    ensures some { IfOk result (λ svg. svg ≡ picture_text (drawn_scene sheet.now.lines sheet.now.ending)) }
     ensures none { result ≡ Err unpictured.Unread → length sheet.now.lines ≡ 0 }
     ensures short { result ≡ Err unpictured.TooLong → ⊥ }
 {
@@ -115,7 +115,7 @@ pub fn picture_of(alloc: Global, text: &[u8]) -> Result<Text, Unpictured>
     ensures picture { IfOk result (λ svg. IsPictureOf text.now svg) }
     ensures printed { (journal : List Entry) (jobs : List JobLine) (words : List ℕ) (kept : List KeptItem)
         → IsEndInRange journal jobs words kept → text.now ≡ rendered journal jobs words kept
-        → IfOk result (λ svg. svg ≡ picture_text (scene_of (end_lines journal jobs words kept) Whole)) }
+        → IfOk result (λ svg. svg ≡ picture_text (drawn_scene (end_lines journal jobs words kept) Whole)) }
     ensures long { (result ≡ Err unpictured.TooLong) ↔ (67108864 < length text.now) }
     ensures unread { result ≡ Err unpictured.Unread → NoLineFits place.Between text.now }
 {

@@ -3,7 +3,7 @@ use Rattle.std.proofs.Common.{◌≡◌, IsTrue, Ok, Err, length, sym, subst}
 use Rattle.std.specs.Prelude.{Result}
 use Rattle.xc_data.specs.Step.{Step}
 use Rattle.xc_data.specs.declared.object.Num.{Num}
-use Rattle.xc_data.specs.declared.script.Kind.TheVariants as kind
+use Rattle.xc_data.specs.declared.script.HostCallKind.TheVariants as kind
 use Rattle.xc_host.specs.Contents.{Contents}
 use Rattle.xc_host.specs.Kept.{KeepsData}
 use Rattle.xc_host.specs.Model.{Answers, HostModel}

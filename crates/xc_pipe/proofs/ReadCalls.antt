@@ -15,7 +15,7 @@ use Rattle.xc_data.specs.declared.object.Num.{Num}
 use Rattle.xc_data.specs.declared.private.Place.TheVariants as place
 use Rattle.xc_data.specs.declared.private.Private.{Private}
 use Rattle.xc_world.specs.Act.{act}
-use Rattle.xc_world.specs.Act.Step.{counted, step_to, storing, storing_reply}
+use Rattle.xc_world.specs.Act.Step.{bytes_counted, step_to, storing, storing_reply}
 use Rattle.xc_world.specs.Checks.{refusal_of}
 use Rattle.xc_world.specs.Replies.{may_reply}
 use Rattle.xc_world.specs.World.{World}
@@ -29,9 +29,9 @@ use Rattle.xc_host.specs.Uses.{Uses}
 use Rattle.xc_calls.specs.Calls.{ActsAsPlain, IsMePassed, replies_fault}
 use Rattle.xc_calls.specs.Passing.{Passes}
 use Rattle.xc_calls.proofs.Laws.{call_view_at, passed_checks, ReadState, logical, sides, uses_both}
-use Rattle.xc_pipe.specs.Reading.{IsReadReply, Reads, ReadsBy}
+use Rattle.xc_pipe.specs.Reading.{IsReadReply, ReadsPipe, ReadsPipeBy}
 use Rattle.xc_calls.specs.Sides.{Sides, world_at}
-use Rattle.xc_pipe.proofs.ReadSteps.{fault_step, got_step, none_step}
+use Rattle.xc_pipe.proofs.ReadSteps.{pipe_fault_step, pipe_got_step, pipe_none_step}
 
 module _ (h n : ℕ) (pipe : Num) (me : Private) (number : ℕ) (at : place_of me.places h ≡ place.Pipe pipe) (free : refusal_of (XReadPipe h n) me ≡ None)
     (some : 1 ≤ n) (old new : Sides) where
@@ -44,28 +44,28 @@ module _ (h n : ℕ) (pipe : Num) (me : Private) (number : ℕ) (at : place_of m
       ∙ ap (λ x. step_to x next r) (sym (world_with w new.contents new.items))
 
   -- a read is the plain machine's
-  pub read_acts : (r : Reply) → IsReadReply n r → Reads pipe n (record { old = old; new = new }) r
+  pub read_acts : (r : Reply) → IsReadReply n r → ReadsPipe pipe n (record { old = old; new = new }) r
       → ActsAsPlain (XReadPipe h n) (call_view_at (logical old) number me) (call_view_at (logical new) number (storing_reply r me)) r
   read_acts (reply.Got bytes) (more, most) finds = record {
-    step = lifted answer.Fine (storing me (length bytes)) (reply.Got bytes) (got_step h n pipe me number at free some old new bytes more most finds);
+    step = lifted answer.Fine (storing me (length bytes)) (reply.Got bytes) (pipe_got_step h n pipe me number at free some old new bytes more most finds);
     fits = λ w. refl;
   }
   read_acts reply.Empty is (leads, empty, shut) = record {
     step = lifted answer.Fine me reply.Empty
-        (none_step h n pipe me number at free some old new reply.Empty false leads empty shut
-        (λ x mark. ap (λ (b : Bool). counted (XReadPipe h n) (step_to x me (if b then reply.End else reply.Empty))) mark));
+        (pipe_none_step h n pipe me number at free some old new reply.Empty false leads empty shut
+        (λ x mark. ap (λ (b : Bool). bytes_counted (XReadPipe h n) (step_to x me (if b then reply.End else reply.Empty))) mark));
     fits = λ w. refl;
   }
   read_acts reply.End is (leads, empty, shut) = record {
     step = lifted answer.Fine me reply.End
-        (none_step h n pipe me number at free some old new reply.End true leads empty shut
-        (λ x mark. ap (λ (b : Bool). counted (XReadPipe h n) (step_to x me (if b then reply.End else reply.Empty))) mark));
+        (pipe_none_step h n pipe me number at free some old new reply.End true leads empty shut
+        (λ x mark. ap (λ (b : Bool). bytes_counted (XReadPipe h n) (step_to x me (if b then reply.End else reply.Empty))) mark));
     fits = λ w. refl;
   }
   read_acts (reply.Fault k) zero leads =
       subst (λ m. ActsAsPlain (XReadPipe h n) (call_view_at (logical old) number me) (call_view_at (logical new) number me) (reply.Fault m)) (sym zero)
       (record {
-        step = lifted (answer.Fault 0) me (reply.Fault 0) (fault_step h n pipe me number at free some old new leads);
+        step = lifted (answer.Fault 0) me (reply.Fault 0) (pipe_fault_step h n pipe me number at free some old new leads);
         fits = λ w. ap (λ b. not b && nat_le 1 n) (passed_checks me (XReadPipe h n) (length w.words) free) ∙ le-leb 1 n some;
       })
   read_acts _ is never = absurd never
@@ -90,8 +90,8 @@ module _ {H : Type 0} (model : HostModel H) (old new : ReadState H) where
   pub read_passed : (h n : ℕ) (pipe : Num) (number : ℕ) (undo : Records) (result : Result Reply NoMemory) → place_of old.me.places h ≡ place.Pipe pipe
       → refusal_of (XReadPipe h n) old.me ≡ None → 1 ≤ n → IfOk result (IsReadReply n) → IfOk result (λ r. new.me ≡ storing_reply r old.me)
       → OnErr result (new.me ≡ old.me)
-      → (IsTrue model.tells → IfOk result (Reads pipe n (record { old = sides model old; new = sides model new })))
-      → Uses model (record { old = old.host; new = new.host }) (ReadsBy n result)
+      → (IsTrue model.tells → IfOk result (ReadsPipe pipe n (record { old = sides model old; new = sides model new })))
+      → Uses model (record { old = old.host; new = new.host }) (ReadsPipeBy n result)
       → CountsFault (replies_fault result) (model.fault_count old.host) (model.fault_count new.host)
       → Passes (fronted model) (XReadPipe h n) (record {
         old = record { host = before old.host old.items; number = number; me = old.me; undo = undo };

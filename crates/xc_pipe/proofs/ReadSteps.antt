@@ -15,8 +15,8 @@ use Rattle.xc_data.specs.declared.object.Num.{Num}
 use Rattle.xc_data.specs.declared.private.Place.TheVariants as place
 use Rattle.xc_data.specs.declared.private.Private.{Private}
 use Rattle.xc_world.specs.Act.{act, done}
-use Rattle.xc_world.specs.Act.Pipes.{nothing, read_pipe_at, took}
-use Rattle.xc_world.specs.Act.Step.{step_to, storing, counted}
+use Rattle.xc_world.specs.Act.Pipes.{empty_or_end, read_pipe_at, took}
+use Rattle.xc_world.specs.Act.Step.{step_to, storing, bytes_counted}
 use Rattle.xc_world.specs.Checks.{is_bad_handle, is_too_big, is_too_much, refusal_of}
 use Rattle.xc_world.specs.Run.{gives, given_back}
 use Rattle.xc_maps.proofs.Laws.{get-insert_same, num_total, num_exact}
@@ -27,7 +27,7 @@ use Rattle.xc_buffers.proofs.Laws.{pipe_front, front_left, has_front}
 use Rattle.xc_host.specs.Contents.{with_contents}
 use Rattle.xc_host.specs.Pipes.{pipe_in}
 use Rattle.xc_host.specs.declared.pipes.Took.TheVariants as taken
-use Rattle.xc_pipe.specs.Reading.{Finds, IsDrained, Leads}
+use Rattle.xc_pipe.specs.Reading.{ReadFinds, IsDrained, GivesSameWorld}
 use Rattle.xc_calls.specs.Sides.{Sides, world_at}
 use Rattle.xc_pipe.proofs.Takings.{back_some}
 use Rattle.xc_calls.proofs.Laws.{first_none}
@@ -35,10 +35,10 @@ use Rattle.xc_calls.proofs.Laws.{first_none}
 -- ---- the checks
 -- a read that the checks let pass
 read_passes : (w : World) (me : Private) (number h n : ℕ) (a : Answer) → refusal_of (XReadPipe h n) me ≡ None
-    → act w me number (XReadPipe h n) a ≡ counted (XReadPipe h n) (done w me number (XReadPipe h n) a)
+    → act w me number (XReadPipe h n) a ≡ bytes_counted (XReadPipe h n) (done w me number (XReadPipe h n) a)
 read_passes w me number h n a free =
     let call = XReadPipe h n in
-    first_none (is_bad_handle call me) (is_too_big call) (is_too_much call me) w me (counted call (done w me number call a)) free
+    first_none (is_bad_handle call me) (is_too_big call) (is_too_much call me) w me (bytes_counted call (done w me number call a)) free
 
 if_false : {T : Type 0} (b : Bool) (x y : T) → b ≡ false → (if b then x else y) ≡ y
 if_false true x y e = cc
@@ -70,19 +70,19 @@ one_front y num front = ap (λ o. unwrap_or o empty_pipe) (get-insert_same num_t
 module _ (h n : ℕ) (pipe : Num) (me : Private) (number : ℕ) (at : place_of me.places h ≡ place.Pipe pipe) (free : refusal_of (XReadPipe h n) me ≡ None)
     (some : 1 ≤ n) where
   -- its step, by the place at the handle
-  stepped_read : (x : World) → act x me number (XReadPipe h n) answer.Fine ≡ counted (XReadPipe h n) (read_pipe_at x me n (place.Pipe pipe))
+  stepped_read : (x : World) → act x me number (XReadPipe h n) answer.Fine ≡ bytes_counted (XReadPipe h n) (read_pipe_at x me n (place.Pipe pipe))
   stepped_read x =
-      read_passes x me number h n answer.Fine free ∙ ap (λ p. counted (XReadPipe h n) (read_pipe_at x me n p)) at
+      read_passes x me number h n answer.Fine free ∙ ap (λ p. bytes_counted (XReadPipe h n) (read_pipe_at x me n p)) at
 
-  none_read : (x : World) → (pipe_of x pipe).held ≡ [] → act x me number (XReadPipe h n) answer.Fine ≡ counted (XReadPipe h n)
-      (step_to x me (nothing (pipe_of x pipe)))
+  none_read : (x : World) → (pipe_of x pipe).held ≡ [] → act x me number (XReadPipe h n) answer.Fine ≡ bytes_counted (XReadPipe h n)
+      (step_to x me (empty_or_end (pipe_of x pipe)))
   none_read x none =
-      stepped_read x ∙ ap (counted (XReadPipe h n)) (if_false (n == 0) _ _ (not_none n some)
+      stepped_read x ∙ ap (bytes_counted (XReadPipe h n)) (if_false (n == 0) _ _ (not_none n some)
       ∙ if_true (length (pipe_of x pipe).held == 0) _ _ (ap (λ (bytes : List ℕ). length bytes == 0) none))
 
-  some_read : (x : World) → 1 ≤ length (pipe_of x pipe).held → act x me number (XReadPipe h n) answer.Fine ≡ counted (XReadPipe h n) (took x me pipe n)
+  some_read : (x : World) → 1 ≤ length (pipe_of x pipe).held → act x me number (XReadPipe h n) answer.Fine ≡ bytes_counted (XReadPipe h n) (took x me pipe n)
   some_read x more =
-      stepped_read x ∙ ap (counted (XReadPipe h n)) (if_false (n == 0) _ _ (not_none n some)
+      stepped_read x ∙ ap (bytes_counted (XReadPipe h n)) (if_false (n == 0) _ _ (not_none n some)
       ∙ if_false (length (pipe_of x pipe).held == 0) _ _ (not_none (length (pipe_of x pipe).held) more))
 
   -- a read that takes these bytes, and leaves this world
@@ -92,9 +92,10 @@ module _ (h n : ℕ) (pipe : Num) (me : Private) (number : ℕ) (at : place_of m
   took_read x y bytes rest more held front behind left =
       let some_held : 1 ≤ length (pipe_of x pipe).held = omega (arith, ap (λ (xs : List ℕ). length xs) held, length-append bytes rest, more) in
       some_read x some_held
-      ∙ ap (λ xs. counted (XReadPipe h n) (step_to (with_pipe x pipe (record (pipe_of x pipe) { held = drop n xs })) me (reply.Got (take n xs)))) held
-      ∙ ap (λ xs. counted (XReadPipe h n) (step_to (with_pipe x pipe (record (pipe_of x pipe) { held = xs })) me (reply.Got (take n (bytes ++ rest))))) behind
-      ∙ ap (λ xs. counted (XReadPipe h n) (step_to (with_pipe x pipe (record (pipe_of x pipe) { held = rest })) me (reply.Got xs))) front
+      ∙ ap (λ xs. bytes_counted (XReadPipe h n) (step_to (with_pipe x pipe (record (pipe_of x pipe) { held = drop n xs })) me (reply.Got (take n xs)))) held
+      ∙ ap (λ xs. bytes_counted (XReadPipe h n)
+      (step_to (with_pipe x pipe (record (pipe_of x pipe) { held = xs })) me (reply.Got (take n (bytes ++ rest))))) behind
+      ∙ ap (λ xs. bytes_counted (XReadPipe h n) (step_to (with_pipe x pipe (record (pipe_of x pipe) { held = rest })) me (reply.Got xs))) front
       ∙ ap (λ v. step_to v (storing me (length bytes)) (reply.Got bytes)) (sym (left
       ∙ ap (λ xs. with_pipe x pipe (record (pipe_of x pipe) { held = drop (length bytes) xs })) held
       ∙ ap (λ xs. with_pipe x pipe (record (pipe_of x pipe) { held = xs })) (drop_at bytes rest (length bytes) refl)))
@@ -102,9 +103,10 @@ module _ (h n : ℕ) (pipe : Num) (me : Private) (number : ℕ) (at : place_of m
   -- ---- in worlds with what the host holds and what is kept
   module _ (old new : Sides) where
     -- some bytes are read
-    pub got_step : (bytes : List ℕ) → 1 ≤ length bytes → length bytes ≤ n → Finds pipe n [] (record { old = old; new = new }) (taken.Bytes bytes) → (w : World)
+    pub pipe_got_step : (bytes : List ℕ) → 1 ≤ length bytes → length bytes ≤ n → ReadFinds pipe n [] (record { old = old; new = new }) (taken.Bytes bytes)
+        → (w : World)
         → act (world_at w old) me number (XReadPipe h n) answer.Fine ≡ step_to (world_at w new) (storing me (length bytes)) (reply.Got bytes)
-    got_step bytes more most (leads, there, all) w =
+    pipe_got_step bytes more most (leads, there, all) w =
         let x = world_at w old in
         let y = world_at w new in
         let rest = (pipe_of y pipe).held in
@@ -123,16 +125,17 @@ module _ (h n : ℕ) (pipe : Num) (me : Private) (number : ℕ) (at : place_of m
             (ap (take n) whole ∙ take_all n bytes most, ap (drop n) whole ∙ drop_all n bytes most ∙ sym (none lt))
 
     -- none is there
-    pub none_step : (r : Reply) (mark : Bool) → Leads pipe [] [] (record { old = old; new = new }) → IsDrained pipe new
+    pub pipe_none_step : (r : Reply) (mark : Bool) → GivesSameWorld pipe [] [] (record { old = old; new = new }) → IsDrained pipe new
         → (pipe_in new.contents pipe).shut ≡ mark
-        → ((x : World) → (pipe_of x pipe).shut ≡ mark → counted (XReadPipe h n) (step_to x me (nothing (pipe_of x pipe))) ≡ step_to x me r) → (w : World)
+        → ((x : World) → (pipe_of x pipe).shut ≡ mark → bytes_counted (XReadPipe h n) (step_to x me (empty_or_end (pipe_of x pipe))) ≡ step_to x me r)
+        → (w : World)
         → act (world_at w old) me number (XReadPipe h n) answer.Fine ≡ step_to (world_at w new) me r
-    none_step r mark leads empty shut says w =
+    pipe_none_step r mark leads empty shut says w =
         ap (λ x. act x me number (XReadPipe h n) answer.Fine) (leads w)
         ∙ none_read (world_at w new) (drained w new pipe empty) ∙ says (world_at w new) (mark_is w new pipe ∙ shut)
 
     -- the host failed
-    pub fault_step : Leads pipe [] [] (record { old = old; new = new }) → (w : World)
+    pub pipe_fault_step : GivesSameWorld pipe [] [] (record { old = old; new = new }) → (w : World)
         → act (world_at w old) me number (XReadPipe h n) (answer.Fault 0) ≡ step_to (world_at w new) me (reply.Fault 0)
-    fault_step leads w =
+    pipe_fault_step leads w =
         read_passes (world_at w old) me number h n (answer.Fault 0) free ∙ ap (λ x. step_to x me (reply.Fault 0)) (leads w)

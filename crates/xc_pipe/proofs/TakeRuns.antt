@@ -2,8 +2,8 @@
 use Rattle.std.proofs.Common.{◌≡◌, ℕ, zero, suc, ◌+◌, ◌<◌, ◌≤◌, Ok, Err, List, [], ◌∷◌, length, replicate, refl, ap, sym, subst, arith}
 use Rattle.std.proofs.Math.Dec.{eqb-suc-zero}
 use Rattle.std.specs.Prelude.{Bool, Result, if◌then◌else◌}
-use Rattle.xc_data.specs.declared.script.Kind.{Kind}
-use Rattle.xc_data.specs.declared.script.Kind.TheVariants.{Take}
+use Rattle.xc_data.specs.declared.script.HostCallKind.{HostCallKind}
+use Rattle.xc_data.specs.declared.script.HostCallKind.TheVariants.{Take}
 use Rattle.xc_host.specs.Model.{HostModel, IsUsed}
 use Rattle.xc_host.specs.Uses.{Uses}
 use Rattle.xc_host.specs.declared.errors.HostErr.{HostErr}
@@ -14,7 +14,7 @@ use Rattle.xc_host.proofs.Laws.{used_again}
 use Rattle.xc_pipe.specs.Reading.{TakenBy, TakesUntil, found_of}
 
 -- takes that each took some, after a front of this length
-abbrev pub TakesSome : ℕ → ℕ → List Kind → Type 0
+abbrev pub TakesSome : ℕ → ℕ → List HostCallKind → Type 0
 TakesSome front now made = (count : ℕ) × (count + front ≤ now) × (made ≡ replicate count Take)
 
 -- some bytes were found

@@ -8,8 +8,8 @@ use Rattle.xc_data.specs.Private.{place_of}
 use Rattle.xc_world.specs.Checks.{is_pipe, passes_store}
 
 -- the reply of the first check that refuses a call of n bytes at a handle
-abbrev pub refusal_at : Private → ℕ → ℕ → Option Reply
-refusal_at me h n =
+abbrev pub pipe_refusal_at : Private → ℕ → ℕ → Option Reply
+pipe_refusal_at me h n =
     if not (is_pipe (place_of me.places h)) then Some BadHandle
     else if nat_lt 1024 n then Some TooBig
     else if passes_store me n then Some TooMuch

@@ -20,39 +20,39 @@ use Rattle.xc_host.specs.Model.{HostModel}
 use Rattle.xc_host.specs.Pipes.{with_new_pipe}
 
 -- what the making of a pipe of this number did with this reply: it is there, at this handle, or nothing changed
-abbrev pub Makes : Step Contents → Num → ℕ → Reply → Type 0
-Makes c num h (Made k) = (k ≡ h) × (c.new ≡ with_new_pipe c.old num)
-Makes c num h (Fault n) = (n ≡ 0) × (c.new ≡ c.old)
+abbrev pub MakesPipe : Step Contents → Num → ℕ → Reply → Type 0
+MakesPipe c num h (Made k) = (k ≡ h) × (c.new ≡ with_new_pipe c.old num)
+MakesPipe c num h (Fault n) = (n ≡ 0) × (c.new ≡ c.old)
 -- it has no other reply
-Makes c num h _ = ⊥
+MakesPipe c num h _ = ⊥
 
 -- it replies with this handle, or a fault of no byte
-abbrev pub IsMadeAt : ℕ → Reply → Type 0
-IsMadeAt h (Made k) = k ≡ h
-IsMadeAt h (Fault n) = n ≡ 0
+abbrev pub IsPipeMadeAt : ℕ → Reply → Type 0
+IsPipeMadeAt h (Made k) = k ≡ h
+IsPipeMadeAt h (Fault n) = n ≡ 0
 -- it has no other reply
-IsMadeAt h _ = ⊥
+IsPipeMadeAt h _ = ⊥
 
 -- the record of a pipe that was made
-abbrev pub made_record : Num → Reply → List Undo
-made_record num (Made h) = NewPipe num ∷ []
+abbrev pub pipe_made_record : Num → Reply → List Undo
+pipe_made_record num (Made h) = NewPipe num ∷ []
 -- with any other reply nothing was made
-made_record num _ = []
+pipe_made_record num _ = []
 
 -- where a pipe was made, it stands at its handle, and one object more is made
-abbrev pub with_made : Private → ℕ → Num → Reply → Private
-with_made me h num (Made k) = making (with_place me h (Pipe num))
+abbrev pub with_pipe_made : Private → ℕ → Num → Reply → Private
+with_pipe_made me h num (Made k) = making (with_place me h (Pipe num))
 -- with any other reply nothing was made
-with_made me h num _ = me
+with_pipe_made me h num _ = me
 
 -- a pipe of this number is made for this handle: what it replies, does and records; where memory ran out, all is as before
-pub record IsMaking {H : Type 0} (model : HostModel H) (num : Num) (h : ℕ) (step : Step (AtHost H)) (result : Result Reply NoMemory)
+pub record IsMakingPipe {H : Type 0} (model : HostModel H) (num : Num) (h : ℕ) (step : Step (AtHost H)) (result : Result Reply NoMemory)
     : Type 0 where
-  pub made : IfOk result (IsMadeAt h)
-  pub told : IsTrue model.tells → IfOk result (Makes (record {
+  pub made : IfOk result (IsPipeMadeAt h)
+  pub told : IsTrue model.tells → IfOk result (MakesPipe (record {
     old = model.contents step.old.host;
     new = model.contents step.new.host;
   }) num h)
-  pub records : IfOk result (λ reply. step.new.undo ≡ record { pending = step.old.undo.pending ++ made_record num reply; ended = [] })
+  pub records : IfOk result (λ reply. step.new.undo ≡ record { pending = step.old.undo.pending ++ pipe_made_record num reply; ended = [] })
   pub err : OnErr result (IsAsBefore model step)
   pub cause : CountsFault (replies_fault result) (model.fault_count step.old.host) (model.fault_count step.new.host)

@@ -9,7 +9,7 @@ use Rattle.xc_world.specs.Run.{given_back}
 use Rattle.xc_host.specs.declared.errors.HostErr.{HostErr}
 use Rattle.xc_host.specs.declared.pipes.Took.{Took}
 use Rattle.xc_host.specs.declared.pipes.Took.TheVariants as took
-use Rattle.xc_calls.specs.Taking.{back, HoldsMore, KeepsNone, TakesFront}
+use Rattle.xc_calls.specs.Taking.{bytes_back, HoldsMore, KeepsNone, TakesFront}
 
 -- what was found of at most n bytes of a pipe; or what a failed take leaves
 abbrev pub TakesKept : Num → ℕ → Step (List KeptItem) → Result Took HostErr → Type 0
@@ -24,4 +24,4 @@ TakesAfter pipe front kept (Ok (took.Bytes bytes)) = (rest : List ℕ) × (bytes
 TakesAfter pipe front kept (Ok took.Empty) = front ≡ []
 TakesAfter pipe front kept (Ok took.End) = front ≡ []
 TakesAfter pipe front kept (Err e) =
-    (rest : List ℕ) × ((w : World) → given_back w kept.new ≡ given_back (given_back w kept.old) (back pipe (front ++ rest)))
+    (rest : List ℕ) × ((w : World) → given_back w kept.new ≡ given_back (given_back w kept.old) (bytes_back pipe (front ++ rest)))

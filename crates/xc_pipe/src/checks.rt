@@ -4,7 +4,7 @@ ghost use Rattle.xc_data.specs.Calls.{is_late};
 ghost use Rattle.xc_data.specs.Private.{place_of};
 ghost use Rattle.xc_data.specs.declared.private.Place.TheVariants.{Pipe};
 ghost use Rattle.xc_world.specs.Checks.{is_pipe};
-ghost use Rattle.xc_pipe.specs.Checks.{refusal_at};
+ghost use Rattle.xc_pipe.specs.Checks.{pipe_refusal_at};
 
 use xc_data::{MOST_CALL_BYTES, MOST_STORED, Num, Place, Private, Reply};
 
@@ -25,7 +25,7 @@ pub(crate) fn open_pipe(me: &Private, h: u16, n: u64) -> Result<Num, Reply>
     ensures open { IfOk result (λ num. place_of me.now.places h ≡ Pipe num) }
     ensures few { OnOk result ((n ≤ 1024) × (me.now.stored + n ≤ 16384)) }
     ensures now { IfErr result (λ reply. is_late reply ≡ false) }
-    ensures checks { MatchResult result (λ num. refusal_at me.now h n ≡ None) (λ reply. refusal_at me.now h n ≡ Some reply) }
+    ensures checks { MatchResult result (λ num. pipe_refusal_at me.now h n ≡ None) (λ reply. pipe_refusal_at me.now h n ≡ Some reply) }
 {
     let Some(num) = pipe_at(me, h) else {
         return Err(Reply::BadHandle);

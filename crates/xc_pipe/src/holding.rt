@@ -2,7 +2,7 @@ ghost use Rattle.std.specs.Prelude.{◌≡◌, ◌≤◌, ◌<◌, ◌+◌, ◌+
 ghost use Rattle.xc_buffers.specs.Items.{AreKept, kept_bytes};
 ghost use Rattle.xc_world.specs.Run.{given_back};
 ghost use Rattle.xc_world.specs.World.{World};
-ghost use Rattle.xc_calls.specs.Taking.{back};
+ghost use Rattle.xc_calls.specs.Taking.{bytes_back};
 
 use std::alloc::Global;
 use xc_buffers::Kept;
@@ -31,7 +31,7 @@ pub(crate) fn join(
     ensures all { IfOk result (λ all. all ≡ front ++ more) }
     ensures kept { OnOk result (kept.new ≡ kept.old) }
     ensures err { OnErr result ((w : World)
-        → given_back w kept.new.items ≡ given_back (given_back w kept.old.items) (back pipe (front ++ more))) }
+        → given_back w kept.new.items ≡ given_back (given_back w kept.old.items) (bytes_back pipe (front ++ more))) }
     ensures spare { kept.old.spare ≤ kept.new.spare + 2 }
     ensures in_order { AreKept kept.old.items → AreKept kept.new.items }
 {
@@ -59,7 +59,7 @@ pub(crate) fn take_kept(
     requires room { 2 ≤ kept.old.spare }
     ensures most { IfOk result (λ front. length front ≤ n) }
     ensures taken { IfOk result (λ front. (w : World)
-        → given_back w kept.old.items ≡ given_back (given_back w kept.new.items) (back pipe front)) }
+        → given_back w kept.old.items ≡ given_back (given_back w kept.new.items) (bytes_back pipe front)) }
     ensures left { IfOk result (λ front. length front < n → kept_bytes pipe kept.new.items ≡ []) }
     ensures room { OnOk result (kept.old.spare ≤ kept.new.spare) }
     ensures err { OnErr result ((w : World) → given_back w kept.new.items ≡ given_back w kept.old.items) }

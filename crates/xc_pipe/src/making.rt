@@ -9,7 +9,7 @@ ghost use Rattle.xc_host.specs.Kept.{KeepsData};
 ghost use Rattle.xc_host.specs.Pipes.{has_pipe};
 ghost use Rattle.xc_host.specs.Uses.{Uses};
 ghost use Rattle.xc_world.specs.Act.Names.{next_num};
-ghost use Rattle.xc_pipe.specs.Making.{IsMaking, with_made};
+ghost use Rattle.xc_pipe.specs.Making.{IsMakingPipe, with_pipe_made};
 
 use xc_compensate::Stack;
 use xc_data::{MOST_MADE, NoMemory, Num, Place, Private, Reply, Undo};
@@ -24,7 +24,7 @@ fn make_recorded<H: Host>(
 ) -> Result<Reply, NoMemory>
     requires new { IsTrue H.model.tells → has_pipe (H.model.contents host.old) num ≡ false }
     requires none { undo.old.ended ≡ [] }
-    ensures making { IsMaking H.model num h (record {
+    ensures making { IsMakingPipe H.model num h (record {
       old = record { host = host.old; undo = undo.old };
       new = record { host = host.new; undo = undo.new };
     }) result }
@@ -55,11 +55,11 @@ fn make_at<H: Host>(
     requires handle { h < 256 }
     requires new { IsTrue H.model.tells → has_pipe (H.model.contents host.old) (next_num me.old tx) ≡ false }
     requires none { undo.old.ended ≡ [] }
-    ensures making { IsMaking H.model (next_num me.old tx) h (record {
+    ensures making { IsMakingPipe H.model (next_num me.old tx) h (record {
       old = record { host = host.old; undo = undo.old };
       new = record { host = host.new; undo = undo.new };
     }) result }
-    ensures me { IfOk result (λ reply. me.new ≡ with_made me.old h (next_num me.old tx) reply) }
+    ensures me { IfOk result (λ reply. me.new ≡ with_pipe_made me.old h (next_num me.old tx) reply) }
     ensures err { OnErr result (me.new ≡ me.old) }
     ensures uses { Uses H.model (record { old = host.old; new = host.new }) (PassedBy XPipe result) }
     ensures keeps { IsTrue H.model.tells → KeepsData (H.model.contents host.old) (H.model.contents host.new) }

@@ -16,8 +16,9 @@ ghost use Rattle.xc_host.specs.Uses.{Uses};
 ghost use Rattle.xc_buffers.specs.Items.{AreKept, kept_bytes};
 ghost use Rattle.xc_world.specs.Act.Step.{storing_reply};
 ghost use Rattle.xc_world.specs.After.{bytes_in};
-ghost use Rattle.xc_pipe.specs.Checks.{refusal_at};
-ghost use Rattle.xc_pipe.specs.Reading.{Finds, IsPipeIn, IsReadReply, Leads, NotesOf, Reads, ReadsBy, TakenBy, TakesUntil, found_of};
+ghost use Rattle.xc_pipe.specs.Checks.{pipe_refusal_at};
+ghost use Rattle.xc_pipe.specs.Reading.{ReadFinds, IsPipeIn, IsReadReply, GivesSameWorld, NotesRead, ReadsPipe, ReadsPipeBy, TakenBy};
+ghost use Rattle.xc_pipe.specs.Reading.{TakesUntil, found_of};
 ghost use Rattle.xc_calls.specs.Taking.{Notes, HasTaken, ReadsKeptOf};
 ghost use Rattle.xc_pipe.specs.Taking.{TakesAfter, TakesKept};
 
@@ -55,11 +56,11 @@ fn take_rest<H: Host>(
     requires room { 2 ≤ kept.old.spare }
     requires there { IsTrue H.model.tells → has_pipe (H.model.contents host.old) pipe ≡ true }
     ensures some { IfOk result (IsSomeOf n) }
-    ensures finds { IsTrue H.model.tells → IfOk result (Finds pipe n kept_front (record {
+    ensures finds { IsTrue H.model.tells → IfOk result (ReadFinds pipe n kept_front (record {
       old = record { contents = H.model.contents host.old; items = kept.old.items };
       new = record { contents = H.model.contents host.new; items = kept.new.items };
     })) }
-    ensures err { IsTrue H.model.tells → OnErr result (Leads pipe kept_front [] (record {
+    ensures err { IsTrue H.model.tells → OnErr result (GivesSameWorld pipe kept_front [] (record {
       old = record { contents = H.model.contents host.old; items = kept.old.items };
       new = record { contents = H.model.contents host.new; items = kept.new.items };
     })) }
@@ -102,11 +103,11 @@ fn take_all<H: Host>(
     requires room { 2 ≤ kept.old.spare }
     requires there { IsTrue H.model.tells → has_pipe (H.model.contents host.old) pipe ≡ true }
     ensures some { IfOk result (IsSomeOf n) }
-    ensures finds { IsTrue H.model.tells → IfOk result (Finds pipe n [] (record {
+    ensures finds { IsTrue H.model.tells → IfOk result (ReadFinds pipe n [] (record {
       old = record { contents = H.model.contents host.old; items = kept.old.items };
       new = record { contents = H.model.contents host.new; items = kept.new.items };
     })) }
-    ensures err { IsTrue H.model.tells → OnErr result (Leads pipe [] [] (record {
+    ensures err { IsTrue H.model.tells → OnErr result (GivesSameWorld pipe [] [] (record {
       old = record { contents = H.model.contents host.old; items = kept.old.items };
       new = record { contents = H.model.contents host.new; items = kept.new.items };
     })) }
@@ -137,20 +138,20 @@ fn read_next<H: Host>(
     requires few { (1 ≤ n) × (n ≤ 1024) }
     requires room { 2 ≤ kept.old.spare }
     requires there { IsTrue H.model.tells → has_pipe (H.model.contents host.old) pipe ≡ true }
-    ensures reads { IsTrue H.model.tells → IfOk result (Reads pipe n (record {
+    ensures reads { IsTrue H.model.tells → IfOk result (ReadsPipe pipe n (record {
       old = record { contents = H.model.contents host.old; items = kept.old.items };
       new = record { contents = H.model.contents host.new; items = kept.new.items };
     })) }
-    ensures err { IsTrue H.model.tells → OnErr result (Leads pipe [] [] (record {
+    ensures err { IsTrue H.model.tells → OnErr result (GivesSameWorld pipe [] [] (record {
       old = record { contents = H.model.contents host.old; items = kept.old.items };
       new = record { contents = H.model.contents host.new; items = kept.new.items };
     })) }
     ensures reply { IfOk result (IsReadReply n) }
-    ensures notes { NotesOf pipe taken.old.items taken.new.items result }
+    ensures notes { NotesRead pipe taken.old.items taken.new.items result }
     ensures kept { ReadsKeptOf pipe n (record { old = kept.old.items; new = kept.new.items }) result }
     ensures room { IfOk result (λ reply. is_fault_reply reply ≡ false → kept.old.spare ≤ kept.new.spare) }
     ensures spare { kept.old.spare ≤ kept.new.spare + 2 }
-    ensures uses { Uses H.model (record { old = host.old; new = host.new }) (ReadsBy n result) }
+    ensures uses { Uses H.model (record { old = host.old; new = host.new }) (ReadsPipeBy n result) }
     ensures keeps { IsTrue H.model.tells → KeepsData (H.model.contents host.old) (H.model.contents host.new) }
     ensures in_order { AreKept kept.old.items → AreKept kept.new.items }
     ensures cause { CountsFault (replies_fault result) (H.model.fault_count host.old) (H.model.fault_count host.new) }
@@ -201,16 +202,16 @@ fn read_open<H: Host>(
     requires room { 2 ≤ kept.old.spare }
     requires there { IsTrue H.model.tells → has_pipe (H.model.contents host.old) pipe ≡ true }
     ensures passes { (h number : ℕ) (undo : Records)
-        → place_of me.old.places h ≡ Pipe pipe → refusal_at me.old h n ≡ None
+        → place_of me.old.places h ≡ Pipe pipe → pipe_refusal_at me.old h n ≡ None
         → Passes (fronted H.model) (XReadPipe h n) (record {
           old = record { host = before host.old kept.old.items; number = number; me = me.old; undo = undo };
           new = record { host = before host.new kept.new.items; number = number; me = me.new; undo = undo };
         }) result }
-    ensures err { IsTrue H.model.tells → OnErr result (Leads pipe [] [] (record {
+    ensures err { IsTrue H.model.tells → OnErr result (GivesSameWorld pipe [] [] (record {
       old = record { contents = H.model.contents host.old; items = kept.old.items };
       new = record { contents = H.model.contents host.new; items = kept.new.items };
     })) }
-    ensures notes { NotesOf pipe taken.old.items taken.new.items result }
+    ensures notes { NotesRead pipe taken.old.items taken.new.items result }
     ensures kept { ReadsKeptOf pipe n (record { old = kept.old.items; new = kept.new.items }) result }
     ensures room { IfOk result (λ reply. is_fault_reply reply ≡ false → kept.old.spare ≤ kept.new.spare) }
     ensures spare { kept.old.spare ≤ kept.new.spare + 2 }
@@ -241,7 +242,8 @@ pub fn x_read_pipe<H: Host>(
 ) -> Result<Reply, NoMemory>
     requires stored { me.old.stored ≤ 16384 }
     requires room { 2 ≤ kept.old.spare }
-    requires there { IsTrue H.model.tells → refusal_at me.old h n ≡ None → IsPipeIn (H.model.contents host.old) (place_of me.old.places h) }
+    requires there { IsTrue H.model.tells → pipe_refusal_at me.old h n ≡ None
+        → IsPipeIn (H.model.contents host.old) (place_of me.old.places h) }
     ensures call { (number : ℕ) (undo : Records) → IsHostCall (fronted H.model) (XReadPipe h n)
         (record { host = before host.old kept.old.items; number = number; me = me.old; undo = undo })
         (record { host = before host.new kept.new.items; number = number; me = me.new; undo = undo }) result }

@@ -13,10 +13,10 @@ use Rattle.xc_data.specs.declared.entry.JobEnd.{JobEnd}
 use Rattle.xc_data.specs.declared.entry.Turn.{Turn}
 use Rattle.xc_data.specs.declared.entry.Turn.TheVariants as turn
 use Rattle.xc_turnstile.specs.Known.{Known}
-use Rattle.xc_poll.specs.Alls.{AllFront, ArePolled, GivesAll, HasMoved, IsAllPolled, IsPolledOnce, is_over}
+use Rattle.xc_poll.specs.Alls.{AllFront, ArePolled, GivesAll, HasMoved, IsAllPolled, IsPolledOnce, is_crew_over}
 use Rattle.xc_poll.specs.Askings.{AreAsked, TellsAsked, asked_events}
 use Rattle.xc_poll.specs.Crews.{Crew, IsGathered, Rise, jobs_of}
-use Rattle.xc_poll.specs.Polls.{HasReason, IsPolled, last_of, turns_of}
+use Rattle.xc_poll.specs.Polls.{HasReason, IsPolled, last_of, events_of_turns}
 use Rattle.xc_poll.specs.Tasks.{Task}
 use Rattle.xc_poll.specs.declared.asking.Asked.{Asked}
 use Rattle.xc_poll.specs.declared.asking.Asked.TheVariants as asked
@@ -26,11 +26,11 @@ use Rattle.xc_poll.proofs.Parts.{OnlySharesOf, front_trans}
 use Rattle.xc_poll.proofs.Sound.{by_askings, gathers_back, gathers_polled, told_askings}
 
 -- ---- a task that is polled moves
-module _ (old new : Task) (answers : List (Option Turn)) (events : new.pass.view.events ≡ old.pass.view.events ++ turns_of old.job answers) where
+module _ (old new : Task) (answers : List (Option Turn)) (events : new.pass.view.events ≡ old.pass.view.events ++ events_of_turns old.job answers) where
   some_turn : (as_ : List (Option Turn)) → answers ≡ as_ → 1 ≤ length as_ → HasMoved old new
   some_turn [] is few = absurd (omega (arith, few))
   some_turn (a ∷ rest) is few =
-      inr (inr (a, turns_of old.job rest, events ∙ ap (λ (xs : List (Option Turn)). old.pass.view.events ++ turns_of old.job xs) is))
+      inr (inr (a, events_of_turns old.job rest, events ∙ ap (λ (xs : List (Option Turn)). old.pass.view.events ++ events_of_turns old.job xs) is))
 
   last_turn : (as_ : List (Option Turn)) (a : Option Turn) → last_of as_ ≡ Some a → 1 ≤ length as_
   last_turn [] a is = absurd cc
@@ -64,7 +64,7 @@ zip_front (x ∷ xs) (y ∷ ys) h = (h.0, zip_front xs ys h.1)
 
 -- ---- a round
 -- the last asking of a round that is over was answered that no job is left
-over_nothing : (crew : Crew) (last : Asked) → is_over crew last ≡ true → asked_events last ≡ Picked None ∷ []
+over_nothing : (crew : Crew) (last : Asked) → is_crew_over crew last ≡ true → asked_events last ≡ Picked None ∷ []
 over_nothing crew (asked.Held word) h = absurd cc
 over_nothing crew (asked.Job job) h = absurd cc
 over_nothing crew asked.Nothing h = refl
@@ -90,7 +90,7 @@ module _ (now : Option Crew) (old mid left : Crew) (last : Asked) (was : Some ol
       (by_askings (record old { tasks = mid.tasks }) left last asks).stay
 
   -- that pass knows that no job was left
-  knows_none : (back : Known) → is_over left last ≡ true → IsGathered left back → Contains back.view.events (Picked None)
+  knows_none : (back : Known) → is_crew_over left last ≡ true → IsGathered left back → Contains back.view.events (Picked None)
   knows_none back over h =
       let one : Contains (Picked None ∷ []) (Picked None) = (0, omega arith, refl) in
       let jobs = map (λ job. Picked (Some job)) told.before in
@@ -103,10 +103,10 @@ module _ (now : Option Crew) (old mid left : Crew) (last : Asked) (was : Some ol
       (Contains-append_right jobs (Picked None ∷ []) (Picked None) one))))
 
   -- where it is over: what is given
-  pub ready_gives : (back : Known) → is_over left last ≡ true → IsGathered left back → IsSomeAnd now (λ crew. GivesAll crew back)
+  pub ready_gives : (back : Known) → is_crew_over left last ≡ true → IsGathered left back → IsSomeAnd now (λ crew. GivesAll crew back)
   ready_gives back over h = subst (λ (o : Option Crew). IsSomeAnd o (λ crew. GivesAll crew back)) was (gathers_old back h, knows_none back over h)
 
-  pub ready_polled : (new : Option Crew) (back : Known) → new ≡ None → Rise 0 (jobs_of left.tasks) left.top → is_over left last ≡ true
+  pub ready_polled : (new : Option Crew) (back : Known) → new ≡ None → Rise 0 (jobs_of left.tasks) left.top → is_crew_over left last ≡ true
       → IsGathered left back → IsSomeAnd now (λ crew. IsAllPolled crew new (Ready back))
   ready_polled new back gone rise over h =
       let all : IsAllPolled old new (Ready back) =
@@ -129,7 +129,7 @@ module _ (now : Option Crew) (old mid left : Crew) (last : Asked) (was : Some ol
       subst (λ (r : Poll Known). OnPending r ((back : Known) → GivesAll left back → IsSomeAnd now (λ crew. GivesAll crew back))) (sym pending)
       (λ back h. subst (λ (o : Option Crew). IsSomeAnd o (λ crew. GivesAll crew back)) was (gathers_old back h.0, h.1))
 
-  pub pending_polled : (result : Poll Known) → result ≡ Pending → Rise 0 (jobs_of left.tasks) left.top → is_over left last ≡ false
+  pub pending_polled : (result : Poll Known) → result ≡ Pending → Rise 0 (jobs_of left.tasks) left.top → is_crew_over left last ≡ false
       → IsSomeAnd now (λ crew. IsAllPolled crew (Some left) result)
   pending_polled result pending rise over =
       let all : IsAllPolled old (Some left) Pending =

@@ -107,8 +107,8 @@ module _ (asking left : Known) (tasks rest : List Task) (given : Known) where
       ∙ (sym (map-append f h.before (h.task ∷ h.behind)) ∙ sym (ap jobs_of h.were)))
 
 -- so there are as many tasks
-pub parts_length : (asking left : Known) (tasks rest : List Task) (given : Known) → PartsMost asking left tasks rest given → length rest ≡ length tasks
-parts_length asking left tasks rest given h =
+pub tasks_length : (asking left : Known) (tasks rest : List Task) (given : Known) → PartsMost asking left tasks rest given → length rest ≡ length tasks
+tasks_length asking left tasks rest given h =
     sym (length-map rest (λ (task : Task). task.job)) ∙ (ap length (parts_jobs asking left tasks rest given h) ∙ length-map tasks (λ (task : Task). task.job))
 
 at_home : (home : TableId) (before behind : List Task) (t t' : Task) → t'.home ≡ t.home

@@ -14,15 +14,15 @@ use Rattle.xc_data.specs.declared.entry.Turn.TheVariants as turn
 use Rattle.xc_runner.specs.Tries.{IsHeldOff}
 use Rattle.xc_runner.proofs.Laws.{held_outside, outside_goes}
 use Rattle.xc_turnstile.specs.Insides.{PassGoesOn}
-use Rattle.xc_turnstile.proofs.Laws.{goes_further, starts_self}
+use Rattle.xc_turnstile.proofs.Laws.{pass_goes_further, starts_self}
 use Rattle.xc_turnstile.specs.declared.view.View.{View}
 use Rattle.xc_turnstile.specs.Known.{Known}
 use Rattle.atomic_table.specs.Seated.{TableId}
 use Rattle.xc_poll.specs.Tasks.{Task, known_of}
-use Rattle.xc_poll.specs.Polls.{AllWent, AllButLastWent, GainsTurn, HasGone, HasReason, HasStopped, IsPolled, IsRound}
-use Rattle.xc_poll.specs.Polls.{last_of, said, said_by, stop_of, turns_of}
-use Rattle.xc_poll.specs.declared.round.Stop.{Stop}
-use Rattle.xc_poll.specs.declared.round.Stop.TheVariants as stop
+use Rattle.xc_poll.specs.Polls.{AllWent, AllButLastWent, GainsTurn, TookTurns, HasReason, HasStopped, IsPolled, IsRound}
+use Rattle.xc_poll.specs.Polls.{last_of, said, poll_said, stop_of, events_of_turns}
+use Rattle.xc_poll.specs.declared.round.RoundStop.{RoundStop}
+use Rattle.xc_poll.specs.declared.round.RoundStop.TheVariants as stop
 use Rattle.xc_poll.specs.declared.round.Waits.{Waits}
 use Rattle.xc_poll.specs.declared.round.Waits.TheVariants as waits
 
@@ -45,24 +45,25 @@ went_more : (as_ : List (Option Turn)) (a : Option Turn) → AllWent as_ → a �
 went_more [] a h e = (e, tt)
 went_more (b ∷ rest) a h e = (h.0, went_more rest a h.1 e)
 
-went_last : (as_ : List (Option Turn)) → AllWent as_ → (o : Option (Option Turn)) → said_by o ≡ Pending → said_by (last_or o as_) ≡ Pending
+went_last : (as_ : List (Option Turn)) → AllWent as_ → (o : Option (Option Turn)) → poll_said o ≡ Pending → poll_said (last_or o as_) ≡ Pending
 went_last [] h o p = p
-went_last (a ∷ rest) h o p = went_last rest h.1 (Some a) (ap (λ (x : Option Turn). said_by (Some x)) h.0)
+went_last (a ∷ rest) h o p = went_last rest h.1 (Some a) (ap (λ (x : Option Turn). poll_said (Some x)) h.0)
 
-events_more : (old mid new : List Event) (job : ℕ) (as_ : List (Option Turn)) (a : Option Turn) → mid ≡ old ++ turns_of job as_ → new ≡ mid ++ Turned job a ∷ []
-    → new ≡ old ++ turns_of job (as_ ++ a ∷ [])
+events_more : (old mid new : List Event) (job : ℕ) (as_ : List (Option Turn)) (a : Option Turn) → mid ≡ old ++ events_of_turns job as_
+    → new ≡ mid ++ Turned job a ∷ []
+    → new ≡ old ++ events_of_turns job (as_ ++ a ∷ [])
 events_more old mid new job as_ a p q =
     q ∙ (ap (λ (es : List Event). es ++ Turned job a ∷ []) p
-    ∙ (append_assoc old (turns_of job as_) (Turned job a ∷ [])
+    ∙ (append_assoc old (events_of_turns job as_) (Turned job a ∷ [])
     ∙ ap (λ (es : List Event). old ++ es) (sym (map-append (λ (answer : Option Turn). Turned job answer) as_ (a ∷ [])))))
 
 -- ---- what a poll says
 -- a poll whose turns stop for a reason is pending
-pub said_waits : (share : ℕ) (as_ : List (Option Turn)) (old new : ℕ) (why : Waits) → HasReason share as_ old new why → Pending ≡ said_by (last_of as_)
-said_waits share as_ old new (waits.Met object holder) h = sym (ap said_by h.0)
+pub said_waits : (share : ℕ) (as_ : List (Option Turn)) (old new : ℕ) (why : Waits) → HasReason share as_ old new why → Pending ≡ poll_said (last_of as_)
+said_waits share as_ old new (waits.Met object holder) h = sym (ap poll_said h.0)
 said_waits share as_ old new (waits.Held word) h = sym (went_last as_ h.0 None refl)
 said_waits share as_ old new waits.Spent h = sym (went_last as_ h.0 None refl)
-said_waits share as_ old new waits.Memory h = sym (ap said_by h.0)
+said_waits share as_ old new waits.Memory h = sym (ap poll_said h.0)
 
 -- ---- a pass that stays
 pub goes_nowhere : (a : Known) → PassGoesOn a a
@@ -77,7 +78,7 @@ goes_nowhere a =
     }
 
 -- ---- several
-pub gone_nowhere : (a : Known) (job : ℕ) → HasGone a a job 0
+pub gone_nowhere : (a : Known) (job : ℕ) → TookTurns a a job 0
 gone_nowhere a job =
     record {
       answers = [];
@@ -90,8 +91,8 @@ gone_nowhere a job =
     }
 
 -- one turn more that went
-pub gone_further : (a b c : Known) (job count : ℕ) (answer : Option Turn) → HasGone a b job count → GainsTurn b c job answer → answer ≡ Some turn.Went
-    → HasGone a c job (count + 1)
+pub gone_further : (a b c : Known) (job count : ℕ) (answer : Option Turn) → TookTurns a b job count → GainsTurn b c job answer → answer ≡ Some turn.Went
+    → TookTurns a c job (count + 1)
 gone_further a b c job count answer h k e =
     record {
       answers = h.answers ++ answer ∷ [];
@@ -100,29 +101,30 @@ gone_further a b c job count answer h k e =
       events = events_more _ _ _ job h.answers answer h.events k.gains.gained;
       won = omega (arith, k.won, h.won);
       lost = k.lost ∙ h.lost;
-      goes = goes_further a b c h.goes k.gains.goes;
+      goes = pass_goes_further a b c h.goes k.gains.goes;
     }
 
 -- the stop that is there
-abbrev there : Stop → Option Stop → Stop
-there at None = at
-there at (Some s) = s
+abbrev stop_there : RoundStop → Option RoundStop → RoundStop
+stop_there at None = at
+stop_there at (Some s) = s
 
-abbrev IsNone : Option Stop → Type 0
+abbrev IsNone : Option RoundStop → Type 0
 IsNone None = Unit {0}
 IsNone (Some s) = ⊥
 
 -- where the turns stop behind an answer
-stopped_by : (share : ℕ) (as_ : List (Option Turn)) (answer : Option Turn) (at : Stop) (x y : ℕ) → last_of as_ ≡ Some answer → y ≡ x
+stopped_by : (share : ℕ) (as_ : List (Option Turn)) (answer : Option Turn) (at : RoundStop) (x y : ℕ) → last_of as_ ≡ Some answer → y ≡ x
     → stop_of answer ≡ Some at → HasStopped share as_ x y at
-stopped_by share as_ None at x y l same is = subst (HasStopped share as_ x y) (ap (there at) is) (l, same)
+stopped_by share as_ None at x y l same is = subst (HasStopped share as_ x y) (ap (stop_there at) is) (l, same)
 stopped_by share as_ (Some turn.Went) at x y l same is = absurd (subst IsNone is tt)
-stopped_by share as_ (Some (turn.Busy object holder)) at x y l same is = subst (HasStopped share as_ x y) (ap (there at) is) (l, same)
-stopped_by share as_ (Some turn.NoMemory) at x y l same is = subst (HasStopped share as_ x y) (ap (there at) is) (l, same)
-stopped_by share as_ (Some (turn.Ended end)) at x y l same is = subst (HasStopped share as_ x y) (ap (there at) is) (l, same)
+stopped_by share as_ (Some (turn.Busy object holder)) at x y l same is = subst (HasStopped share as_ x y) (ap (stop_there at) is) (l, same)
+stopped_by share as_ (Some turn.NoMemory) at x y l same is = subst (HasStopped share as_ x y) (ap (stop_there at) is) (l, same)
+stopped_by share as_ (Some (turn.Ended end)) at x y l same is = subst (HasStopped share as_ x y) (ap (stop_there at) is) (l, same)
 
 -- one turn more, behind which they stop
-pub round_stopped : (a b c : Known) (job share count : ℕ) (answer : Option Turn) (at : Stop) → HasGone a b job count → count < share → GainsTurn b c job answer
+pub round_stopped : (a b c : Known) (job share count : ℕ) (answer : Option Turn) (at : RoundStop) → TookTurns a b job count → count < share
+    → GainsTurn b c job answer
     → stop_of answer ≡ Some at → IsRound a c job share at
 round_stopped a b c job share count answer at h below k is =
     let long = length-append h.answers (answer ∷ []) ∙ ap (λ n. n + 1) h.long in
@@ -132,12 +134,12 @@ round_stopped a b c job share count answer at h below k is =
       few = omega (arith, long, below);
       went = all_but h.answers answer h.went;
       won = omega (arith, k.won, h.won, long);
-      goes = goes_further a b c h.goes k.gains.goes;
+      goes = pass_goes_further a b c h.goes k.gains.goes;
       stopped = stopped_by share (h.answers ++ answer ∷ []) answer at _ _ (last_more h.answers answer None) (k.lost ∙ h.lost) is;
     }
 
 -- a stop is there
-abbrev IsSome : Option Stop → Type 0
+abbrev IsSome : Option RoundStop → Type 0
 IsSome None = ⊥
 IsSome (Some s) = Unit {0}
 
@@ -150,7 +152,7 @@ went_on (Some turn.NoMemory) e = absurd (subst IsSome e tt)
 went_on (Some (turn.Ended end)) e = absurd (subst IsSome e tt)
 
 -- turns that stop since another was inside
-pub round_held : (a b c : Known) (job share count word : ℕ) → HasGone a b job count → count < share → IsHeldOff b c word
+pub round_held : (a b c : Known) (job share count word : ℕ) → TookTurns a b job count → count < share → IsHeldOff b c word
     → IsRound a c job share (stop.Waits (waits.Held word))
 round_held a b c job share count word h below k =
     record {
@@ -159,12 +161,12 @@ round_held a b c job share count word h below k =
       few = omega (arith, h.long, below);
       went = all_but_self h.answers h.went;
       won = ap (λ (v : View). v.won) k.view ∙ (h.won ∙ ap (λ n. a.view.won + n) (sym h.long));
-      goes = goes_further a b c h.goes (outside_goes b c (held_outside b c word k));
+      goes = pass_goes_further a b c h.goes (outside_goes b c (held_outside b c word k));
       stopped = (h.went, omega (arith, h.long, below), k.odd, ap (λ (v : View). v.lost) k.view ∙ ap (λ n. n + 1) h.lost);
     }
 
 -- turns that stop since all of the share were taken
-pub round_spent : (a b : Known) (job share count : ℕ) → HasGone a b job count → count ≡ share → IsRound a b job share (stop.Waits waits.Spent)
+pub round_spent : (a b : Known) (job share count : ℕ) → TookTurns a b job count → count ≡ share → IsRound a b job share (stop.Waits waits.Spent)
 round_spent a b job share count h e =
     record {
       answers = h.answers;

@@ -15,7 +15,7 @@ use Rattle.xc_turnstile.proofs.Laws.{starts_self, starts_trans}
 use Rattle.xc_poll.specs.Alls.{AllFront, ArePolled}
 use Rattle.xc_poll.specs.Askings.{AreAsked, EndsAsking, HandOut, HandsOut, HasAsked, PartsMost, TakesIn, TakesInOrLeaves, TellsAsked}
 use Rattle.xc_poll.specs.Askings.{asked_events, asked_lost, task_for}
-use Rattle.xc_poll.specs.Crews.{Crew, IsGathered, IsSound, Rise, all_shares, jobs_of, shares_of}
+use Rattle.xc_poll.specs.Crews.{Crew, IsGathered, IsCrewSound, Rise, all_shares, jobs_of, shares_of}
 use Rattle.xc_poll.specs.Tasks.{Task}
 use Rattle.xc_poll.specs.declared.asking.Asked.{Asked}
 use Rattle.xc_poll.specs.declared.asking.Asked.TheVariants as asked
@@ -36,8 +36,8 @@ asked_keeps old new asked.Nothing h = (h.gains.goes.table, h.gains.goes.shares)
 
 -- behind an asking
 pub sound_asked : (home : TableId) (asking left : Known) (tasks : List Task) (top share : ℕ) (last : Asked)
-    → IsSound (record { home = home; asking = asking; tasks = tasks; top = top; share = share }) → HasAsked asking left last
-    → IsSound (record { home = home; asking = left; tasks = tasks; top = top; share = share })
+    → IsCrewSound (record { home = home; asking = asking; tasks = tasks; top = top; share = share }) → HasAsked asking left last
+    → IsCrewSound (record { home = home; asking = left; tasks = tasks; top = top; share = share })
 sound_asked home asking left tasks top share last s h =
     let k = asked_keeps asking left last h in
     record { table = k.0 ∙ s.table; homes = s.homes; rise = s.rise; share = s.share; few = omega (arith, k.1, s.few) }
@@ -66,8 +66,8 @@ polled_homes home (x ∷ xs) (y ∷ ys) h k = (h.0.1.same.0 ∙ k.0, polled_home
 
 -- what was true is true
 pub sound_polled : (home : TableId) (asking : Known) (tasks rest : List Task) (top share : ℕ)
-    → IsSound (record { home = home; asking = asking; tasks = tasks; top = top; share = share }) → ArePolled tasks rest
-    → IsSound (record { home = home; asking = asking; tasks = rest; top = top; share = share })
+    → IsCrewSound (record { home = home; asking = asking; tasks = tasks; top = top; share = share }) → ArePolled tasks rest
+    → IsCrewSound (record { home = home; asking = asking; tasks = rest; top = top; share = share })
 sound_polled home asking tasks rest top share s h =
     record {
       table = s.table;
@@ -98,7 +98,7 @@ module _ (old new : Crew) (job : ℕ) (h : TakesIn old new job) where
       subst (λ (ns : List ℕ). Rise 0 ns new.top) (sym jobs) (subst (Rise 0 (jobs_of old.tasks ++ job ∷ [])) (sym h.top)
       (rise_more 0 old.top job (jobs_of old.tasks) r h.above))
 
-  pub sound_taken : IsSound old → h.given.table ≡ old.home → IsSound new
+  pub sound_taken : IsCrewSound old → h.given.table ≡ old.home → IsCrewSound new
   sound_taken s at =
       let left = parts_left old.asking new.asking old.tasks h.rest h.given h.parts in
       let homes : All (λ (task : Task). task.home ≡ old.home) (h.rest ++ task_for job old.share h.given ∷ []) =
@@ -115,11 +115,11 @@ module _ (old new : Crew) (job : ℕ) (h : TakesIn old new job) where
 
 -- a task that was made for the job and stands behind the others
 pub takes_in : (home : TableId) (asking left given : Known) (tasks rest pushed : List Task) (top share job : ℕ)
-    → IsSound (record { home = home; asking = asking; tasks = tasks; top = top; share = share }) → top < job → given.table ≡ asking.table
+    → IsCrewSound (record { home = home; asking = asking; tasks = tasks; top = top; share = share }) → top < job → given.table ≡ asking.table
     → PartsMost asking left tasks rest given → pushed ≡ rest ++ task_for job share given ∷ []
     → TakesIn (record { home = home; asking = asking; tasks = tasks; top = top; share = share })
     (record { home = home; asking = left; tasks = pushed; top = job; share = share }) job
-    × IsSound (record { home = home; asking = left; tasks = pushed; top = job; share = share })
+    × IsCrewSound (record { home = home; asking = left; tasks = pushed; top = job; share = share })
 takes_in home asking left given tasks rest pushed top share job s above at parts is =
     let old : Crew = record { home = home; asking = asking; tasks = tasks; top = top; share = share } in
     let new : Crew = record { home = home; asking = left; tasks = pushed; top = job; share = share } in

@@ -45,10 +45,10 @@ pub record IsRoundOfAll (old new : Crew) (last : Asked) : Type 0 where
   pub asks : AreAsked (record old { tasks = polled }) new last
 
 -- every task has answered Ready, and no job was left at the last asking
-abbrev pub is_over : Crew → Asked → Bool
-is_over crew (asked.Held word) = false
-is_over crew (asked.Job job) = false
-is_over crew asked.Nothing = list_all (λ (task : Task). task.ready) crew.tasks
+abbrev pub is_crew_over : Crew → Asked → Bool
+is_crew_over crew (asked.Held word) = false
+is_crew_over crew (asked.Job job) = false
+is_crew_over crew asked.Nothing = list_all (λ (task : Task). task.ready) crew.tasks
 
 -- ---- a poll
 -- one poll is a round. It is Ready exactly where the round is over, with one pass of all that are left, and Pending exactly where it isn't
@@ -61,9 +61,9 @@ pub record IsAllPolled (old : Crew) (new : Option Crew) (result : Poll Known) : 
   pub told : TellsAsked old.asking left.asking last
   pub rise : Rise 0 (jobs_of left.tasks) left.top
   pub moved : AllFront HasMoved old.tasks left.tasks
-  pub given : IfReady result (λ back. (is_over left last ≡ true) × IsGathered left back × Contains back.view.events (Picked None)
+  pub given : IfReady result (λ back. (is_crew_over left last ≡ true) × IsGathered left back × Contains back.view.events (Picked None)
       × (new ≡ None))
-  pub waits : OnPending result ((is_over left last ≡ false) × (new ≡ Some left))
+  pub waits : OnPending result ((is_crew_over left last ≡ false) × (new ≡ Some left))
 
 -- what a poll that is ready gives: one pass that goes on from the one that asks, with all shares, and that knows that no job was left
 abbrev pub GivesAll : Crew → Known → Type 0

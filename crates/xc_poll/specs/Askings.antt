@@ -21,10 +21,10 @@ HasAsked old new (asked.Job job) = GainsOnce old new (Picked (Some job))
 HasAsked old new asked.Nothing = GainsOnce old new (Picked None)
 
 -- what a step that doesn't wait says to one that asks
-abbrev pub asked_of : Tried (Option ℕ) → Asked
-asked_of (Answered (Some job)) = asked.Job job
-asked_of (Answered None) = asked.Nothing
-asked_of (Held word) = asked.Held word
+abbrev pub asked_from : Tried (Option ℕ) → Asked
+asked_from (Answered (Some job)) = asked.Job job
+asked_from (Answered None) = asked.Nothing
+asked_from (Held word) = asked.Held word
 
 -- ---- a pass for a job
 -- half of a pass, which has two shares at least, is given away

@@ -33,7 +33,7 @@ Rise low [] high = low ≤ high
 Rise low (n ∷ ns) high = (low < n) × Rise n ns high
 
 -- what is true of a crew between two polls
-pub record IsSound (crew : Crew) : Type 0 where
+pub record IsCrewSound (crew : Crew) : Type 0 where
   pub table : crew.asking.table ≡ crew.home
   pub homes : All (λ (task : Task). task.home ≡ crew.home) crew.tasks
   pub rise : Rise 0 (jobs_of crew.tasks) crew.top

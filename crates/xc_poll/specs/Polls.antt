@@ -15,15 +15,15 @@ use Rattle.xc_turnstile.specs.Insides.{PassGoesOn}
 use Rattle.xc_turnstile.specs.Known.{Known}
 use Rattle.xc_runner.specs.Tries.{GainsOnce}
 use Rattle.xc_poll.specs.Tasks.{Task}
-use Rattle.xc_poll.specs.declared.round.Stop.{Stop}
-use Rattle.xc_poll.specs.declared.round.Stop.TheVariants as stop
+use Rattle.xc_poll.specs.declared.round.RoundStop.{RoundStop}
+use Rattle.xc_poll.specs.declared.round.RoundStop.TheVariants as stop
 use Rattle.xc_poll.specs.declared.round.Waits.{Waits}
 use Rattle.xc_poll.specs.declared.round.Waits.TheVariants as waits
 
 -- ---- the answers of the turns that a poll took, in their order
 -- the events of these turns
-abbrev pub turns_of : ℕ → List (Option Turn) → List Event
-turns_of job answers = map (λ answer. Turned job answer) answers
+abbrev pub events_of_turns : ℕ → List (Option Turn) → List Event
+events_of_turns job answers = map (λ answer. Turned job answer) answers
 
 -- each went
 abbrev pub AllWent : List (Option Turn) → Type 0
@@ -42,17 +42,17 @@ last_of answers = last_or None answers
 
 -- ---- what a poll says
 -- what the last answer says
-abbrev pub said_by : Option (Option Turn) → Poll (Option JobEnd)
-said_by None = Pending
-said_by (Some None) = Ready None
-said_by (Some (Some turn.Went)) = Pending
-said_by (Some (Some (turn.Busy object holder))) = Pending
-said_by (Some (Some turn.NoMemory)) = Pending
-said_by (Some (Some (turn.Ended end))) = Ready (Some end)
+abbrev pub poll_said : Option (Option Turn) → Poll (Option JobEnd)
+poll_said None = Pending
+poll_said (Some None) = Ready None
+poll_said (Some (Some turn.Went)) = Pending
+poll_said (Some (Some (turn.Busy object holder))) = Pending
+poll_said (Some (Some turn.NoMemory)) = Pending
+poll_said (Some (Some (turn.Ended end))) = Ready (Some end)
 
 -- what the poll says: where the task was ready before, that there is no end any more
 abbrev pub said : Bool → List (Option Turn) → Poll (Option JobEnd)
-said ready answers = if ready then Ready None else said_by (last_of answers)
+said ready answers = if ready then Ready None else poll_said (last_of answers)
 
 -- what holds where a task has to be polled again for this reason: of its answers, and of how often it found another inside
 abbrev pub HasReason : ℕ → List (Option Turn) → ℕ → ℕ → Waits → Type 0
@@ -64,7 +64,7 @@ HasReason share answers old new waits.Memory = (last_of answers ≡ Some (Some t
 -- one poll
 pub record IsPolled (old new : Task) (result : Poll (Option JobEnd)) : Type 0 where
   pub answers : List (Option Turn)
-  pub events : new.pass.view.events ≡ old.pass.view.events ++ turns_of old.job answers
+  pub events : new.pass.view.events ≡ old.pass.view.events ++ events_of_turns old.job answers
   pub few : length answers ≤ old.share
   pub share : 1 ≤ old.share
   pub went : AllButLastWent answers
@@ -80,7 +80,7 @@ pub record IsPolled (old new : Task) (result : Poll (Option JobEnd)) : Type 0 wh
 
 -- ---- within a poll
 -- where the turns stop behind an answer
-abbrev pub stop_of : Option Turn → Option Stop
+abbrev pub stop_of : Option Turn → Option RoundStop
 stop_of None = Some (stop.Ended None)
 stop_of (Some turn.Went) = None
 stop_of (Some (turn.Busy object holder)) = Some (stop.Waits (waits.Met object holder))
@@ -92,11 +92,11 @@ abbrev pub GainsTurn : Known → Known → ℕ → Option Turn → Type 0
 GainsTurn old new job answer = GainsOnce old new (Turned job answer)
 
 -- so many turns were taken, and each went
-pub record HasGone (old new : Known) (job count : ℕ) : Type 0 where
+pub record TookTurns (old new : Known) (job count : ℕ) : Type 0 where
   pub answers : List (Option Turn)
   pub went : AllWent answers
   pub long : length answers ≡ count
-  pub events : new.view.events ≡ old.view.events ++ turns_of job answers
+  pub events : new.view.events ≡ old.view.events ++ events_of_turns job answers
   pub won : new.view.won ≡ old.view.won + count
   pub lost : new.view.lost ≡ old.view.lost
   pub goes : PassGoesOn old new
@@ -107,14 +107,14 @@ end_of None = None
 end_of (Some end) = Some (turn.Ended end)
 
 -- what holds where the turns of a poll stop so
-abbrev pub HasStopped : ℕ → List (Option Turn) → ℕ → ℕ → Stop → Type 0
+abbrev pub HasStopped : ℕ → List (Option Turn) → ℕ → ℕ → RoundStop → Type 0
 HasStopped share answers old new (stop.Ended end) = (last_of answers ≡ Some (end_of end)) × (new ≡ old)
 HasStopped share answers old new (stop.Waits why) = HasReason share answers old new why
 
 -- the turns of a poll
-pub record IsRound (old new : Known) (job share : ℕ) (at : Stop) : Type 0 where
+pub record IsRound (old new : Known) (job share : ℕ) (at : RoundStop) : Type 0 where
   pub answers : List (Option Turn)
-  pub events : new.view.events ≡ old.view.events ++ turns_of job answers
+  pub events : new.view.events ≡ old.view.events ++ events_of_turns job answers
   pub few : length answers ≤ share
   pub went : AllButLastWent answers
   pub won : new.view.won ≡ old.view.won + length answers

@@ -1,5 +1,5 @@
 ghost use Rattle.std.specs.Prelude.{◌≡◌};
-ghost use Rattle.xc_poll.specs.Askings.{HasAsked, asked_of};
+ghost use Rattle.xc_poll.specs.Askings.{HasAsked, asked_from};
 
 use xc_host::Host;
 use xc_runner::{Tried, try_pick};
@@ -19,7 +19,7 @@ pub enum Asked {
 
 // What an asking was answered.
 fn asked_of(tried: Tried<Option<u32>>) -> Asked
-    ensures { result ≡ asked_of tried }
+    ensures { result ≡ asked_from tried }
 {
     match tried {
         Tried::Answered(Some(job)) => Asked::Job(job),

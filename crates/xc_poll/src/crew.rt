@@ -1,7 +1,7 @@
 ghost use Rattle.std.specs.Prelude.{◌≡◌, ◌≤◌, []};
 ghost use Rattle.std.specs.List.{list_all};
 ghost use Rattle.futures.specs.Task.{Keeps};
-ghost use Rattle.xc_poll.specs.Alls.{ArePolled, is_over};
+ghost use Rattle.xc_poll.specs.Alls.{ArePolled, is_crew_over};
 ghost use Rattle.xc_poll.specs.Askings.{AreAsked, HasAsked, TakesInOrLeaves};
 ghost use Rattle.xc_poll.specs.Crews.{IsGathered, Rise, jobs_of};
 ghost use Rattle.xc_poll.specs.Tasks.{Task};
@@ -34,7 +34,7 @@ pub(crate) struct Crew<'a, H: Host> {
 
 impl<'a, H: Host> Model for Crew<'a, H> {
     ghost use Rattle.std.specs.Prelude.{IsSome};
-    ghost use Rattle.xc_poll.specs.Crews.{Crew as Seen, IsSound};
+    ghost use Rattle.xc_poll.specs.Crews.{Crew as Seen, IsCrewSound};
     ghost use Rattle.xc_poll.specs.Tasks.{known_of};
 
     ghost Value = { Seen };
@@ -47,7 +47,7 @@ impl<'a, H: Host> Model for Crew<'a, H> {
       share = c.share;
     } };
 
-    ghost invariant = { λ c. IsSome c.asking × IsSound (record {
+    ghost invariant = { λ c. IsSome c.asking × IsCrewSound (record {
       home = c.shop.now.table.shared.table_id;
       asking = known_of c.asking;
       tasks = c.tasks.items;
@@ -157,7 +157,7 @@ impl<'a, H: Host> Crew<'a, H> {
 
     // Whether all is done, where the last asking was answered so.
     pub(crate) fn is_over(&self, last: Asked) -> bool
-        ensures over { result ≡ is_over self.now last }
+        ensures over { result ≡ is_crew_over self.now last }
         ensures rise { Rise 0 (jobs_of self.now.tasks) self.now.top }
     {
         match last {

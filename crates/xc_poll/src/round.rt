@@ -38,25 +38,25 @@ impl Waits {
 }
 
 /// Where the turns of a poll stop.
-pub(crate) enum Stop {
+pub(crate) enum RoundStop {
     /// The job has ended; no end where it had ended before.
     Ended(Option<JobEnd>),
     Waits(Waits),
 }
 
 // Where the turns stop behind this answer; none where they go on.
-fn stop_of(answer: &Option<Turn>) -> Option<Stop>
+fn stop_of(answer: &Option<Turn>) -> Option<RoundStop>
     ensures { result ≡ stop_of answer.now }
 {
     match answer {
-        None => Some(Stop::Ended(None)),
+        None => Some(RoundStop::Ended(None)),
         Some(Turn::Went) => None,
-        Some(Turn::Busy { object, holder }) => Some(Stop::Waits(Waits::Met {
+        Some(Turn::Busy { object, holder }) => Some(RoundStop::Waits(Waits::Met {
             object: object.again(),
             holder: *holder,
         })),
-        Some(Turn::NoMemory) => Some(Stop::Waits(Waits::Memory)),
-        Some(Turn::Ended(end)) => Some(Stop::Ended(Some(end.again()))),
+        Some(Turn::NoMemory) => Some(RoundStop::Waits(Waits::Memory)),
+        Some(Turn::Ended(end)) => Some(RoundStop::Ended(Some(end.again()))),
     }
 }
 
@@ -66,7 +66,7 @@ pub(crate) fn take_turns<H: Host>(
     pass: Pass<Box<Station<H>>>,
     job: u32,
     share: u32,
-) -> (Pass<Box<Station<H>>>, Stop)
+) -> (Pass<Box<Station<H>>>, RoundStop)
     requires table { pass.table ≡ shop.now.table.shared.table_id }
     requires share { 1 ≤ share }
     ensures { IsRound pass result.0 job share result.1 }
@@ -77,7 +77,7 @@ pub(crate) fn take_turns<H: Host>(
         let (back, tried) = try_turn(shop, mine, job);
         mine = back;
         let answer = match tried {
-            Tried::Held(word) => return (mine, Stop::Waits(Waits::Held(word))),
+            Tried::Held(word) => return (mine, RoundStop::Waits(Waits::Held(word))),
             Tried::Answered(answer) => answer,
         };
         if let Some(stop) = stop_of(&answer) {
@@ -85,5 +85,5 @@ pub(crate) fn take_turns<H: Host>(
         }
         count += 1;
     }
-    (mine, Stop::Waits(Waits::Spent))
+    (mine, RoundStop::Waits(Waits::Spent))
 }

@@ -5,7 +5,7 @@ ghost use Rattle.futures.specs.Poll.{IfReady, OnPending};
 ghost use Rattle.xc_poll.specs.Polls.{IsPolled};
 ghost use Rattle.xc_turnstile.specs.Views.{given_half, kept_half};
 
-use crate::round::{Stop, Waits, take_turns};
+use crate::round::{RoundStop, Waits, take_turns};
 use futures::Future;
 use futures::task::{Context, Poll};
 use std::marker::Model;
@@ -141,12 +141,12 @@ impl<H: Host> Future for JobTask<'_, H> {
         let (pass, stop) = take_turns(self.shop, pass, self.job, self.share);
         self.pass = Some(pass);
         match stop {
-            Stop::Ended(end) => {
+            RoundStop::Ended(end) => {
                 self.ready = true;
                 self.why = None;
                 Poll::Ready(end)
             }
-            Stop::Waits(why) => {
+            RoundStop::Waits(why) => {
                 self.why = Some(why);
                 cx.yield_now()
             }

@@ -10,8 +10,8 @@ use Rattle.xc_print.specs.Bytes.{escaped, escaped_byte}
 use Rattle.xc_print.specs.Kept.{is_same, join, joined, kept_line, kept_lines, opening_text, closing_text, turned_to, item_text, opened_by}
 
 -- the lines of items that are joined
-abbrev lines_of : List KeptItem → List ℕ
-lines_of items = flat_map kept_line items
+abbrev joined_lines : List KeptItem → List ℕ
+joined_lines items = flat_map kept_line items
 
 -- these bytes end the open line, and these lines come after it
 abbrev ended : List ℕ → List ℕ → List ℕ
@@ -21,8 +21,8 @@ ended bytes lines = escaped bytes ++ (codes "\"\n" ++ lines)
 abbrev behind_open : Num → List KeptItem → List ℕ
 behind_open pipe [] = ended [] []
 behind_open pipe (Bytes next more ∷ items) =
-    if is_same pipe next then ended more (lines_of items) else ended [] (lines_of (Bytes next more ∷ items))
-behind_open pipe (Message pair side bytes ∷ items) = ended [] (lines_of (Message pair side bytes ∷ items))
+    if is_same pipe next then ended more (joined_lines items) else ended [] (joined_lines (Bytes next more ∷ items))
+behind_open pipe (Message pair side bytes ∷ items) = ended [] (joined_lines (Message pair side bytes ∷ items))
 
 -- what items print after what is open
 abbrev pub left_lines : Option Num → List KeptItem → List ℕ
@@ -45,52 +45,52 @@ line_opens pipe bytes lines = simp append_assoc
 
 -- bytes of a pipe open its line
 opens : (pipe : Num) (bytes : List ℕ) (items : List KeptItem)
-    → lines_of (join (Bytes pipe bytes) items) ≡ opening_text pipe ++ (escaped bytes ++ behind_open pipe items)
+    → joined_lines (join (Bytes pipe bytes) items) ≡ opening_text pipe ++ (escaped bytes ++ behind_open pipe items)
 opens pipe bytes [] = line_opens pipe bytes []
-opens pipe bytes (Message pair side message ∷ items) = line_opens pipe bytes (lines_of (Message pair side message ∷ items))
+opens pipe bytes (Message pair side message ∷ items) = line_opens pipe bytes (joined_lines (Message pair side message ∷ items))
 opens pipe bytes (Bytes next more ∷ items) = by_same (is_same pipe next)
   where
-    by_same : (same : Bool) → lines_of (if same then Bytes pipe (bytes ++ more) ∷ items else Bytes pipe bytes ∷ Bytes next more ∷ items)
-        ≡ opening_text pipe ++ (escaped bytes ++ (if same then ended more (lines_of items) else ended [] (lines_of (Bytes next more ∷ items))))
-    by_same true = line_opens pipe (bytes ++ more) (lines_of items) ∙ ap (λ bs. opening_text pipe ++ bs) (ended_append bytes more (lines_of items))
-    by_same false = line_opens pipe bytes (lines_of (Bytes next more ∷ items))
+    by_same : (same : Bool) → joined_lines (if same then Bytes pipe (bytes ++ more) ∷ items else Bytes pipe bytes ∷ Bytes next more ∷ items)
+        ≡ opening_text pipe ++ (escaped bytes ++ (if same then ended more (joined_lines items) else ended [] (joined_lines (Bytes next more ∷ items))))
+    by_same true = line_opens pipe (bytes ++ more) (joined_lines items) ∙ ap (λ bs. opening_text pipe ++ bs) (ended_append bytes more (joined_lines items))
+    by_same false = line_opens pipe bytes (joined_lines (Bytes next more ∷ items))
 
 -- where the line of their pipe is open they go on with it
 goes_on : (before pipe : Num) (bytes : List ℕ) (items : List KeptItem) → is_same before pipe ≡ true
     → behind_open before (join (Bytes pipe bytes) items) ≡ escaped bytes ++ behind_open pipe items
-goes_on before pipe bytes [] same = ap (λ b. if b then ended bytes [] else ended [] (lines_of (Bytes pipe bytes ∷ []))) same
+goes_on before pipe bytes [] same = ap (λ b. if b then ended bytes [] else ended [] (joined_lines (Bytes pipe bytes ∷ []))) same
 goes_on before pipe bytes (Message pair side message ∷ items) same =
     let rest = Message pair side message ∷ items in
-    ap (λ b. if b then ended bytes (lines_of rest) else ended [] (lines_of (Bytes pipe bytes ∷ rest))) same
+    ap (λ b. if b then ended bytes (joined_lines rest) else ended [] (joined_lines (Bytes pipe bytes ∷ rest))) same
 goes_on before pipe bytes (Bytes next more ∷ items) same = by_same (is_same pipe next)
   where
     by_same : (one : Bool)
         → behind_open before (if one then Bytes pipe (bytes ++ more) ∷ items else Bytes pipe bytes ∷ Bytes next more ∷ items)
-        ≡ escaped bytes ++ (if one then ended more (lines_of items) else ended [] (lines_of (Bytes next more ∷ items)))
+        ≡ escaped bytes ++ (if one then ended more (joined_lines items) else ended [] (joined_lines (Bytes next more ∷ items)))
     by_same true =
-        ap (λ b. if b then ended (bytes ++ more) (lines_of items) else ended [] (lines_of (Bytes pipe (bytes ++ more) ∷ items))) same
-        ∙ ended_append bytes more (lines_of items)
+        ap (λ b. if b then ended (bytes ++ more) (joined_lines items) else ended [] (joined_lines (Bytes pipe (bytes ++ more) ∷ items))) same
+        ∙ ended_append bytes more (joined_lines items)
     by_same false =
         let rest = Bytes next more ∷ items in
-        ap (λ b. if b then ended bytes (lines_of rest) else ended [] (lines_of (Bytes pipe bytes ∷ rest))) same
+        ap (λ b. if b then ended bytes (joined_lines rest) else ended [] (joined_lines (Bytes pipe bytes ∷ rest))) same
 
 -- where another line is open it ends
 closes : (before pipe : Num) (bytes : List ℕ) (items : List KeptItem) → is_same before pipe ≡ false
-    → behind_open before (join (Bytes pipe bytes) items) ≡ codes "\"\n" ++ lines_of (join (Bytes pipe bytes) items)
-closes before pipe bytes [] other = ap (λ b. if b then ended bytes [] else ended [] (lines_of (Bytes pipe bytes ∷ []))) other
+    → behind_open before (join (Bytes pipe bytes) items) ≡ codes "\"\n" ++ joined_lines (join (Bytes pipe bytes) items)
+closes before pipe bytes [] other = ap (λ b. if b then ended bytes [] else ended [] (joined_lines (Bytes pipe bytes ∷ []))) other
 closes before pipe bytes (Message pair side message ∷ items) other =
     let rest = Message pair side message ∷ items in
-    ap (λ b. if b then ended bytes (lines_of rest) else ended [] (lines_of (Bytes pipe bytes ∷ rest))) other
+    ap (λ b. if b then ended bytes (joined_lines rest) else ended [] (joined_lines (Bytes pipe bytes ∷ rest))) other
 closes before pipe bytes (Bytes next more ∷ items) other = by_same (is_same pipe next)
   where
     by_same : (one : Bool)
         → behind_open before (if one then Bytes pipe (bytes ++ more) ∷ items else Bytes pipe bytes ∷ Bytes next more ∷ items)
-        ≡ codes "\"\n" ++ lines_of (if one then Bytes pipe (bytes ++ more) ∷ items else Bytes pipe bytes ∷ Bytes next more ∷ items)
+        ≡ codes "\"\n" ++ joined_lines (if one then Bytes pipe (bytes ++ more) ∷ items else Bytes pipe bytes ∷ Bytes next more ∷ items)
     by_same true =
-        ap (λ b. if b then ended (bytes ++ more) (lines_of items) else ended [] (lines_of (Bytes pipe (bytes ++ more) ∷ items))) other
+        ap (λ b. if b then ended (bytes ++ more) (joined_lines items) else ended [] (joined_lines (Bytes pipe (bytes ++ more) ∷ items))) other
     by_same false =
         let rest = Bytes next more ∷ items in
-        ap (λ b. if b then ended bytes (lines_of rest) else ended [] (lines_of (Bytes pipe bytes ∷ rest))) other
+        ap (λ b. if b then ended bytes (joined_lines rest) else ended [] (joined_lines (Bytes pipe bytes ∷ rest))) other
 
 -- bytes of a pipe, after what is open
 piece_begins : (opened : Option Num) (pipe : Num) (bytes : List ℕ) (items : List KeptItem)

@@ -45,13 +45,13 @@ closing_text None = []
 closing_text (Some pipe) = codes "\"\n"
 
 -- whether the line of this pipe is open
-abbrev pub is_open : Option Num → Num → Bool
-is_open None pipe = false
-is_open (Some before) pipe = is_same before pipe
+abbrev pub is_line_open : Option Num → Num → Bool
+is_line_open None pipe = false
+is_line_open (Some before) pipe = is_same before pipe
 
 -- what stands before bytes of a pipe: nothing where its line is open
 abbrev pub turned_to : Option Num → Num → List ℕ
-turned_to opened pipe = if is_open opened pipe then [] else closing_text opened ++ opening_text pipe
+turned_to opened pipe = if is_line_open opened pipe then [] else closing_text opened ++ opening_text pipe
 
 -- what is printed for an item after the line that is open
 abbrev pub item_text : Option Num → KeptItem → List ℕ

@@ -1,6 +1,6 @@
 ghost use Rattle.std.specs.Prelude.{◌≡◌, ◌++◌, OnOk};
 ghost use Rattle.xc_data.specs.declared.entry.KeptItem.TheVariants.{Message};
-ghost use Rattle.xc_print.specs.Kept.{is_open, opening_text, closing_text, turned_to, item_text, opened_by, kept_line, kept_lines};
+ghost use Rattle.xc_print.specs.Kept.{is_line_open, opening_text, closing_text, turned_to, item_text, opened_by, kept_line, kept_lines};
 
 use crate::bytes::{push_bytes, push_escaped};
 use crate::objects::push_labelled;
@@ -9,7 +9,7 @@ use xc_data::{Chunk, KeptItem, NoMemory, Num};
 
 // Whether the line of this pipe is open.
 fn is_open(opened: Option<Num>, pipe: Num) -> bool
-    ensures { result ≡ is_open opened pipe }
+    ensures { result ≡ is_line_open opened pipe }
 {
     match opened {
         Some(before) => before.tx == pipe.tx && before.k == pipe.k,

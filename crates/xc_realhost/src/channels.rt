@@ -4,8 +4,8 @@ ghost use Rattle.xc_host.specs.Pairs.{IsMessage};
 ghost use Rattle.xc_host.specs.Pipes.{IsSomeOf};
 
 use crate::errors::or_host_fault;
-use crate::pair::Pair;
-use crate::pipe::Pipe;
+use crate::pair::HostPair;
+use crate::pipe::HostPipe;
 use crate::table::Table;
 use std::alloc::Global;
 use std::net::Net;
@@ -17,8 +17,8 @@ use xc_host::{Fault, HostErr, HostState, Took};
 #[derive(Drop)]
 pub(crate) struct Channels {
     alloc: Global,
-    pipes: Table<Pipe>,
-    pairs: Table<Pair>,
+    pipes: Table<HostPipe>,
+    pairs: Table<HostPair>,
 }
 
 impl Channels {
@@ -41,17 +41,17 @@ impl Channels {
         *self = Channels::new(self.alloc);
     }
 
-    fn pipe(&mut self, num: Num) -> Result<&mut Pipe, Fault> {
+    fn pipe(&mut self, num: Num) -> Result<&mut HostPipe, Fault> {
         self.pipes.of(num).ok_or(Fault)
     }
 
-    fn pair(&mut self, num: Num) -> Result<&mut Pair, Fault> {
+    fn pair(&mut self, num: Num) -> Result<&mut HostPair, Fault> {
         self.pairs.of(num).ok_or(Fault)
     }
 
     pub(crate) fn new_pipe<R: Files>(&mut self, rt: &R, num: Num) -> Result<(), HostErr> {
         self.pipes.reserve()?;
-        let pipe = or_host_fault(Pipe::new(rt, self.alloc))?;
+        let pipe = or_host_fault(HostPipe::new(rt, self.alloc))?;
         self.pipes.add(num, pipe);
         Ok(())
     }
@@ -80,7 +80,7 @@ impl Channels {
 
     pub(crate) fn new_pair<R: Net>(&mut self, rt: &R, num: Num) -> Result<(), HostErr> {
         self.pairs.reserve()?;
-        let pair = or_host_fault(Pair::new(rt, self.alloc))?;
+        let pair = or_host_fault(HostPair::new(rt, self.alloc))?;
         self.pairs.add(num, pair);
         Ok(())
     }

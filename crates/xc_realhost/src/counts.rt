@@ -3,7 +3,7 @@ ghost use Rattle.xc_data.specs.Counts.{CountsFault};
 ghost use Rattle.xc_host.specs.Cause.{is_fault, without_memory, IsCalled};
 ghost use Rattle.xc_host.specs.Counting.{calls_of, no_calls};
 
-use xc_data::Kind;
+use xc_data::HostCallKind;
 use xc_host::{Fault, HostErr, KindCounts};
 
 /// How many calls of each kind there were since the opening, and how many calls ever answered a
@@ -31,7 +31,11 @@ impl Counts {
     }
 
     // Counts a call that takes no memory, by its answer.
-    pub(crate) fn note<T: Drop>(&mut self, kind: Kind, answer: Result<T, Fault>) -> Result<T, Fault>
+    pub(crate) fn note<T: Drop>(
+        &mut self,
+        kind: HostCallKind,
+        answer: Result<T, Fault>,
+    ) -> Result<T, Fault>
         ensures same { result ≡ answer }
         ensures called { IsCalled (kind ∷ []) (calls_of self.old.calls) (calls_of self.new.calls) }
         ensures cause { CountsFault (is_fault (without_memory answer)) self.old.faults self.new.faults }
@@ -46,7 +50,7 @@ impl Counts {
     // Counts a call that can run out of memory too, by its answer.
     pub(crate) fn note_either<T: Drop>(
         &mut self,
-        kind: Kind,
+        kind: HostCallKind,
         answer: Result<T, HostErr>,
     ) -> Result<T, HostErr>
         ensures same { result ≡ answer }

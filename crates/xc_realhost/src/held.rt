@@ -29,7 +29,7 @@ impl Inode {
 
 /// An open file, with its lock.
 #[derive(Drop)]
-pub(crate) struct Opened {
+pub(crate) struct OpenFile {
     pub(crate) inode: Inode,
     pub(crate) file: File,
     // Else it is open for reading alone.
@@ -38,15 +38,15 @@ pub(crate) struct Opened {
 
 /// A file that is held open, with its name in the folder, if it has one.
 #[derive(Drop)]
-pub(crate) struct Entry {
+pub(crate) struct HeldFile {
     pub(crate) name: Option<Name>,
-    pub(crate) opened: Opened,
+    pub(crate) opened: OpenFile,
 }
 
 /// The files that are held open, and the numbers of their names. No two of them are one file of the system.
 #[derive(Drop)]
 pub(crate) struct Held {
-    files: Table<Entry>,
+    files: Table<HeldFile>,
     names: NameMap<Num>,
     inodes: HashSet<Inode>,
 }
@@ -70,11 +70,11 @@ impl Held {
         self.names.get(*name).copied()
     }
 
-    pub(crate) fn get(&self, num: Num) -> Option<&Entry> {
+    pub(crate) fn get(&self, num: Num) -> Option<&HeldFile> {
         self.files.get(num)
     }
 
-    pub(crate) fn of(&mut self, num: Num) -> Option<&mut Entry> {
+    pub(crate) fn of(&mut self, num: Num) -> Option<&mut HeldFile> {
         self.files.of(num)
     }
 
@@ -100,13 +100,13 @@ impl Held {
     }
 
     // Holds the file of a name that was entered, in the room that was made. This takes no memory.
-    pub(crate) fn add(&mut self, name: &Name, num: Num, opened: Opened)
+    pub(crate) fn add(&mut self, name: &Name, num: Num, opened: OpenFile)
         requires files { 0 < table.spare self.old.files.rows }
         requires inodes { 0 < set.spare self.old.inodes }
     {
         let noted = self.inodes.insert(opened.inode);
         prove!(noted.is_ok());
-        let entry = Entry {
+        let entry = HeldFile {
             name: Some(*name),
             opened,
         };

@@ -19,7 +19,7 @@ const WAITING: usize = 8;
 
 /// One side of a pair: its socket, and the lengths of the messages that wait there, in their order.
 #[derive(Drop)]
-struct End {
+struct PairEnd {
     socket: UnixStream,
     lengths: ArrayVec<u16, WAITING>,
     // What was read of the first message and not yet given, so that a receipt that runs out of memory loses none.
@@ -31,9 +31,9 @@ struct End {
 
 /// A pair of sockets, connected to each other and to nobody else. What it notes of messages keeps each receipt from waiting.
 #[derive(Drop)]
-pub(crate) struct Pair {
-    zero: End,
-    one: End,
+pub(crate) struct HostPair {
+    zero: PairEnd,
+    one: PairEnd,
     shut: bool,
 }
 
@@ -55,11 +55,11 @@ fn fill(mut socket: &UnixStream, back: &mut Vec<u8>, length: usize) -> Result<()
     Ok(())
 }
 
-impl End {
+impl PairEnd {
     // No call on the socket waits.
-    fn new(alloc: Global, socket: UnixStream) -> io::Result<End> {
+    fn new(alloc: Global, socket: UnixStream) -> io::Result<PairEnd> {
         socket.set_nonblocking(true)?;
-        Ok(End {
+        Ok(PairEnd {
             socket,
             lengths: ArrayVec::new(),
             back: Vec::new(alloc),
@@ -101,17 +101,17 @@ impl End {
     }
 }
 
-fn connected<R: Net>(rt: &R, alloc: Global) -> io::Result<Pair> {
+fn connected<R: Net>(rt: &R, alloc: Global) -> io::Result<HostPair> {
     let (zero, one) = UnixStream::pair(rt)?;
-    Ok(Pair {
-        zero: End::new(alloc, zero)?,
-        one: End::new(alloc, one)?,
+    Ok(HostPair {
+        zero: PairEnd::new(alloc, zero)?,
+        one: PairEnd::new(alloc, one)?,
         shut: false,
     })
 }
 
-impl Pair {
-    pub(crate) fn new<R: Net>(rt: &R, alloc: Global) -> Result<Pair, Fault> {
+impl HostPair {
+    pub(crate) fn new<R: Net>(rt: &R, alloc: Global) -> Result<HostPair, Fault> {
         or_fault(connected(rt, alloc))
     }
 

@@ -17,7 +17,7 @@ const MOST: usize = 1024;
 
 /// A pipe of the system. Its own count of bytes keeps each read and each write from waiting.
 #[derive(Drop)]
-pub(crate) struct Pipe {
+pub(crate) struct HostPipe {
     reader: PipeReader,
     writer: PipeWriter,
     // Bytes that were read and not yet given, so that a take that runs out of memory loses none.
@@ -27,10 +27,10 @@ pub(crate) struct Pipe {
     shut: bool,
 }
 
-impl Pipe {
-    pub(crate) fn new<R: Files>(rt: &R, alloc: Global) -> Result<Pipe, Fault> {
+impl HostPipe {
+    pub(crate) fn new<R: Files>(rt: &R, alloc: Global) -> Result<HostPipe, Fault> {
         let (reader, writer) = or_fault(io::pipe(rt))?;
-        Ok(Pipe {
+        Ok(HostPipe {
             reader,
             writer,
             back: Vec::new(alloc),

@@ -31,8 +31,8 @@ use Rattle.xc_flight.specs.Active.{Tx, Has, HoldTheSame}
 use Rattle.xc_flight.specs.Active as flight
 use Rattle.xc_flight.specs.Flight.{noted, ran}
 use Rattle.xc_flight.specs.State.{FlightState, InFlight, IsActive, turned}
-use Rattle.xc_flight.specs.Turns.{claiming, seen}
-use Rattle.xc_flight.proofs.Laws.{all_noted, sees, back_held, claimed, covers_through, merged_held, call_granted}
+use Rattle.xc_flight.specs.Turns.{claiming, world_seen}
+use Rattle.xc_flight.proofs.Laws.{all_noted, sees, back_held, claims_keep, covers_through, merged_held, call_granted}
 use Rattle.xc_refines.specs.InFlight.{flown, flown_phase, ran_at, flight_state, state_of, world_now, AreInFlight}
 use Rattle.xc_refines.proofs.FlownJobs.{flies_there, flight_there, sound_there, fits_there}
 use Rattle.xc_data.proofs.Laws.{put_at}
@@ -85,11 +85,11 @@ module _ (s : Setting) (now : Moment) (all : AreInFlight s now) (at : ℕ) (job 
 
   claims_first : InFlight (turned st at (Some claimant) st.now)
   claims_first =
-      claimed st at t claims all_held all.flies flies
+      claims_keep st at t claims all_held all.flies flies
       (call_granted st at t c _ all.flies flies running (sound_there s now all at job tx there active)
       (no_rivals w st.now all.unnoted now.jobs st.next at claims alone)) same running
 
-  agrees : AgreeOn (Has claimant) (ran w claimant).world (seen st.now claimant)
+  agrees : AgreeOn (Has claimant) (ran w claimant).world (world_seen st.now claimant)
   agrees = sees (turned st at (Some claimant) st.now) at claimant claims_first (put_at st.active at t claimant flies) running
 
   -- its object is there
@@ -107,7 +107,7 @@ module _ (s : Setting) (now : Moment) (all : AreInFlight s now) (at : ℕ) (job 
       known_there (ran w t).world s now (place_of tx.me.places h)
       (objects_agree (place_of tx.me.places h) (λ o at. agrees o (inl (covers.objects o at))) touched) known
     where
-      objects_agree : (p : Place) → ((o : Object) → Contains (objects claims) o → AgreeAt (ran w t).world (seen st.now claimant) o)
+      objects_agree : (p : Place) → ((o : Object) → Contains (objects claims) o → AgreeAt (ran w t).world (world_seen st.now claimant) o)
           → All (Contains (objects claims)) (object_at p) → All (AgreeAt (ran w t).world (world_now s now)) (object_at p)
       objects_agree place.Vacant go touched = All-nil (AgreeAt (ran w t).world (world_now s now))
       objects_agree (place.File num at) go touched = one_of (AgreeAt (ran w t).world (world_now s now)) (object.File num)

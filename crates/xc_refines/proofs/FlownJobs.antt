@@ -11,14 +11,14 @@ use Rattle.xc_flight.specs.State.{IsActive, IsSoundFor}
 use Rattle.xc_flight.specs.Flight.{stood, Flight}
 use Rattle.xc_flight.proofs.Laws.{records_made}
 use Rattle.xc_refines.specs.InFlight.{flown, state_of, flight_state, AreInFlight}
-use Rattle.xc_refines.proofs.FlownLists.{flown_there, is_active}
+use Rattle.xc_refines.proofs.FlownLists.{flown_there, active_does}
 
 -- ---- the active transaction of a job
 module _ (s : Setting) (now : Moment) (all : AreInFlight s now) (at : ℕ) (job : JobView) (tx : TxView) (there : slice_get now.jobs at ≡ Some job)
     (active : active_of job ≡ Some tx) where
   -- it flies in the job's place
   pub flies_there : IsActive (flight_state s now all.unnoted) at (flown job.me (all.unnoted at) tx)
-  flies_there = flown_there all.unnoted now.jobs at job tx there (is_active job.doing tx active)
+  flies_there = flown_there all.unnoted now.jobs at job tx there (active_does job.doing tx active)
 
   -- its flight
   pub flight_there : Flight (state_of s now).world (flight_state s now all.unnoted).now (flown job.me (all.unnoted at) tx)
@@ -45,5 +45,5 @@ module _ (s : Setting) (now : Moment) (all : AreInFlight s now) (at : ℕ) (job 
   rest_fits = both_fit.1
 
   -- its records were made one after another
-  pub made_there : AreMadeIn (state_of s now).world (tx.undo.pending ++ map (λ r. r.0) tx.undo.ended)
-  made_there = records_made (flight_state s now all.unnoted) at (flown job.me (all.unnoted at) tx) all.flies flies_there sound_there
+  pub records_made_there : AreMadeIn (state_of s now).world (tx.undo.pending ++ map (λ r. r.0) tx.undo.ended)
+  records_made_there = records_made (flight_state s now all.unnoted) at (flown job.me (all.unnoted at) tx) all.flies flies_there sound_there

@@ -41,11 +41,11 @@ none_flown me us Starved e = refl
 none_flown me us (Ended end) e = refl
 
 -- what a job with an active transaction does
-pub is_active : (d : Doing) (tx : TxView) → active_in d ≡ Some tx → d ≡ Active tx
-is_active Idle tx e = cc e
-is_active (Active u) tx e = let is : u ≡ tx = cc e in ap Active is
-is_active Starved tx e = cc e
-is_active (Ended end) tx e = cc e
+pub active_does : (d : Doing) (tx : TxView) → active_in d ≡ Some tx → d ≡ Active tx
+active_does Idle tx e = cc e
+active_does (Active u) tx e = let is : u ≡ tx = cc e in ap Active is
+active_does Starved tx e = cc e
+active_does (Ended end) tx e = cc e
 
 -- ---- all jobs
 pub flown-count : (unnoted : ℕ → List CallWithAnswer) (jobs : List JobView) → length (flown_jobs unnoted jobs) ≡ length jobs

@@ -16,23 +16,23 @@ use Rattle.xc_refines.specs.InFlight.{flown_in, flown_jobs}
 use Rattle.xc_refines.proofs.FlownLists.{none_flown}
 
 -- it is idle, and has these handles
-pub record IsNew (places : List Handle) (job : JobView) : Type 0 where
+pub record IsNewJob (places : List Handle) (job : JobView) : Type 0 where
   pub none : active_of job ≡ None
   pub handles : job.me.places ≡ places
 
 -- each of them
-abbrev pub AreNew : List Handle → List JobView → Type 0
-AreNew places [] = Unit {0}
-AreNew places (job ∷ more) = IsNew places job × AreNew places more
+abbrev pub AreNewJobs : List Handle → List JobView → Type 0
+AreNewJobs places [] = Unit {0}
+AreNewJobs places (job ∷ more) = IsNewJob places job × AreNewJobs places more
 
-new_at : (places : List Handle) (more : List JobView) → AreNew places more → (j : ℕ) (job : JobView) → slice_get more j ≡ Some job → IsNew places job
+new_at : (places : List Handle) (more : List JobView) → AreNewJobs places more → (j : ℕ) (job : JobView) → slice_get more j ≡ Some job → IsNewJob places job
 new_at places [] new j job e = cc e
-new_at places (x ∷ more) new zero job e = let is : x ≡ job = cc e in subst (IsNew places) is new.0
+new_at places (x ∷ more) new zero job e = let is : x ≡ job = cc e in subst (IsNewJob places) is new.0
 new_at places (x ∷ more) new (suc j) job e = new_at places more new.1 j job e
 
 -- what is true of the jobs in front and of new ones is true of all
-pub grown_cases : (places : List Handle) (jobs more : List JobView) (P : ℕ → JobView → Type 0) → AreNew places more
-    → ((j : ℕ) (job : JobView) → slice_get jobs j ≡ Some job → P j job) → ((j : ℕ) (job : JobView) → IsNew places job → P j job)
+pub grown_cases : (places : List Handle) (jobs more : List JobView) (P : ℕ → JobView → Type 0) → AreNewJobs places more
+    → ((j : ℕ) (job : JobView) → slice_get jobs j ≡ Some job → P j job) → ((j : ℕ) (job : JobView) → IsNewJob places job → P j job)
     → (j : ℕ) (job : JobView) → slice_get (jobs ++ more) j ≡ Some job → P j job
 grown_cases places [] more P are front new j job e = new j job (new_at places more are j job e)
 grown_cases places (x ∷ jobs) more P are front new zero job e = front 0 job e
@@ -44,12 +44,12 @@ abbrev nones : List JobView → List (Option Tx)
 nones [] = []
 nones (job ∷ more) = None ∷ nones more
 
-new_flown : (places : List Handle) (unnoted : ℕ → List CallWithAnswer) (more : List JobView) → AreNew places more → flown_jobs unnoted more ≡ nones more
+new_flown : (places : List Handle) (unnoted : ℕ → List CallWithAnswer) (more : List JobView) → AreNewJobs places more → flown_jobs unnoted more ≡ nones more
 new_flown places unnoted [] new = refl
 new_flown places unnoted (job ∷ more) new =
     ap₂ (λ o os. o ∷ os) (none_flown job.me (unnoted 0) job.doing new.0.none) (new_flown places (λ i. unnoted (suc i)) more new.1)
 
-grown_flown : (places : List Handle) (unnoted : ℕ → List CallWithAnswer) (jobs more : List JobView) → AreNew places more
+grown_flown : (places : List Handle) (unnoted : ℕ → List CallWithAnswer) (jobs more : List JobView) → AreNewJobs places more
     → flown_jobs unnoted (jobs ++ more) ≡ flown_jobs unnoted jobs ++ nones more
 grown_flown places unnoted [] more new = new_flown places unnoted more new
 grown_flown places unnoted (job ∷ jobs) more new =
@@ -72,7 +72,7 @@ get_joined (x ∷ active) more zero = refl
 get_joined (x ∷ active) more (suc j) = get_joined active more j
 
 -- all go on
-module _ (places : List Handle) (s : FlightState) (unnoted : ℕ → List CallWithAnswer) (jobs more : List JobView) (new : AreNew places more) where
+module _ (places : List Handle) (s : FlightState) (unnoted : ℕ → List CallWithAnswer) (jobs more : List JobView) (new : AreNewJobs places more) where
   pub grown_flies : InFlight (record s { active = flown_jobs unnoted jobs }) → InFlight (record s { active = flown_jobs unnoted (jobs ++ more) })
   grown_flies h =
       subst (λ active. InFlight (record s { active = active })) (sym (grown_flown places unnoted jobs more new))
@@ -84,7 +84,7 @@ module _ (places : List Handle) (s : FlightState) (unnoted : ℕ → List CallWi
       (λ j t e. h j t (sym (get_joined (flown_jobs unnoted jobs) more j) ∙ e))
 
 -- ---- jobs that were started
-pub started_new : (script : Script) (starter : JobView) (blocks : List (List ℕ)) → AreNew starter.me.places (map (started_job script starter) blocks)
+pub started_new : (script : Script) (starter : JobView) (blocks : List (List ℕ)) → AreNewJobs starter.me.places (map (started_job script starter) blocks)
 started_new script starter [] = tt
 started_new script starter (block ∷ blocks) = (record { none = refl; handles = refl }, started_new script starter blocks)
 
@@ -101,11 +101,11 @@ started_their_blocks script starter [] = refl
 started_their_blocks script starter (block ∷ blocks) = ap (λ bs. block ∷ bs) (started_their_blocks script starter blocks)
 
 -- ---- as many are active
-new_actives : (places : List Handle) (more : List JobView) → AreNew places more → actives more ≡ []
+new_actives : (places : List Handle) (more : List JobView) → AreNewJobs places more → actives more ≡ []
 new_actives places [] new = refl
 new_actives places (job ∷ more) new = ap (λ o. cons_option o (actives more)) new.0.none ∙ new_actives places more new.1
 
 -- jobs that are new after others add no active transaction
-pub idle_actives : (places : List Handle) (jobs more : List JobView) → AreNew places more → actives (jobs ++ more) ≡ actives jobs
+pub idle_actives : (places : List Handle) (jobs more : List JobView) → AreNewJobs places more → actives (jobs ++ more) ≡ actives jobs
 idle_actives places jobs more new =
     filter_map-append active_of jobs more ∙ ap (λ ts. actives jobs ++ ts) (new_actives places more new) ∙ append-nil (actives jobs)

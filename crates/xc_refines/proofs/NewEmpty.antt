@@ -25,8 +25,8 @@ use Rattle.std.proofs.lemmas.List.Elements.{All-contains}
 use Rattle.xc_flight.specs.Active.{Tx, Own}
 use Rattle.xc_flight.specs.Flight.{effects}
 use Rattle.xc_flight.specs.State.{IsActive, active_at}
-use Rattle.xc_flight.proofs.Laws.{owns_has, has_it, own_it, Coined, filled, filled_alike, new_empty, remains_empty, taken_own, trail_coined, not_taken}
-use Rattle.xc_flight.proofs.Laws.{of_record, record_own, there as record_there}
+use Rattle.xc_flight.proofs.Laws.{owns_has, has_it, own_it, Coined, amount_in, filled_alike, new_empty, remains_empty, taken_own, trail_coined, not_taken}
+use Rattle.xc_flight.proofs.Laws.{of_record, record_own, there_as_told as record_there}
 use Rattle.xc_world.specs.Run.{item_object}
 use Rattle.xc_refines.specs.InFlight.{IsEmptyNew, flown, flown_phase, flight_state, state_of, world_now, AreInFlight}
 use Rattle.xc_refines.proofs.FlownJobs.{flies_there, flight_there, sound_there}
@@ -50,8 +50,8 @@ module _ (s : Setting) (now : Moment) (all : AreInFlight s now) (at : ℕ) (job 
       (flies_there s now all at job tx at_place active) (ap flown_phase undoes) (sound_there s now all at job tx at_place active) pending
       (Coined tx.number) (trail_coined (state_of s now).world (flown job.me (all.unnoted at) tx))
 
-  none_stood : (k : KeptItem) → filled (state_of s now).world k ≡ 0
-      → filled (with_remains (state_of s now).world (effects (flown job.me (all.unnoted at) tx))) k ≡ 0
+  none_stood : (k : KeptItem) → amount_in (state_of s now).world k ≡ 0
+      → amount_in (with_remains (state_of s now).world (effects (flown job.me (all.unnoted at) tx))) k ≡ 0
   none_stood = remains_empty (state_of s now).world (effects (flown job.me (all.unnoted at) tx))
 
   by_kind : (v : Undo) → u ≡ v → IsEmptyNew (world_of now.contents) v

@@ -21,9 +21,9 @@ use Rattle.xc_world.proofs.Laws.{record-covered}
 use Rattle.xc_model.specs.declared.phase.Phase.TheVariants.{Undoing}
 use Rattle.xc_model.specs.Setting.{Setting}
 use Rattle.xc_model.specs.Moment.{TxView, JobView, Moment, active_of}
-use Rattle.xc_flight.proofs.Laws.{there as record_there}
+use Rattle.xc_flight.proofs.Laws.{there_as_told as record_there}
 use Rattle.xc_refines.specs.InFlight.{flown, flown_phase, flight_state, state_of, world_now, AreInFlight}
-use Rattle.xc_refines.proofs.FlownJobs.{flies_there, made_there, sound_there}
+use Rattle.xc_refines.proofs.FlownJobs.{flies_there, records_made_there, sound_there}
 
 -- a file that is there, and has so many bytes
 abbrev Reaches : World → Num → ℕ → Type 0
@@ -67,4 +67,4 @@ covered_now s now all at job tx c older u there active undoes pending way =
     (record_there standing_now at t older u (Blocked 0) all.flies (flies_there s now all at job tx there active) (ap flown_phase undoes)
     (sound_there s now all at job tx there active) pending) (objects_of u) (All-contains_itself (objects_of u))) in
     covered_there (world_now s now) stood u same
-    (record-covered w older u tx.undo.ended (subst (AreMadeIn w) split (made_there s now all at job tx there active)) way)
+    (record-covered w older u tx.undo.ended (subst (AreMadeIn w) split (records_made_there s now all at job tx there active)) way)

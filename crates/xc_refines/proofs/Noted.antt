@@ -22,7 +22,7 @@ use Rattle.xc_model.specs.declared.phase.Phase.{Phase}
 use Rattle.xc_model.specs.declared.phase.Phase.TheVariants.{Running, Committing, Undoing, Backing}
 use Rattle.xc_model.specs.Setting.{Setting}
 use Rattle.xc_model.specs.Progress.{progress_of, private_of}
-use Rattle.xc_model.specs.Played.{HoldsFor, IsPlayedSoFar, RecordsFor, done_late, late_done}
+use Rattle.xc_model.specs.Played.{HoldsFor, IsPlayedSoFar, RecordsFor, played_late_result, played_late}
 use Rattle.xc_model.specs.EntryEnds.{AreLeft, AreLeftBy}
 use Rattle.xc_model.specs.Stories.{StoriesHold, asked_of_tx}
 use Rattle.xc_model.specs.Moment.{TxView, JobView, Moment, active_of}
@@ -67,7 +67,7 @@ records_for tx b p next (a ∷ us) records was fit e = absurd was
 
 -- ---- the late calls that are done
 abbrev EndSo : BodyResult → TxView → Type 0
-EndSo r tx = ((done_late r tx).ends ≡ tx.ends) × IsTrue (lates_fit r.world (late_done r tx))
+EndSo r tx = ((played_late_result r tx).ends ≡ tx.ends) × IsTrue (lates_fit r.world (played_late r tx))
 
 none_done : (r : BodyResult) (tx : TxView) → tx.ends ≡ [] → EndSo r tx
 none_done r tx none =

@@ -31,17 +31,17 @@ use Rattle.xc_flight.specs.Flight.{asked, left, noted, returned, ran}
 use Rattle.xc_flight.specs.State.{active_at, OwnSome, OwnAt}
 use Rattle.xc_flight.proofs.Laws.{has_decide, owns_has, ran_keeps, ran_whole, all_noted, sees, done_sound}
 use Rattle.xc_refines.specs.InFlight.{flown, flown_phase, state_of, flight_state, world_now, AreInFlight}
-use Rattle.xc_refines.proofs.FlownJobs.{flies_there, flight_there, sound_there, fits_there, made_there}
+use Rattle.xc_refines.proofs.FlownJobs.{flies_there, flight_there, sound_there, fits_there, records_made_there}
 use Rattle.xc_refines.proofs.FlownLists.{flown_back}
 
 -- ---- a file that is there, within its limit
-abbrev pub IsWithin : Option (List ℕ) → Type 0
-IsWithin o = (is_some o ≡ true) × (length (unwrap_or o []) ≤ 65536)
+abbrev pub IsFileWithin : Option (List ℕ) → Type 0
+IsFileWithin o = (is_some o ≡ true) × (length (unwrap_or o []) ≤ 65536)
 
-none_within : IsWithin None → ⊥
+none_within : IsFileWithin None → ⊥
 none_within h = let lacks = h.0 in cc lacks
 
-within_decide : (o : Option (List ℕ)) → IsWithin o ⊎ (IsWithin o → ⊥)
+within_decide : (o : Option (List ℕ)) → IsFileWithin o ⊎ (IsFileWithin o → ⊥)
 within_decide None = inr none_within
 within_decide (Some bytes) = elim (leb_tells (length bytes) 65536) [
   | inl low ↦ inl (refl, low.1)
@@ -49,7 +49,7 @@ within_decide (Some bytes) = elim (leb_tells (length bytes) 65536) [
 ]
 
 -- a known place is open in contents that have each file of its world
-open_there : (c : Contents) (w : World) (p : Place) → ((num : Num) → IsWithin (finite.get w.files num) → IsWithin (finite.get c.files num))
+open_there : (c : Contents) (w : World) (p : Place) → ((num : Num) → IsFileWithin (finite.get w.files num) → IsFileWithin (finite.get c.files num))
     → IsKnown w p → ((num : Num) → length (unwrap_or (finite.get w.files num) []) ≤ 65536) → IsOpenIn c p
 open_there c w place.Vacant stays known files = tt
 open_there c w (place.File num at) stays known files = stays num (known, files num)
@@ -89,7 +89,7 @@ only_known : (w : World) (num : Num) (h : ℕ) → is_some (finite.get w.files n
 only_known w num zero there = there
 only_known w num (suc h) there = tt
 
-file_within : (w : World) (num : Num) (tx : ℕ) → IsSound w (looking num) tx → IsWithin (finite.get w.files num)
+file_within : (w : World) (num : Num) (tx : ℕ) → IsSound w (looking num) tx → IsFileWithin (finite.get w.files num)
 file_within w num tx sound = (sound.handles 0, sound.world.files num)
 
 -- ---- what an active transaction left has each file that the journal's world has
@@ -101,7 +101,7 @@ module _ (s : Setting) (now : Moment) (all : AreInFlight s now) (at : ℕ) (job 
   abbrev mine : Tx
   mine = flown job.me (all.unnoted at) tx
 
-  look_sound : (num : Num) → IsWithin (finite.get state.files num) → IsSound state (looking num) (begun_count now + 1)
+  look_sound : (num : Num) → IsFileWithin (finite.get state.files num) → IsSound state (looking num) (begun_count now + 1)
   look_sound num within =
       record {
         world = (sound_there s now all at job tx there active).world;
@@ -111,7 +111,7 @@ module _ (s : Setting) (now : Moment) (all : AreInFlight s now) (at : ℕ) (job 
         handles = λ h. only_known state num h within.0;
       }
 
-  body_within : (num : Num) → IsWithin (finite.get state.files num) → IsWithin (finite.get (ran state mine).world.files num)
+  body_within : (num : Num) → IsFileWithin (finite.get state.files num) → IsFileWithin (finite.get (ran state mine).world.files num)
   body_within num within =
       let begun = all.flies.begun at mine (flies_there s now all at job tx there active) in
       file_within (ran state mine).world num (begun_count now + 1)
@@ -119,7 +119,7 @@ module _ (s : Setting) (now : Moment) (all : AreInFlight s now) (at : ℕ) (job 
       (body-others_sound state job.me (looking num) tx.number (begun_count now + 1) (asked mine) (sound_there s now all at job tx there active)
       (flight_there s now all at job tx there active).inside.fits (look_sound num within) (λ e. omega (arith, begun, e))))
 
-  left_within : (num : Num) → IsWithin (finite.get state.files num) → (p : Phase) → IsWithin (finite.get (left state mine p).files num)
+  left_within : (num : Num) → IsFileWithin (finite.get state.files num) → (p : Phase) → IsFileWithin (finite.get (left state mine p).files num)
   left_within num within Running = body_within num within
   left_within num within Committing =
       let begun = all.flies.begun at mine (flies_there s now all at job tx there active) in
@@ -127,7 +127,7 @@ module _ (s : Setting) (now : Moment) (all : AreInFlight s now) (at : ℕ) (job 
       (done_sound state mine (flight_there s now all at job tx there active).inside (sound_there s now all at job tx there active)
       (looking num) (begun_count now + 1) (λ e. omega (arith, begun, e)) (look_sound num within))
   left_within num within Undoing =
-      let stays = standing_fit state tx.undo.pending tx.undo.ended (made_there s now all at job tx there active)
+      let stays = standing_fit state tx.undo.pending tx.undo.ended (records_made_there s now all at job tx there active)
       (sound_there s now all at job tx there active).world in
       (stays.known (place.File num 0) within.0, stays.fit.files num)
 
@@ -138,29 +138,30 @@ module _ (s : Setting) (now : Moment) (all : AreInFlight s now) (at : ℕ) (job 
   returned_file num Undoing e = given_files (world_now s now) tx.taken num ∙ e
 
   -- and where it owns the file, so the station has it
-  pub owned_within : (num : Num) → IsWithin (finite.get state.files num) → Own mine (object.File num) → IsWithin (finite.get now.contents.files num)
+  pub owned_within : (num : Num) → IsFileWithin (finite.get state.files num) → Own mine (object.File num) → IsFileWithin (finite.get now.contents.files num)
   owned_within num within own =
       let p = flown_phase tx.phase in
       let e = returned_file num p ((flight_there s now all at job tx there active).owns (object.File num) own) in
-      subst IsWithin (sym e) (left_within num within p)
+      subst IsFileWithin (sym e) (left_within num within p)
 
 -- ---- the station has each file that the journal's world has
-owner_within : (s : Setting) (now : Moment) (all : AreInFlight s now) (num : Num) → IsWithin (finite.get (state_of s now).world.files num)
-    → (at : ℕ) (o : Option Tx) → active_at (flight_state s now all.unnoted) at ≡ o → OwnSome o (object.File num) → IsWithin (finite.get now.contents.files num)
+owner_within : (s : Setting) (now : Moment) (all : AreInFlight s now) (num : Num) → IsFileWithin (finite.get (state_of s now).world.files num)
+    → (at : ℕ) (o : Option Tx) → active_at (flight_state s now all.unnoted) at ≡ o → OwnSome o (object.File num)
+    → IsFileWithin (finite.get now.contents.files num)
 owner_within s now all num within at None e own = absurd own
 owner_within s now all num within at (Some t) e own =
     let f = flown_back all.unnoted now.jobs at t e in
     owned_within s now all at f.job f.tx f.there f.active num within (subst (λ u. Own u (object.File num)) f.same own)
 
 -- within its limit there, and so here
-pub still_within : (s : Setting) (now : Moment) (all : AreInFlight s now) (num : Num) → IsWithin (finite.get (state_of s now).world.files num)
-    → IsWithin (finite.get now.contents.files num)
+pub still_within : (s : Setting) (now : Moment) (all : AreInFlight s now) (num : Num) → IsFileWithin (finite.get (state_of s now).world.files num)
+    → IsFileWithin (finite.get now.contents.files num)
 still_within s now all num within =
-    ⊎_elim (λ (is : IsWithin (finite.get now.contents.files num)). is) (λ (lacks : IsWithin (finite.get now.contents.files num) → ⊥).
+    ⊎_elim (λ (is : IsFileWithin (finite.get now.contents.files num)). is) (λ (lacks : IsFileWithin (finite.get now.contents.files num) → ⊥).
     let nobody : (at : ℕ) → OwnAt (flight_state s now all.unnoted) at (object.File num) → ⊥ =
     λ at own. lacks (owner_within s now all num within at (active_at (flight_state s now all.unnoted) at) refl own) in
     let e : finite.get now.contents.files num ≡ finite.get (state_of s now).world.files num = all.flies.free (object.File num) nobody in
-    subst IsWithin (sym e) within)
+    subst IsFileWithin (sym e) within)
     (within_decide (finite.get now.contents.files num))
 
 -- ---- and each file that a running transaction's body left
@@ -169,18 +170,18 @@ module _ (s : Setting) (now : Moment) (all : AreInFlight s now) (at : ℕ) (job 
   abbrev runner : Tx
   runner = flown job.me (all.unnoted at) tx
 
-  body_there : (num : Num) → IsWithin (finite.get (ran (state_of s now).world runner).world.files num) → IsWithin (finite.get now.contents.files num)
+  body_there : (num : Num) → IsFileWithin (finite.get (ran (state_of s now).world runner).world.files num) → IsFileWithin (finite.get now.contents.files num)
   body_there num within =
       ⊎_elim
       (λ (has : Has runner (object.File num)).
       let e : finite.get (ran (state_of s now).world runner).world.files num ≡ finite.get now.contents.files num =
       sees (flight_state s now all.unnoted) at runner all.flies (flies_there s now all at job tx there active) (ap flown_phase runs) (object.File num) has in
-      subst IsWithin e within)
+      subst IsFileWithin e within)
       (λ (lacks : Has runner (object.File num) → ⊥).
       let keeps = ran_keeps (state_of s now).world runner (flight_there s now all at job tx there active).inside.covers in
       let e : finite.get (state_of s now).world.files num ≡ finite.get (ran (state_of s now).world runner).world.files num =
       keeps.others (object.File num) (λ own. lacks (owns_has runner (object.File num) own)) in
-      still_within s now all num (subst IsWithin (sym e) within))
+      still_within s now all num (subst IsFileWithin (sym e) within))
       (has_decide runner (object.File num))
 
   -- so all that it has open
@@ -194,5 +195,5 @@ module _ (s : Setting) (now : Moment) (all : AreInFlight s now) (at : ℕ) (job 
       let same : ran w runner ≡ noted w runner =
       all_noted (flight_state s now all.unnoted) at runner all.flies (flies_there s now all at job tx there active) (ap flown_phase runs) in
       open_there now.contents world (place_of tx.me.places h)
-      (λ num within. body_there num (subst (λ (r : BodyResult). IsWithin (finite.get r.world.files num)) (sym same) within))
+      (λ num within. body_there num (subst (λ (r : BodyResult). IsFileWithin (finite.get r.world.files num)) (sym same) within))
       (subst (λ (m : Private). IsKnown world (place_of m.places h)) me (after.handles h)) after.world.files

@@ -24,11 +24,11 @@ use Rattle.xc_flight.specs.Active.{Tx, Own}
 use Rattle.xc_flight.specs.Active as flight
 use Rattle.xc_flight.specs.State.{FlightState, Flies, InFlight, IsActive, AreSound, IsIdleSound, entered}
 use Rattle.xc_flight.specs.Turns.{after_abort}
-use Rattle.xc_flight.proofs.Laws.{abort_idle, abort_sound, own_after_abort, left_keeps, get_set_other, aborted}
+use Rattle.xc_flight.proofs.Laws.{abort_idle, abort_sound, own_after_abort, left_keeps, active_set_other, abort_enters}
 use Rattle.xc_refines.specs.InFlight.{flown, flown_phase, ran_at}
-use Rattle.xc_refines.proofs.FlownLists.{flown_there, is_active}
+use Rattle.xc_refines.proofs.FlownLists.{flown_there, active_does}
 use Rattle.xc_refines.proofs.TurnBack.{records_so}
-use Rattle.xc_refines.proofs.TurnEnters.{Leads, GivesSame, apart_of, landing}
+use Rattle.xc_refines.proofs.TurnEnters.{LeadsToLanding, GivesSame, apart_of, landing}
 use Rattle.std.proofs.Common.{append-nil}
 use Rattle.xc_data.proofs.Laws.{map_set_same}
 use Rattle.xc_refines.proofs.StartedWorld.{remains_base}
@@ -80,7 +80,7 @@ module _ (s : Setting) (p : Progress) (words : List ℕ) (contents : Contents) (
       → active_of other ≡ Some u → GivesSame (ran_at p.state.world other.me u) (ran_at behind other.me u)
   abort_bodies j other u fresh ne here does =
       let w = p.state.world in
-      let is = is_active other.doing u does in
+      let is = active_does other.doing u does in
       let its = flown other.me (f.unnoted j) u in
       let flies_there = flown_there f.unnoted jobs j other u here is in
       let touched = (ran_at w other.me u).touched in
@@ -89,20 +89,20 @@ module _ (s : Setting) (p : Progress) (words : List ℕ) (contents : Contents) (
       All-weaker (Contains (objects touched)) (AgreeAt w behind) (λ o sees. keeps.others o (apart o (inl sees))) (objects touched)
       (All-contains_itself (objects touched)) in
       let alike = body_alike_begun w behind other.me u.number (asked_of u.calls u.replies) (f.sound j its flies_there)
-      (sound_behind j its (get_set_other flight_now.active at j None ne ∙ flies_there)) (ap (λ (m : Private). m.made) fresh) (sym keeps.count) agree in
+      (sound_behind j its (active_set_other flight_now.active at j None ne ∙ flies_there)) (ap (λ (m : Private). m.made) fresh) (sym keeps.count) agree in
       record { me = alike.gave.me; touched = alike.gave.touched; count = alike.left.count ∙ sym keeps.count ∙ sym alike.right.count }
 
   -- what it leads to
-  pub abort_leads : (p' : Progress) (job' : JobView) → p'.state.world ≡ behind
+  pub abort_lands : (p' : Progress) (job' : JobView) → p'.state.world ≡ behind
       → p'.state.handles ≡ map (λ (job : JobView). job.me.places) (slice_set jobs at job')
       → ((j : ℕ) → j ≢ at → slice_get p'.jobs j ≡ slice_get p.jobs j) → job'.me ≡ job.me → job'.block ≡ job.block
       → ((j : ℕ) (other : JobView) → slice_get jobs j ≡ Some other → other.me ≡ beginning other.me.places)
-      → Leads (record { old = p; new = p' }) (record flight_now { now = world_in p.state.world words (with_kept contents tx.taken) started })
+      → LeadsToLanding (record { old = p; new = p' }) (record flight_now { now = world_in p.state.world words (with_kept contents tx.taken) started })
       (landing jobs [] at job')
-  abort_leads p' job' is handles followings me block fresh =
+  abort_lands p' job' is handles followings me block fresh =
       let w = p.state.world in
       let sound = f.sound at tx_flown active in
-      let after = aborted flight_now at tx_flown f.flies active (ap flown_phase undoes) sound none in
+      let after = abort_enters flight_now at tx_flown f.flies active (ap flown_phase undoes) sound none in
       let now : returned ≡ world_in w words (with_kept contents tx.taken) started = given_in w words contents started tx.taken in
       record {
         flies = subst (λ v. InFlight (entered flight_now at v (world_in w words (with_kept contents tx.taken) started))) (sym is)

@@ -37,7 +37,7 @@ use Rattle.xc_flight.specs.State.{FlightState, InFlight, IsActive, turned}
 use Rattle.xc_flight.proofs.Laws.{is_running, commits, newest_undone, records_made, turns_back}
 use Rattle.xc_refines.specs.InFlight.{IsUnnoted, flown, flown_phase, ran_at}
 use Rattle.xc_refines.proofs.FlownLists.{flown_there, none_unnoted}
-use Rattle.xc_refines.proofs.TurnParts.{Flying, world_in, flight_in, asked_same, goes_on, airfield}
+use Rattle.xc_refines.proofs.TurnParts.{Flying, world_in, flight_in, asked_same, flies_on, airfield}
 
 -- ---- what is held
 -- what its calls claimed, in each phase
@@ -127,7 +127,7 @@ module _ (s : Setting) (p : Progress) (words : List ℕ) (contents : Contents) (
   pub back_keeps : (c : Cause) → tx.phase ≡ Running
       → Flying s p (airfield words contents started (slice_set jobs at (with_tx job place (record tx { phase = Undoing c }))) next)
   back_keeps c runs =
-      goes_on s p words words contents contents started started jobs next at (f.unnoted at) job place tx (record tx { phase = Undoing c }) there doing refl f
+      flies_on s p words words contents contents started started jobs next at (f.unnoted at) job place tx (record tx { phase = Undoing c }) there doing refl f
       (turns_back flight_now at tx_flown f.flies active (running runs) (f.sound at tx_flown active))
       (none_unnoted (Undoing c) (asked_of_tx s (slice_get p.jobs at) (record tx { phase = Undoing c })) (f.unnoted at) (noted_so runs))
       (holds_at ran (asked_of_tx s (slice_get p.jobs at) (record tx { phase = Undoing c })) (Undoing c) tx.held (held runs))
@@ -136,7 +136,7 @@ module _ (s : Setting) (p : Progress) (words : List ℕ) (contents : Contents) (
   pub begins_back_keeps : tx.phase ≡ Running
       → Flying s p (airfield words contents started (slice_set jobs at (with_tx job place (record tx { phase = Backing }))) next)
   begins_back_keeps runs =
-      goes_on s p words words contents contents started started jobs next at (f.unnoted at) job place tx (record tx { phase = Backing }) there doing refl f
+      flies_on s p words words contents contents started started jobs next at (f.unnoted at) job place tx (record tx { phase = Backing }) there doing refl f
       (turns_back flight_now at tx_flown f.flies active (running runs) (f.sound at tx_flown active))
       (none_unnoted Backing (asked_of_tx s (slice_get p.jobs at) (record tx { phase = Backing })) (f.unnoted at) (noted_so runs))
       (held runs)
@@ -145,7 +145,7 @@ module _ (s : Setting) (p : Progress) (words : List ℕ) (contents : Contents) (
   pub commit_keeps : tx.phase ≡ Running
       → Flying s p (airfield (overlaid words tx.writes) contents started (slice_set jobs at (with_tx job place (record tx { phase = Committing }))) next)
   commit_keeps runs =
-      goes_on s p words (overlaid words tx.writes) contents contents started started jobs next at (f.unnoted at) job place tx
+      flies_on s p words (overlaid words tx.writes) contents contents started started jobs next at (f.unnoted at) job place tx
       (record tx { phase = Committing }) there
       doing refl f (commits flight_now at tx_flown f.flies active (running runs))
       (none_unnoted Committing (asked_of_tx s (slice_get p.jobs at) (record tx { phase = Committing })) (f.unnoted at) (noted_so runs))
@@ -166,7 +166,7 @@ module _ (s : Setting) (p : Progress) (words : List ℕ) (contents : Contents) (
       (record { all = f.flies; active = active; phase = ap flown_phase undoes }) sound made newest s.rules.undo_tries legal in
       let leads : undone_to flight_now.now u end ≡ world_in w words contents' started =
       undone_in flight_now.now u end ∙ ap (λ cs. world_in w words cs started) (sym effect) in
-      goes_on s p words words contents contents' started started jobs next at (f.unnoted at) job place tx tx' there doing refl f
+      flies_on s p words words contents contents' started started jobs next at (f.unnoted at) job place tx tx' there doing refl f
       (subst (λ v. InFlight (turned flight_now at (Some (flown job.me (f.unnoted at) tx')) v)) leads done)
       (subst (λ a. IsUnnoted tx.phase a (f.unnoted at)) (asked_same s (slice_get p.jobs at) tx tx' refl)
       (f.was_asked at job tx there (ap active_in doing)))

@@ -34,25 +34,25 @@ use Rattle.xc_model.specs.Asked.{AsksEach}
 use Rattle.xc_model.specs.declared.phase.Phase.TheVariants.{Running}
 use Rattle.xc_model.specs.Moment.{SavedView, TxView, JobView, Active, active_in}
 use Rattle.xc_model.specs.Rivals.{HasNoRival}
-use Rattle.xc_model.specs.PlainSteps.{copied, saved_by, noting_plain, Parts, StepsAsPlain, noting, tx_parts, stored_by, seen}
+use Rattle.xc_model.specs.PlainSteps.{copied, saved_by, noting_plain, Parts, StepsAsPlain, noting, tx_parts, stored_by, contents_seen}
 use Rattle.xc_model.specs.Movers.{with_tx}
 use Rattle.xc_flight.specs.Active.{Tx, Saved, Own, HoldTheSame}
 use Rattle.xc_flight.specs.Active as flight
-use Rattle.xc_flight.specs.Flight.{IsRunning, IsPhase}
+use Rattle.xc_flight.specs.Flight.{IsRunningFlight, IsPhase}
 use Rattle.xc_flight.specs.State.{FlightState, InFlight, IsActive, turned}
-use Rattle.xc_flight.specs.Turns.{claiming, IsNoted, noting as noting_in_flight, after_call, did}
+use Rattle.xc_flight.specs.Turns.{claiming, IsNoted, noting_call as noting_in_flight, after_call, did}
 use Rattle.xc_flight.specs.Turns as turns
 use Rattle.xc_flight.proofs.Laws.{merged_held, called_with_claims}
 use Rattle.xc_refines.specs.InFlight.{flown, flown_saved, flown_phase, ran_at}
 use Rattle.xc_refines.proofs.FlownLists.{flown_there, none_unnoted}
-use Rattle.xc_refines.proofs.TurnParts.{Flying, world_in, flight_in, goes_on, airfield}
+use Rattle.xc_refines.proofs.TurnParts.{Flying, world_in, flight_in, flies_on, airfield}
 use Rattle.xc_refines.proofs.TurnRivals.{no_rivals}
 
 -- ---- a call more
-pub asks-count : (walk : BlockWalk) (calls : List Call) (replies : List Reply) → AsksEach walk calls replies → length calls ≡ length replies
-asks-count walk [] replies h = ap length (sym h)
-asks-count walk (d ∷ calls) [] h = absurd h
-asks-count walk (d ∷ calls) (q ∷ replies) h = ap suc (asks-count (replied walk q) calls replies h.1)
+pub asked-count : (walk : BlockWalk) (calls : List Call) (replies : List Reply) → AsksEach walk calls replies → length calls ≡ length replies
+asked-count walk [] replies h = ap length (sym h)
+asked-count walk (d ∷ calls) [] h = absurd h
+asked-count walk (d ∷ calls) (q ∷ replies) h = ap suc (asked-count (replied walk q) calls replies h.1)
 
 -- the call that is asked last
 abbrev pub asked_with : Call → Reply → CallWithAnswer
@@ -89,7 +89,7 @@ abbrev pub flown_copy : SavedView → Saved
 flown_copy kept = record { places = kept.places; writes = kept.writes; late = kept.late; trail = kept.trail; taken = kept.taken }
 
 saved_flown : (c : Call) (kept : Option SavedView) (copy : SavedView)
-    → turns.saved_by c (flown_saved kept) (flown_copy copy) ≡ flown_saved (saved_by c kept copy)
+    → turns.saved_after c (flown_saved kept) (flown_copy copy) ≡ flown_saved (saved_by c kept copy)
 saved_flown call.Save kept copy = refl
 saved_flown call.Keep kept copy = refl
 saved_flown call.Back kept copy = refl
@@ -104,8 +104,8 @@ pub record Stepping (worlds : Step World) (tx : TxView) (c : Call) (reply : Repl
 module _ (w : World) (words : List ℕ) (was is : Contents) (started : List (List ℕ)) (us : List CallWithAnswer) (job : JobView) (tx : TxView)
     (c : Call) (reply : Reply) (parts : Parts)
     (go : Stepping (record {
-      old = seen (record w { words = words; started = started }) was tx.writes;
-      new = seen (record w { words = words; started = started }) is parts.stores;
+      old = contents_seen (record w { words = words; started = started }) was tx.writes;
+      new = contents_seen (record w { words = words; started = started }) is parts.stores;
     }) tx c reply parts) where
   abbrev now : World
   now = world_in w words was started
@@ -119,16 +119,17 @@ module _ (w : World) (words : List ℕ) (was is : Contents) (started : List (Lis
   abbrev after : TxView
   after = noting tx c reply claims parts
 
-  acts : did now (claiming t after.held) (asked_with c reply) ≡ step_to (seen (record w { words = words; started = started }) is parts.stores) parts.me reply
+  acts : did now (claiming t after.held) (asked_with c reply)
+      ≡ step_to (contents_seen (record w { words = words; started = started }) is parts.stores) parts.me reply
   acts = go.does.step
 
   noted_so : noting_in_flight now (claiming t after.held) (asked_with c reply) parts.stores ≡ flown job.me us after
   noted_so = noted_but ∙ ap (λ kept. record (flown job.me us after) { saved = kept })
       (saved_flown c tx.saved (copied (noting_plain tx c reply claims parts)))
     where
-      pending : tx.undo.pending ++ recorded (turns.seen now t) tx.me tx.number c (did now (claiming t after.held) (asked_with c reply)).reply
+      pending : tx.undo.pending ++ recorded (turns.world_seen now t) tx.me tx.number c (did now (claiming t after.held) (asked_with c reply)).reply
           ≡ parts.undo.pending
-      pending = ap (λ (s : Stepped). tx.undo.pending ++ recorded (turns.seen now t) tx.me tx.number c s.reply) acts ∙ sym go.does.records
+      pending = ap (λ (s : Stepped). tx.undo.pending ++ recorded (turns.world_seen now t) tx.me tx.number c s.reply) acts ∙ sym go.does.records
 
       taken : tx.taken ++ taken_by c tx.me (did now (claiming t after.held) (asked_with c reply)).reply ≡ tx.taken ++ taken_by c tx.me reply
       taken = ap (λ (s : Stepped). tx.taken ++ taken_by c tx.me s.reply) acts
@@ -138,7 +139,7 @@ module _ (w : World) (words : List ℕ) (was is : Contents) (started : List (Lis
 
       noted_but : noting_in_flight now (claiming t after.held) (asked_with c reply) parts.stores
           ≡ record (flown job.me us after) {
-            saved = turns.saved_by c (flown_saved tx.saved) (flown_copy (copied (noting_plain tx c reply claims parts)));
+            saved = turns.saved_after c (flown_saved tx.saved) (flown_copy (copied (noting_plain tx c reply claims parts)));
           }
       noted_but = λ i. record {
         number = tx.number;
@@ -155,7 +156,7 @@ module _ (w : World) (words : List ℕ) (was is : Contents) (started : List (Lis
         taken = taken i;
         late = late i;
         late_ends = tx.ends;
-        saved = turns.saved_by c (flown_saved tx.saved) (record {
+        saved = turns.saved_after c (flown_saved tx.saved) (record {
           places = (ap (λ (s : Stepped). s.me.places) acts) i;
           writes = parts.stores;
           late = late i;
@@ -177,8 +178,8 @@ module _ (s : Setting) (p : Progress) (words : List ℕ) (was is : Contents) (st
     (c : Call) (reply : Reply) (parts : Parts) (ahead : is_back c ≡ false) (there : slice_get jobs at ≡ Some job)
     (doing : job.doing ≡ Active tx) (runs : tx.phase ≡ Running)
     (go : Stepping (record {
-      old = seen (record p.state.world { words = words; started = started }) was tx.writes;
-      new = seen (record p.state.world { words = words; started = started }) is parts.stores;
+      old = contents_seen (record p.state.world { words = words; started = started }) was tx.writes;
+      new = contents_seen (record p.state.world { words = words; started = started }) is parts.stores;
     }) tx c reply parts) (f : Flying s p (airfield words was started jobs next)) where
   abbrev flight_now : FlightState
   flight_now = flight_in p.state.world (world_in p.state.world words was started) f.unnoted jobs next
@@ -204,7 +205,7 @@ module _ (s : Setting) (p : Progress) (words : List ℕ) (was is : Contents) (st
   held : tx.held ≡ held_of ran.touched
   held = subst (λ ph. HoldsFor ran (asked_of_tx s (slice_get p.jobs at) tx) ph tx.held) runs (f.holds at job tx there (ap active_in doing))
 
-  flies_so : IsRunning p.state.world tx_flown
+  flies_so : IsRunningFlight p.state.world tx_flown
   flies_so = subst (IsPhase p.state.world tx_flown) running (f.flies.flights at tx_flown active).inside.phase
 
   same : HoldTheSame behind.held (tx.held ++ claimed)
@@ -264,6 +265,6 @@ module _ (s : Setting) (p : Progress) (words : List ℕ) (was is : Contents) (st
   pub calls_keep : All (HasNoRival jobs at) claimed → parts.stores ≡ tx.writes ++ stored_by (length words) c → length tx.calls ≡ length tx.replies
       → Flying s p (airfield words is started (slice_set jobs at (with_tx job place behind)) next)
   calls_keep alone stores count =
-      goes_on s p words words was is started started jobs next at (f.unnoted at) job place tx behind there doing refl f (flies alone stores)
+      flies_on s p words words was is started started jobs next at (f.unnoted at) job place tx behind there doing refl f (flies alone stores)
       (none_unnoted tx.phase (asked_of_tx s (slice_get p.jobs at) behind) (f.unnoted at) flies_so.all_noted)
       (subst (λ ph. HoldsFor (ran_at p.state.world job.me behind) (asked_of_tx s (slice_get p.jobs at) behind) ph behind.held) (sym runs) (held_behind count))

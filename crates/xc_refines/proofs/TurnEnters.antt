@@ -25,19 +25,19 @@ use Rattle.xc_model.specs.EntryEnds.{IsPartOf, next_claims}
 use Rattle.xc_model.specs.Moment.{TxView, JobView, Active, active_of}
 use Rattle.xc_flight.specs.Active.{Tx, Has, Own, Covers}
 use Rattle.xc_flight.specs.Active as flight
-use Rattle.xc_flight.specs.Flight.{IsCommitting, IsPhase, ran, left}
+use Rattle.xc_flight.specs.Flight.{IsCommittingFlight, IsPhase, ran, left}
 use Rattle.xc_flight.specs.State.{FlightState, InFlight, IsActive, AreSound, HasSome, OwnSome, IsIdleSound, entered}
 use Rattle.xc_flight.specs.Turns.{after_commit}
-use Rattle.xc_flight.proofs.Laws.{owns_own, committed, left_run, sound_after, idle_after, own_after}
+use Rattle.xc_flight.proofs.Laws.{owns_own, commit_enters, left_run, sound_after, idle_after, own_after}
 use Rattle.xc_refines.specs.InFlight.{IsUnnoted, flown, flown_jobs, flown_phase, ran_at}
-use Rattle.xc_refines.proofs.FlownLists.{flown-put, flown_there, is_active, none_flown, put_elsewhere, put_in}
+use Rattle.xc_refines.proofs.FlownLists.{flown-put, flown_there, active_does, none_flown, put_elsewhere, put_in}
 use Rattle.xc_data.proofs.Laws.{map_set_same}
 use Rattle.std.proofs.Common.{◌<◌, take}
 use Rattle.std.proofs.Math.Seq.{take-length}
 use Rattle.std.proofs.lemmas.List.{map-append}
 use Rattle.xc_world.specs.Run.{lates, late_asked_of}
 use Rattle.xc_model.specs.LateCalls.{started_late}
-use Rattle.xc_refines.proofs.Grown.{AreNew, grown_cases, grown_flies, grown_sound}
+use Rattle.xc_refines.proofs.Grown.{AreNewJobs, grown_cases, grown_flies, grown_sound}
 use Rattle.xc_refines.proofs.StartedWorld.{body_started, ended_start}
 use Rattle.std.proofs.lemmas.Option.{slice_get_within}
 use Rattle.xc_refines.proofs.TurnParts.{Flying, world_in, flight_in, put_cases, airfield}
@@ -84,7 +84,7 @@ abbrev pub landed : Landing → List JobView
 landed l = slice_set l.jobs l.at l.job ++ l.more
 
 -- what it leads to; the station's world is this one then
-pub record Leads (p : Step Progress) (st : FlightState) (l : Landing) : Type 0 where
+pub record LeadsToLanding (p : Step Progress) (st : FlightState) (l : Landing) : Type 0 where
   pub flies : InFlight (entered st l.at p.new.state.world st.now)
   pub sound : AreSound (entered st l.at p.new.state.world st.now)
   pub others : (places : List Handle) → IsIdleSound p.old.state.world st.next places → IsIdleSound p.new.state.world st.next places
@@ -92,18 +92,18 @@ pub record Leads (p : Step Progress) (st : FlightState) (l : Landing) : Type 0 w
   pub started : p.new.state.world.started ≡ map (λ (job : JobView). job.block) (landed l)
   pub handles : p.new.state.handles ≡ map (λ (job : JobView). job.me.places) (landed l)
   pub followings : (j : ℕ) → j ≢ l.at → j < length l.jobs → slice_get p.new.jobs j ≡ slice_get p.old.jobs j
-  pub new : AreNew l.job.me.places l.more
+  pub new : AreNewJobs l.job.me.places l.more
   pub bodies : (j : ℕ) (other : JobView) (u : TxView) → j ≢ l.at → slice_get l.jobs j ≡ Some other → active_of other ≡ Some u
       → GivesSame (ran_at p.old.state.world other.me u) (ran_at p.new.state.world other.me u)
 
 -- it keeps all
-pub enters : (s : Setting) (p p' : Progress) (words : List ℕ) (contents contents' : Contents) (started : List (List ℕ)) (jobs more : List JobView)
+pub entry_lands : (s : Setting) (p p' : Progress) (words : List ℕ) (contents contents' : Contents) (started : List (List ℕ)) (jobs more : List JobView)
     (next at : ℕ) (job job' : JobView)
     → slice_get jobs at ≡ Some job → active_of job' ≡ None → (f : Flying s p (airfield words contents started jobs next))
-    → Leads (record { old = p; new = p' }) (flight_in p.state.world (world_in p.state.world words contents' started) f.unnoted jobs next)
+    → LeadsToLanding (record { old = p; new = p' }) (flight_in p.state.world (world_in p.state.world words contents' started) f.unnoted jobs next)
     (landing jobs more at job')
     → Flying s p' (airfield words contents' started (slice_set jobs at job' ++ more) next)
-enters s p p' words contents contents' started jobs more next at job job' there none f l =
+entry_lands s p p' words contents contents' started jobs more next at job job' there none f l =
     let w = p.state.world in
     let w' = p'.state.world in
     let now : world_in w words contents' started ≡ world_in w' words contents' started = λ i. record {
@@ -193,7 +193,7 @@ module _ (s : Setting) (p : Progress) (words : List ℕ) (contents : Contents) (
   -- it has noted all that it did
   all_noted : tx.phase ≡ Committing → ran p.state.world tx_flown ≡ run_body
   all_noted commits =
-      let phase : IsCommitting p.state.world tx_flown =
+      let phase : IsCommittingFlight p.state.world tx_flown =
       subst (IsPhase p.state.world tx_flown) (ap flown_phase commits) (f.flies.flights at tx_flown active).inside.phase in
       ap (λ l. (runs_on tx.number (body_state p.state.world job.me tx.number (asked_of tx.calls tx.replies)) l).now) phase.all_noted
 
@@ -211,7 +211,7 @@ module _ (s : Setting) (p : Progress) (words : List ℕ) (contents : Contents) (
   commit_started commits done =
       let w = p.state.world in
       let i = (f.flies.flights at tx_flown active).inside in
-      let phase : IsCommitting w tx_flown = subst (IsPhase w tx_flown) (ap flown_phase commits) i.phase in
+      let phase : IsCommittingFlight w tx_flown = subst (IsPhase w tx_flown) (ap flown_phase commits) i.phase in
       let none = body_started w tx_flown i (f.sound at tx_flown active) in
       let body : run_body.world.started ≡ w.started = ap (λ (r : BodyResult). r.world.started) (sym (all_noted commits)) ∙ none in
       let late : run_body.late ≡ tx.late = i.late in
@@ -227,21 +227,21 @@ module _ (s : Setting) (p : Progress) (words : List ℕ) (contents : Contents) (
   commit_bodies j other u commits done ne here does =
       let w = p.state.world in
       let alike = other_run_apart w other.me job.me u.number tx.number (asked_of u.calls u.replies) (asked_of tx.calls tx.replies) tx.ends
-      (λ o sees owns. apart_of s p words contents started jobs next at j job other tx u there doing here (is_active other.doing u does) ne f o sees
+      (λ o sees owns. apart_of s p words contents started jobs next at j job other tx u there doing here (active_does other.doing u does) ne f o sees
       (own_so commits o owns)) in
-      let after = committed flight_now at tx_flown f.flies active (ap flown_phase commits) done in
+      let after = commit_enters flight_now at tx_flown f.flies active (ap flown_phase commits) done in
       record { me = alike.gave.me; touched = alike.gave.touched; count = alike.left.count ∙ sym f.flies.count ∙ after.count ∙ sym alike.right.count }
 
   -- what it leads to
-  pub commit_leads : (p' : Progress) (job' : JobView) (more : List JobView) → tx.phase ≡ Committing → length tx.ends ≡ length tx.late → p'.state.world ≡ behind
+  pub commit_lands : (p' : Progress) (job' : JobView) (more : List JobView) → tx.phase ≡ Committing → length tx.ends ≡ length tx.late → p'.state.world ≡ behind
       → p'.state.handles ≡ map (λ (job : JobView). job.me.places) (slice_set jobs at job' ++ more)
       → ((j : ℕ) → j ≢ at → j < length jobs → slice_get p'.jobs j ≡ slice_get p.jobs j)
       → job'.me.places ≡ tx.me.places → job'.block ≡ job.block → started_late tx.late tx.ends ≡ map (λ (job : JobView). job.block) more
-      → AreNew job'.me.places more → Leads (record { old = p; new = p' }) flight_now (landing jobs more at job')
-  commit_leads p' job' more commits done is handles followings places block blocks new =
+      → AreNewJobs job'.me.places more → LeadsToLanding (record { old = p; new = p' }) flight_now (landing jobs more at job')
+  commit_lands p' job' more commits done is handles followings places block blocks new =
       let w = p.state.world in
       let phase = ap flown_phase commits in
-      let after = committed flight_now at tx_flown f.flies active phase done in
+      let after = commit_enters flight_now at tx_flown f.flies active phase done in
       record {
         flies = subst (λ v. InFlight (entered flight_now at v flight_now.now)) (sym is) after;
         sound = subst (λ v. AreSound (entered flight_now at v flight_now.now)) (sym is)

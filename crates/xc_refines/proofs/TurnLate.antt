@@ -26,7 +26,7 @@ use Rattle.xc_flight.proofs.Laws.{does_late}
 use Rattle.xc_refines.specs.InFlight.{IsUnnoted, flown, flown_phase, ran_at}
 use Rattle.xc_refines.proofs.FlownLists.{flown_there}
 use Rattle.xc_refines.proofs.NextLate.{late_split}
-use Rattle.xc_refines.proofs.TurnParts.{Flying, world_in, flight_in, asked_same, goes_on, airfield}
+use Rattle.xc_refines.proofs.TurnParts.{Flying, world_in, flight_in, asked_same, flies_on, airfield}
 
 -- an answer fits a late call by what the host has alone
 late_fits_in : (w : World) (words : List ℕ) (contents : Contents) (started : List (List ℕ)) (c : LateCall) (a : LateAnswer)
@@ -68,14 +68,14 @@ module _ (s : Setting) (p : Progress) (words : List ℕ) (was is : Contents) (st
       }
 
   -- it keeps all
-  pub late_keeps : (calls : List LateCall) → late_left tx ≡ call ∷ calls → length tx.ends ≤ length tx.late
+  pub late_lands : (calls : List LateCall) → late_left tx ≡ call ∷ calls → length tx.ends ≤ length tx.late
       → Flying s p (airfield words is started' (slice_set jobs at (with_tx job place after)) next)
-  late_keeps calls left few =
+  late_lands calls left few =
       let behind : InFlight (turned flight_now at (Some (flown job.me (f.unnoted at) after)) (world_in p.state.world words is started')) =
       subst (λ (e : Ended). InFlight (turned flight_now at (Some (with_end tx_flown e.end)) e.world)) ends_so
       (does_late flight_now at tx_flown call (late_answer_of end) f.flies active (ap flown_phase commits) (done_so calls left few)) in
       let asked = asked_same s (slice_get p.jobs at) tx after refl in
-      goes_on s p words words was is started started' jobs next at (f.unnoted at) job place tx after there doing refl f behind
+      flies_on s p words words was is started started' jobs next at (f.unnoted at) job place tx after there doing refl f behind
       (subst (λ a. IsUnnoted tx.phase a (f.unnoted at)) asked (f.was_asked at job tx there (ap active_in doing)))
       (subst (λ a. HoldsFor (ran_at p.state.world job.me tx) a tx.phase tx.held) asked (f.holds at job tx there (ap active_in doing)))
 

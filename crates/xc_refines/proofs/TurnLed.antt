@@ -32,16 +32,16 @@ get_in_front (x ∷ xs) ys zero low = refl
 get_in_front (x ∷ xs) ys (suc j) low = get_in_front xs ys j (omega (arith, low))
 
 -- one entry more
-pub progress-more : (script : Script) (journal : List Entry) (e : Entry)
+pub led-more : (script : Script) (journal : List Entry) (e : Entry)
     → progress_of script (journal ++ e ∷ []) ≡ after_entry script (progress_of script journal) e
-progress-more script journal e = fold_push (after_entry script) (opening_progress script) journal e
+led-more script journal e = fold_push (after_entry script) (opening_progress script) journal e
 
 -- places count from 0, jobs from 1
 back_one : (at : ℕ) → at + 1 - 1 ≡ at
 back_one at = omega arith
 
-abbrev places_of : JobView → List Handle
-places_of job = job.me.places
+abbrev job_handles : JobView → List Handle
+job_handles job = job.me.places
 
 -- ---- an entry of the job in this place
 module _ (script : Script) (p : Progress) (f : Following) (jobs : List JobView) (at : ℕ) (job : JobView) (tx : TxView)
@@ -58,7 +58,7 @@ module _ (script : Script) (p : Progress) (f : Following) (jobs : List JobView) 
   -- its private state at its begin
   private_is : private_of p.state (at + 1) ≡ job.me
   private_is = (λ i. beginning (unwrap_or (slice_get (handles i) (back_one at i)) no_handles))
-      ∙ ap (λ o. beginning (unwrap_or o no_handles)) (get_map places_of jobs at job there) ∙ sym fresh
+      ∙ ap (λ o. beginning (unwrap_or o no_handles)) (get_map job_handles jobs at job there) ∙ sym fresh
 
   others_follow : (g : Following) (j : ℕ) → j ≢ at → slice_get (slice_set p.jobs (at + 1 - 1) g) j ≡ slice_get p.jobs j
   others_follow g j ne = ap (λ k. slice_get (slice_set p.jobs k g) j) (back_one at) ∙ get_set_other p.jobs at j g ne
@@ -86,8 +86,8 @@ module _ (script : Script) (p : Progress) (f : Following) (jobs : List JobView) 
       ap (λ (q : Progress). q.state.handles) (led_by (Committed tx.ends))
       ∙ (λ i. slice_set (handles i) (back_one at i) (mine i)
       ++ replicate (length (sym (started_same tx.late (kept_calls tx.calls tx.replies) tx.ends kept) i)) (mine i))
-      ∙ ap₂ (λ a b. a ++ b) (sym (map_set places_of jobs at job')) (started_handles script job' (started_late tx.late tx.ends))
-      ∙ sym (map-append places_of (slice_set jobs at job') (map (seen_started script job') (started_late tx.late tx.ends)))
+      ∙ ap₂ (λ a b. a ++ b) (sym (map_set job_handles jobs at job')) (started_handles script job' (started_late tx.late tx.ends))
+      ∙ sym (map-append job_handles (slice_set jobs at job') (map (seen_started script job') (started_late tx.late tx.ends)))
 
   -- the other jobs stay
   pub commit_followings : (j : ℕ) → j ≢ at → j < length p.jobs → slice_get (after_entry script p committed).jobs j ≡ slice_get p.jobs j
@@ -109,7 +109,7 @@ module _ (script : Script) (p : Progress) (f : Following) (jobs : List JobView) 
   pub abort_handles : (c : Cause) (job' : JobView) → job'.me ≡ job.me
       → (after_entry script p (aborted c)).state.handles ≡ map (λ (job : JobView). job.me.places) (slice_set jobs at job')
   abort_handles c job' me = ap (λ (q : Progress). q.state.handles) (led_by (Aborted (record { cause = c; records = tx.undo.ended }))) ∙ handles
-      ∙ sym (map_set_same places_of jobs at job' job there (ap (λ (m : Private). m.places) me))
+      ∙ sym (map_set_same job_handles jobs at job' job there (ap (λ (m : Private). m.places) me))
 
   -- the other jobs stay
   pub abort_followings : (c : Cause) (j : ℕ) → j ≢ at → slice_get (after_entry script p (aborted c)).jobs j ≡ slice_get p.jobs j

@@ -19,7 +19,7 @@ use Rattle.xc_model.specs.Movers.{with_tx}
 use Rattle.xc_flight.specs.Active.{Tx}
 use Rattle.xc_flight.specs.State.{FlightState, InFlight, AreSound, IsIdleSound, begun, turned}
 use Rattle.xc_flight.specs.Turns.{starting}
-use Rattle.xc_flight.proofs.Laws.{begins, begin_sound, step_sound}
+use Rattle.xc_flight.proofs.Laws.{begin_keeps, begin_sound, turn_keeps_sound}
 use Rattle.xc_refines.specs.InFlight.{AreInFlight, IsUnnoted, flown, flown_in, flown_jobs, ran_at}
 use Rattle.xc_refines.proofs.FlownLists.{flown-at, flown-count, flown-put, flown-put_same, flown_there, none_flown, put_elsewhere, put_here, put_in}
 use Rattle.xc_data.proofs.Laws.{get_set_same, get_set_other, map_set_same, found_at}
@@ -97,16 +97,16 @@ flying_from s now f =
     }
 
 -- ---- what the journal tells of a job
-pub record Follows (s : Setting) (now : Moment) (at : ℕ) (job : JobView) : Type 0 where
+pub record FollowsStory (s : Setting) (now : Moment) (at : ℕ) (job : JobView) : Type 0 where
   pub following : Following
   pub at_place : slice_get (progress_of s.script now.journal).jobs at ≡ Some following
   pub told : StoryHolds s (begun_count now) (length now.journal) following job
 
 -- each job is told
-pub told_at : (s : Setting) (words : ℕ) (now : Moment) (at : ℕ) (job : JobView) → StoriesHold s words now.marks now.journal now.jobs
+pub follows_at : (s : Setting) (words : ℕ) (now : Moment) (at : ℕ) (job : JobView) → StoriesHold s words now.marks now.journal now.jobs
     → slice_get now.jobs at ≡ Some job
-    → Follows s now at job
-told_at s words now at job told there =
+    → FollowsStory s now at job
+follows_at s words now at job told there =
     let lt = slice_get_within now.jobs at job there in
     let f = found_at (progress_of s.script now.journal).jobs at (omega (arith, lt, told.count)) in
     record { following = f.0; at_place = f.1; told = told.jobs_told at f.0 job f.1 there }
@@ -183,7 +183,7 @@ right_active s p at us job place tx busy asked holds =
     }
 
 -- it keeps all, where it keeps the flights
-pub goes_on : (s : Setting) (p : Progress) (words words' : List ℕ) (contents contents' : Contents) (started started' : List (List ℕ)) (jobs : List JobView)
+pub flies_on : (s : Setting) (p : Progress) (words words' : List ℕ) (contents contents' : Contents) (started started' : List (List ℕ)) (jobs : List JobView)
     (next at : ℕ) (us : List CallWithAnswer)
     (job : JobView) (place : Position) (tx tx' : TxView) → slice_get jobs at ≡ Some job → job.doing ≡ Active tx → tx'.number ≡ tx.number
     → (f : Flying s p (airfield words contents started jobs next))
@@ -192,14 +192,14 @@ pub goes_on : (s : Setting) (p : Progress) (words words' : List ℕ) (contents c
     → IsUnnoted tx'.phase (asked_of_tx s (slice_get p.jobs at) tx') us
     → HoldsFor (ran_at p.state.world job.me tx') (asked_of_tx s (slice_get p.jobs at) tx') tx'.phase tx'.held
     → Flying s p (airfield words' contents' started' (slice_set jobs at (with_tx job place tx')) next)
-goes_on s p words words' contents contents' started started' jobs next at us job place tx tx' there is number f flies asked holds =
+flies_on s p words words' contents contents' started started' jobs next at us job place tx tx' there is number f flies asked holds =
     let w = p.state.world in
     let job' : JobView = with_tx job place tx' in
     let put : flown_jobs (put_in f.unnoted at us) (slice_set jobs at job') ≡ slice_set (flown_jobs f.unnoted jobs) at (Some (flown job.me us tx')) =
     flown-put f.unnoted jobs at us job' in
     let behind : (active : List (Option Tx)) → FlightState =
     λ (active : List (Option Tx)). record { state = w; now = world_in w words' contents' started'; active = active; next = next } in
-    let sound = step_sound (flight_in w (world_in w words contents started) f.unnoted jobs next) at (flown job.me (f.unnoted at) tx) (flown job.me us tx')
+    let sound = turn_keeps_sound (flight_in w (world_in w words contents started) f.unnoted jobs next) at (flown job.me (f.unnoted at) tx) (flown job.me us tx')
     (world_in w words' contents' started') f.sound (flown_there f.unnoted jobs at job tx there is) number refl in
     changed s p words words' contents contents' started started' jobs next next at us job job' there (omega arith) refl refl f
     (subst (λ active. InFlight (behind active)) (sym put) flies)
@@ -216,11 +216,11 @@ right_idle s p at us job none =
     }
 
 -- it goes on without one
-pub rests : (s : Setting) (p : Progress) (words : List ℕ) (contents : Contents) (started : List (List ℕ)) (jobs : List JobView)
+pub flies_idle : (s : Setting) (p : Progress) (words : List ℕ) (contents : Contents) (started : List (List ℕ)) (jobs : List JobView)
     (next at : ℕ) (job job' : JobView)
     → slice_get jobs at ≡ Some job → active_of job ≡ None → active_of job' ≡ None → job'.me ≡ job.me → job'.block ≡ job.block
     → Flying s p (airfield words contents started jobs next) → Flying s p (airfield words contents started (slice_set jobs at job') next)
-rests s p words contents started jobs next at job job' there none none' me block f =
+flies_idle s p words contents started jobs next at job job' there none none' me block f =
     let w = p.state.world in
     let same : flown_jobs (put_in f.unnoted at []) (slice_set jobs at job') ≡ flown_jobs f.unnoted jobs =
     flown-put_same f.unnoted jobs at [] job job' there
@@ -233,11 +233,11 @@ rests s p words contents started jobs next at job job' there none none' me block
     (λ same. subst (λ (m : Private). IsIdleSound w next m.places) (sym me) (f.idle at job there none)) (right_idle s p at [] job' none')
 
 -- it does what it did: it passed silent statements, or was told to wait
-pub waits : (s : Setting) (p : Progress) (words : List ℕ) (contents : Contents) (started : List (List ℕ)) (jobs : List JobView)
+pub flies_waiting : (s : Setting) (p : Progress) (words : List ℕ) (contents : Contents) (started : List (List ℕ)) (jobs : List JobView)
     (next at : ℕ) (job job' : JobView)
     → slice_get jobs at ≡ Some job → job'.doing ≡ job.doing → job'.me ≡ job.me → job'.block ≡ job.block
     → Flying s p (airfield words contents started jobs next) → Flying s p (airfield words contents started (slice_set jobs at job') next)
-waits s p words contents started jobs next at job job' there doing me block f =
+flies_waiting s p words contents started jobs next at job job' there doing me block f =
     let w = p.state.world in
     let us = f.unnoted at in
     let same : flown_jobs (put_in f.unnoted at us) (slice_set jobs at job') ≡ flown_jobs f.unnoted jobs =
@@ -271,7 +271,7 @@ begins_next s p words contents started jobs next at job place rank began there n
     flown-put f.unnoted jobs at [] job' in
     let behind : (active : List (Option Tx)) → FlightState =
     λ (active : List (Option Tx)). record { state = w; now = world_in w words contents started; active = active; next = next + 1 } in
-    let flies = begins st at job.me f.flies lt
+    let flies = begin_keeps st at job.me f.flies lt
     (flown-at f.unnoted jobs at job there ∙ none_flown job.me (f.unnoted at) job.doing none) in
     let sound : AreSound (begun st at (starting next job.me)) = subst (λ m. AreSound (begun st at (starting next m))) (sym fresh)
     (begin_sound st at job.me.places f.sound lt (f.idle at job there none)) in

@@ -8,7 +8,7 @@ use Rattle.xc_world.specs.World.{World}
 use Rattle.xc_model.specs.Moment.{TxView, JobView}
 use Rattle.xc_model.specs.Rivals.{HoldsAgainst, HasNoRival}
 use Rattle.xc_flight.specs.Active.{Tx}
-use Rattle.xc_flight.specs.Turns.{GoTogether, HasNoRival as HasNoRivalInFlight}
+use Rattle.xc_flight.specs.Turns.{GoTogether, FitsOthers as HasNoRivalInFlight}
 use Rattle.xc_refines.proofs.FlownLists.{flown_back}
 use Rattle.xc_refines.proofs.TurnParts.{flight_in}
 

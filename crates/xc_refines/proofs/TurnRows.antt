@@ -26,23 +26,23 @@ use Rattle.xc_model.specs.Moment.{revoked, with_job}
 use Rattle.xc_model.specs.Movers.{asked_at, with_tx}
 use Rattle.xc_model.specs.Entering.{behind_abort, behind_commit, entry_of}
 use Rattle.xc_model.specs.IdleRows.{beginning_at, beginning_job}
-use Rattle.xc_model.specs.PlainSteps.{claims_at, noting, seen, wanting}
+use Rattle.xc_model.specs.PlainSteps.{claims_at, noting, contents_seen, wanting}
 use Rattle.xc_model.specs.RunningRows.{Calls, Conflicts, Revokes, Commits, BeginsBack, TurnsBack, Wants}
 use Rattle.xc_model.specs.UndoingRows.{Compensates, EntersAborted}
 use Rattle.xc_model.specs.CommittingRows.{EndsLate}
 use Rattle.xc_refines.specs.InFlight.{AreInFlight, flown}
-use Rattle.xc_refines.proofs.TurnAborts.{abort_leads}
+use Rattle.xc_refines.proofs.TurnAborts.{abort_lands}
 use Rattle.xc_refines.proofs.FlownLists.{flown_there}
 use Rattle.xc_refines.proofs.TurnBack.{back_keeps, begins_back_keeps, commit_keeps, tried_keeps}
 use Rattle.xc_refines.proofs.TurnWayBack.{cut_keeps, backs_one_keeps, ends_back_keeps}
 use Rattle.xc_model.specs.BackingRows.{phase_after, backed, BacksOne, EndsBack}
 use Rattle.xc_world.specs.Fits.{is_back}
-use Rattle.xc_refines.proofs.TurnCalls.{Stepping, asks-count, calls_keep}
-use Rattle.xc_refines.proofs.TurnEnters.{commit_leads, enters}
+use Rattle.xc_refines.proofs.TurnCalls.{Stepping, asked-count, calls_keep}
+use Rattle.xc_refines.proofs.TurnEnters.{commit_lands, entry_lands}
 use Rattle.xc_refines.proofs.Grown.{idle_actives, started_new, started_their_blocks}
 use Rattle.xc_refines.proofs.StartedWorld.{starts_there}
-use Rattle.xc_refines.proofs.TurnLate.{host_late, late_keeps}
-use Rattle.xc_refines.proofs.TurnLed.{progress-more, commit_world, commit_handles, commit_followings, abort_world, abort_handles, abort_followings}
+use Rattle.xc_refines.proofs.TurnLate.{host_late, late_lands}
+use Rattle.xc_refines.proofs.TurnLed.{led-more, commit_world, commit_handles, commit_followings, abort_world, abort_handles, abort_followings}
 use Rattle.xc_data.proofs.Laws.{picked_set, ones}
 use Rattle.std.proofs.Common.{append-nil}
 use Rattle.xc_data.specs.declared.call.LateCall.TheVariants.{Thread}
@@ -50,8 +50,8 @@ use Rattle.xc_model.specs.LateCalls.{started_late}
 use Rattle.xc_model.specs.CommittingRows.{Starts}
 use Rattle.xc_model.specs.Entering.{started_jobs}
 use Rattle.xc_model.specs.Movers.{mover}
-use Rattle.xc_model.specs.Moment.{joined}
-use Rattle.xc_refines.proofs.TurnParts.{world_in, Flying, Follows, begins_next, flying_from, flying_of, rests, told_at, waits, airfield}
+use Rattle.xc_model.specs.Moment.{jobs_joined}
+use Rattle.xc_refines.proofs.TurnParts.{world_in, Flying, FollowsStory, begins_next, flying_from, flying_of, flies_idle, follows_at, flies_waiting, airfield}
 use Rattle.xc_refines.proofs.TurnWants.{wants_so}
 
 -- ---- a station after a turn
@@ -86,13 +86,13 @@ row_kept s old new at job job' there same journal put f =
     (ap (progress_of s.script) journal) refl refl refl put (omega (arith, count, many, entries, same)) f
 
 -- a job after its abort
-pub record IsBack (job job' : JobView) : Type 0 where
+pub record IsAfterAbort (job job' : JobView) : Type 0 where
   pub none : active_of job' ≡ None
   pub block : job'.block ≡ job.block
   pub me : job'.me ≡ job.me
 
 -- whatever the cause
-abort_left : (job : JobView) (tx : TxView) (c : Cause) → IsBack job (behind_abort job tx c)
+abort_left : (job : JobView) (tx : TxView) (c : Cause) → IsAfterAbort job (behind_abort job tx c)
 abort_left job tx cause.Asked = record { none = refl; block = refl; me = refl }
 abort_left job tx cause.NoMemory = record { none = refl; block = refl; me = refl }
 abort_left job tx (cause.Conflict object holder when) = record { none = refl; block = refl; me = refl }
@@ -108,8 +108,8 @@ module _ (s : Setting) (old : Moment) (at : ℕ) (job : JobView) (there : slice_
   f : Flying s before (airfield old.words old.contents old.started old.jobs (begun_count old + 1))
   f = flying_of s old flying
 
-  follows : Follows s old at job
-  follows = told_at s (length old.words) old at job told there
+  follows : FollowsStory s old at job
+  follows = follows_at s (length old.words) old at job told there
 
   -- ---- an idle job
   pub row_begins : active_of job ≡ None → AreInFlight s (beginning_at old at job)
@@ -126,7 +126,7 @@ module _ (s : Setting) (old : Moment) (at : ℕ) (job : JobView) (there : slice_
   row_ends d none none' =
       let job' : JobView = record job { doing = d } in
       row_kept s old (with_job old at job') at job job' there (ap ones none' ∙ ap ones (sym none)) refl refl
-      (rests s before old.words old.contents old.started old.jobs (begun_count old + 1) at job job' there none none' refl refl f)
+      (flies_idle s before old.words old.contents old.started old.jobs (begun_count old + 1) at job job' there none none' refl refl f)
 
   -- a job is told to wait
   pub row_waits : (new : Moment) (job' : JobView) → job'.doing ≡ job.doing → job'.me ≡ job.me → job'.block ≡ job.block
@@ -134,7 +134,7 @@ module _ (s : Setting) (old : Moment) (at : ℕ) (job : JobView) (there : slice_
   row_waits new job' doing me block is =
       subst (AreInFlight s) (sym is) (row_kept s old (record old { jobs = slice_set old.jobs at job'; marks = new.marks }) at job job' there
       (ap (λ d. ones (active_in d)) doing) refl refl
-      (waits s before old.words old.contents old.started old.jobs (begun_count old + 1) at job job' there doing me block f))
+      (flies_waiting s before old.words old.contents old.started old.jobs (begun_count old + 1) at job job' there doing me block f))
 
   -- ---- an active transaction
   module _ (tx : TxView) (doing : job.doing ≡ Active tx) where
@@ -170,12 +170,13 @@ module _ (s : Setting) (old : Moment) (at : ℕ) (job : JobView) (there : slice_
     row_calls new c ahead tells runs row =
         let w = before.state.world in
         let at_words = record w { words = old.words; started = old.started } in
-        let go : Stepping (record { old = seen at_words old.contents tx.writes; new = seen at_words new.contents row.parts.stores }) tx c row.reply row.parts
+        let go : Stepping (record
+        { old = contents_seen at_words old.contents tx.writes; new = contents_seen at_words new.contents row.parts.stores }) tx c row.reply row.parts
         = record {
           does = row.does tells at_words refl;
           ended = ap (λ (u : Records). u.ended) row.undo;
         } in
-        let count = asks-count (block_from s.script follows.following.job) tx.calls tx.replies underway.asked in
+        let count = asked-count (block_from s.script follows.following.job) tx.calls tx.replies underway.asked in
         let done = calls_keep s before old.words old.contents new.contents old.started old.jobs (begun_count old + 1) at job row.place tx c row.reply
         row.parts ahead there doing
         runs go f row.free row.stores count in
@@ -281,7 +282,7 @@ module _ (s : Setting) (old : Moment) (at : ℕ) (job : JobView) (there : slice_
         let done = host_late before.state.world old.words old.contents new.contents old.started call row.end (row.does tells) in
         kept new job.place tx' (ap (λ (n : Moment). n.journal) row.behind) (ap (λ (n : Moment). n.jobs) row.behind)
         (as_new new (slice_set old.jobs at (with_tx job job.place tx')) (ap (λ (n : Moment). n.words) row.behind) (ap (λ (n : Moment). n.started) row.behind)
-        (late_keeps s before old.words old.contents new.contents old.started old.started old.jobs (begun_count old + 1) at job job.place tx there
+        (late_lands s before old.words old.contents new.contents old.started old.started old.jobs (begun_count old + 1) at job job.place tx there
         doing commits f
         call row.end done.0 done.1 calls left (committing commits).few_ends))
 
@@ -294,7 +295,7 @@ module _ (s : Setting) (old : Moment) (at : ℕ) (job : JobView) (there : slice_
         let next = begun_count old + 1 in
         let now = world_in before.state.world old.words old.contents old.started in
         let done = starts_there s.script now block f.blocks row.end new.started row.starts in
-        let flown = late_keeps s before old.words old.contents old.contents old.started new.started old.jobs next at job job.place tx there doing commits f
+        let flown = late_lands s before old.words old.contents old.contents old.started new.started old.jobs next at job job.place tx there doing commits f
         (Thread block) row.end done.fits done.step calls left (committing commits).few_ends in
         kept new job.place tx' (ap (λ (n : Moment). n.journal) row.behind) (ap (λ (n : Moment). n.jobs) row.behind)
         (subst (λ ws. Flying s before (airfield ws new.contents new.started jobs next)) (sym (ap (λ (n : Moment). n.words) row.behind))
@@ -304,20 +305,20 @@ module _ (s : Setting) (old : Moment) (at : ℕ) (job : JobView) (there : slice_
     entered_so : (job' : JobView) (e : Entry) (contents : Contents) (kept : List KeptItem) (more : List JobView) → active_of job' ≡ None
         → actives (slice_set old.jobs at job' ++ more) ≡ actives (slice_set old.jobs at job')
         → Flying s (after_entry s.script before e) (airfield old.words contents old.started (slice_set old.jobs at job' ++ more) (begun_count old + 1))
-        → AreInFlight s (joined (record (entering old at job' e) { contents = contents; kept = kept }) more)
+        → AreInFlight s (jobs_joined (record (entering old at job' e) { contents = contents; kept = kept }) more)
     entered_so job' e contents kept more none same flown =
-        let new : Moment = joined (record (entering old at job' e) { contents = contents; kept = kept }) more in
+        let new : Moment = jobs_joined (record (entering old at job' e) { contents = contents; kept = kept }) more in
         let count = count_put old.jobs at job job' there in
         let none_now : ones (active_of job') ≡ 0 = ap ones none in
         let was = one in
         let active : length (actives new.jobs) ≡ length (actives (slice_set old.jobs at job')) = ap length same in
         let longer = length-append old.journal (e ∷ []) in
-        flies_so s new (after_entry s.script before e) old.words contents old.started new.jobs (begun_count old + 1) (progress-more s.script old.journal e)
+        flies_so s new (after_entry s.script before e) old.words contents old.started new.jobs (begun_count old + 1) (led-more s.script old.journal e)
         refl refl refl refl (omega (arith, count, none_now, was, longer, active)) flown
 
     -- of a commit, after its last late call
     pub row_commit_enters : tx.phase ≡ Committing → late_left tx ≡ []
-        → AreInFlight s (joined (entering old at (behind_commit job tx) (entry_of tx at (Committed tx.ends))) (started_jobs s.script job tx))
+        → AreInFlight s (jobs_joined (entering old at (behind_commit job tx) (entry_of tx at (Committed tx.ends))) (started_jobs s.script job tx))
     row_commit_enters commits none =
         let fresh = follows.told.fresh in
         let next = begun_count old + 1 in
@@ -331,8 +332,8 @@ module _ (s : Setting) (old : Moment) (at : ℕ) (job : JobView) (there : slice_
         let me = (f.flies.flights at (flown job.me (f.unnoted at) tx) (flown_there f.unnoted old.jobs at job tx there doing)).inside.me in
         let many = told.count in
         entered_so job' e old.contents old.kept more refl (idle_actives job'.me.places (slice_set old.jobs at job') more (started_new s.script job' blocks))
-        (enters s before (after_entry s.script before e) old.words old.contents old.contents old.started old.jobs more next at job job' there refl f
-        (commit_leads s before old.words old.contents old.started old.jobs next at job tx there doing f (after_entry s.script before e) job' more commits done
+        (entry_lands s before (after_entry s.script before e) old.words old.contents old.contents old.started old.jobs more next at job job' there refl f
+        (commit_lands s before old.words old.contents old.started old.jobs next at job tx there doing f (after_entry s.script before e) job' more commits done
         (commit_world s.script before g old.jobs at job tx there follows.at_place fresh f.handles (f.unnoted at))
         (commit_handles s.script before g old.jobs at job tx there follows.at_place fresh f.handles job' underway.kept.0 me refl)
         (λ j ne low. commit_followings s.script before g old.jobs at job tx there follows.at_place fresh f.handles j ne (omega (arith, low, many))) refl refl
@@ -354,10 +355,10 @@ module _ (s : Setting) (old : Moment) (at : ℕ) (job : JobView) (there : slice_
         subst (AreInFlight s) (ap (kept_jobs there_now) nil
         ∙ sym (row.behind ∙ ap (λ contents. record (entering old at job' e) { contents = contents; kept = new.kept }) (row.returned tells)))
         (entered_so job' e (with_kept old.contents tx.taken) new.kept [] back.none (ap actives nil)
-        (enters s before (after_entry s.script before e) old.words old.contents (with_kept old.contents tx.taken) old.started old.jobs [] next at job job'
+        (entry_lands s before (after_entry s.script before e) old.words old.contents (with_kept old.contents tx.taken) old.started old.jobs [] next at job job'
         there back.none f
-        (abort_leads s before old.words old.contents old.started old.jobs next at job tx c there doing undoes none f (after_entry s.script before e) job'
+        (abort_lands s before old.words old.contents old.started old.jobs next at job tx c there doing undoes none f (after_entry s.script before e) job'
         (abort_world s.script before g old.jobs at job tx there follows.at_place fresh f.handles (f.unnoted at) c)
         (abort_handles s.script before g old.jobs at job tx there follows.at_place fresh f.handles c job' back.me)
         (abort_followings s.script before g old.jobs at job tx there follows.at_place fresh f.handles c) back.me back.block
-        (λ j other at_j. (told_at s (length old.words) old j other told at_j).told.fresh))))
+        (λ j other at_j. (follows_at s (length old.words) old j other told at_j).told.fresh))))

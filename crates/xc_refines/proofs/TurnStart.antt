@@ -7,10 +7,10 @@ use Rattle.xc_data.specs.declared.object.Num.{Num}
 use Rattle.xc_data.specs.declared.script.Opened.{Opened}
 use Rattle.xc_data.specs.declared.script.Opened.TheVariants as line
 use Rattle.xc_data.specs.declared.script.Outline.{Outline}
-use Rattle.xc_host.specs.Contents.{Contents, contents_of, world_of, nothing, opened}
+use Rattle.xc_host.specs.Contents.{Contents, contents_of, world_of, no_contents, opened}
 use Rattle.xc_text.specs.declared.script.Script.{Script}
 use Rattle.xc_world.specs.World.{World}
-use Rattle.xc_world.specs.Opening.{bare, opening, with_opened, with_all_opened, opening_handles, line_num}
+use Rattle.xc_world.specs.Opening.{bare_world, opening, with_opened, with_all_opened, opening_handles, line_num}
 use Rattle.xc_world.proofs.Laws.{opening_sound}
 use Rattle.xc_model.specs.Setting.{Setting}
 use Rattle.xc_model.specs.Progress.{opening_progress, progress_of}
@@ -38,26 +38,26 @@ all_alike w v k (o ∷ objects) same =
     (opened_alike w (line_num k) o ∙ ap (λ (c : Contents). contents_of (with_opened (world_of c) (line_num k) o)) same ∙ sym (opened_alike v (line_num k) o))
 
 opening_contents : (script : Outline) → contents_of (opening script) ≡ opened script.prologue.objects
-opening_contents script = all_alike (bare script) (world_of nothing) 0 script.prologue.objects refl
+opening_contents script = all_alike (bare_world script) (world_of no_contents) 0 script.prologue.objects refl
 
 -- no line changes a word or a job
-abbrev SameBase : World → World → Type 0
-SameBase w v = (v.words ≡ w.words) × (v.started ≡ w.started) × (v.blocks ≡ w.blocks)
+abbrev SameStart : World → World → Type 0
+SameStart w v = (v.words ≡ w.words) × (v.started ≡ w.started) × (v.blocks ≡ w.blocks)
 
-one_base : (w : World) (num : Num) (o : Opened) → SameBase w (with_opened w num o)
+one_base : (w : World) (num : Num) (o : Opened) → SameStart w (with_opened w num o)
 one_base w num (line.File name bytes) = (refl, refl, refl)
 one_base w num (line.Pipe bytes) = (refl, refl, refl)
 one_base w num line.Pair = (refl, refl, refl)
 
-all_base : (w : World) (k : ℕ) (objects : List Opened) → SameBase w (with_all_opened w k objects)
+all_base : (w : World) (k : ℕ) (objects : List Opened) → SameStart w (with_all_opened w k objects)
 all_base w k [] = (refl, refl, refl)
 all_base w k (o ∷ objects) =
     let one = one_base w (line_num k) o in
     let more = all_base (with_opened w (line_num k) o) (k + 1) objects in
     (more.0 ∙ one.0, more.1 ∙ one.1, more.2 ∙ one.2)
 
-opening_base : (script : Outline) → SameBase (bare script) (opening script)
-opening_base script = all_base (bare script) 0 script.prologue.objects
+opening_base : (script : Outline) → SameStart (bare_world script) (opening script)
+opening_base script = all_base (bare_world script) 0 script.prologue.objects
 
 -- the world that a script opens with, from its words and its contents
 opening_now : (script : Outline) → world_in (opening script) script.words (opened script.prologue.objects) script.jobs ≡ opening script

@@ -15,7 +15,7 @@ use Rattle.xc_model.specs.declared.phase.Phase.{Phase}
 use Rattle.xc_model.specs.declared.phase.Phase.TheVariants.{Running, Committing, Undoing, Backing}
 use Rattle.xc_model.specs.Setting.{Setting}
 use Rattle.xc_model.specs.Stories.{StoriesHold}
-use Rattle.xc_model.specs.Moment.{TxView, SavedView, JobView, Doing, Idle, Active, Starved, Ended, Moment, active_in, late_left, waiting}
+use Rattle.xc_model.specs.Moment.{TxView, SavedView, JobView, Doing, Idle, Active, Starved, Ended, Moment, active_in, late_left, asked_to_wait}
 use Rattle.xc_model.specs.Movers.{with_tx}
 use Rattle.xc_model.specs.Rows.{IsTurn, TurnOf, ActiveTurn}
 use Rattle.xc_model.specs.IdleRows.{IdleTurn}
@@ -44,7 +44,7 @@ module _ (s : Setting) (old : Moment) (at : ℕ) (job : JobView) (there : slice_
   idle_flies (turn.Ended end) doing row = subst (AreInFlight s) (sym row.1) (row_ends s old at job there told flying (Ended end) (ap active_in doing) refl)
   idle_flies turn.Went doing row = subst (AreInFlight s) (sym row.1) (row_begins s old at job there told flying (ap active_in doing))
   idle_flies (turn.Busy object number) doing row =
-      row_waits s old at job there told flying new (waiting job) refl refl refl (waits_only old new at (waiting job) old.marks row.1)
+      row_waits s old at job there told flying new (asked_to_wait job) refl refl refl (waits_only old new at (asked_to_wait job) old.marks row.1)
   idle_flies turn.NoMemory doing row = absurd row
 
   starved_flies : (answer : Turn) → job.doing ≡ Starved → StarvedTurn (mover s at old job) answer new → AreInFlight s new
@@ -73,8 +73,8 @@ module _ (s : Setting) (old : Moment) (at : ℕ) (job : JobView) (there : slice_
     running_flies turn.Went runs row = asked_flies _ runs row
     running_flies turn.NoMemory runs row = row_wants s old at job there told flying tx doing new tells runs row
     running_flies (turn.Busy object holder) runs row =
-        row_waits s old at job there told flying new (waiting (with_tx job row.place tx)) (sym doing) refl refl
-        (waits_only old new at (waiting (with_tx job row.place tx)) _ row.behind)
+        row_waits s old at job there told flying new (asked_to_wait (with_tx job row.place tx)) (sym doing) refl refl
+        (waits_only old new at (asked_to_wait (with_tx job row.place tx)) _ row.behind)
     running_flies (turn.Ended end) runs row = absurd row
 
     marked_flies : (m : Option Mark) (answer : Turn) → tx.phase ≡ Running → MarkedTurn (mover s at old job) tx m answer new → AreInFlight s new

@@ -24,22 +24,22 @@ use Rattle.xc_model.specs.Played.{HoldsFor}
 use Rattle.xc_model.specs.Stories.{asked_of_tx}
 use Rattle.xc_model.specs.EntryEnds.{IsPartOf, next_claims}
 use Rattle.xc_model.specs.Moment.{TxView, JobView, Active, Moment, active_in}
-use Rattle.xc_model.specs.PlainSteps.{LeavesAsPlain, IsLeft, claims_at, tx_parts, seen, wanting}
+use Rattle.xc_model.specs.PlainSteps.{LeavesAsPlain, IsLeft, claims_at, tx_parts, contents_seen, wanting}
 use Rattle.xc_model.specs.Rivals.{HasNoRival}
 use Rattle.xc_model.specs.RunningRows.{HoldsWanting}
 use Rattle.xc_model.specs.Movers.{asked_at, with_tx, mover}
 use Rattle.xc_flight.specs.Active.{Tx, HoldTheSame}
 use Rattle.xc_flight.specs.Active as flight
 use Rattle.xc_flight.specs.State.{FlightState, InFlight, IsActive, turned}
-use Rattle.xc_flight.specs.Turns.{MayDo, after_call, claiming, did, in_phase, wanting as wanting_in_flight}
-use Rattle.xc_flight.proofs.Laws.{is_running, back_held, claimed, covers_through, merged_held, call_granted, two_turns, turns_back, wants}
+use Rattle.xc_flight.specs.Turns.{MayDo, after_call, claiming, did, in_phase, wanting_memory as wanting_in_flight}
+use Rattle.xc_flight.proofs.Laws.{is_running, back_held, claims_keep, covers_through, merged_held, call_granted, two_turns, turns_back, wants}
 use Rattle.xc_refines.specs.InFlight.{IsUnnoted, flown, flown_phase, ran_at}
 use Rattle.xc_refines.proofs.BuiltCalls.{untaken, unrecorded}
 use Rattle.xc_refines.proofs.FlownLists.{flown_there, none_unnoted}
 use Rattle.xc_refines.proofs.TurnBack.{back_keeps}
 use Rattle.xc_refines.proofs.TurnCalls.{holding-more}
 use Rattle.xc_data.proofs.Laws.{put_at}
-use Rattle.xc_refines.proofs.TurnParts.{Flying, world_in, flight_in, asked_same, goes_on, airfield}
+use Rattle.xc_refines.proofs.TurnParts.{Flying, world_in, flight_in, asked_same, flies_on, airfield}
 use Rattle.xc_refines.proofs.TurnRivals.{no_rivals}
 
 part_itself : {A : Type 0} (xs : List A) → IsPartOf xs xs
@@ -105,7 +105,7 @@ module _ (s : Setting) (p : Progress) (words : List ℕ) (contents : Contents) (
     claims_first =
         let granted = call_granted flight_now at tx_flown c (length words) f.flies active running (f.sound at tx_flown active)
         (no_rivals p.state.world flight_now.now f.unnoted jobs next at claims alone) in
-        claimed flight_now at tx_flown claims all_held f.flies active granted same running
+        claims_keep flight_now at tx_flown claims all_held f.flies active granted same running
 
     claims_active : IsActive mid at claimant
     claims_active = put_at flight_now.active at tx_flown claimant active
@@ -137,7 +137,7 @@ module _ (s : Setting) (p : Progress) (words : List ℕ) (contents : Contents) (
           → IsUnnoted (Undoing cause.NoMemory) (asked_of_tx s (slice_get p.jobs at) wanter) us
           → Flying s p (airfield words contents' started (slice_set jobs at (with_tx job place wanter)) next)
       wanter_keeps us contents' flies was =
-          goes_on s p words words contents contents' started started jobs next at us job place tx wanter there doing refl f flies was wanter_holds
+          flies_on s p words words contents contents' started started jobs next at us job place tx wanter there doing refl f flies was wanter_holds
 
     -- it leaves nothing, after its claims
     pub wants_claims_keeps : Flying s p (airfield words contents started (slice_set jobs at (with_tx job place (wanting tx [] all_held))) next)
@@ -152,8 +152,8 @@ module _ (s : Setting) (p : Progress) (words : List ℕ) (contents : Contents) (
     -- the call did its part, with this answer, and these records are left
     module _ (left : List Undo) (answer : Answer) (contents' : Contents)
         (does : LeavesAsPlain (record {
-          old = seen (record p.state.world { words = words; started = started }) contents tx.writes;
-          new = seen (record p.state.world { words = words; started = started }) contents' tx.writes;
+          old = contents_seen (record p.state.world { words = words; started = started }) contents tx.writes;
+          new = contents_seen (record p.state.world { words = words; started = started }) contents' tx.writes;
         }) (tx_parts tx) (asked_by c answer) left) where
       abbrev asked_last : CallWithAnswer
       asked_last = asked_by c answer
@@ -202,7 +202,7 @@ module _ (s : Setting) (p : Progress) (old new : Moment) (next at : ℕ) (job : 
       let w = record p.state.world { words = old.words; started = old.started } in
       let d = does w refl in
       ap contents_of d.world
-      ∙ unrecorded (seen w old.contents tx.writes) tx.me tx.number c answer d.untaken (sym d.records)
+      ∙ unrecorded (contents_seen w old.contents tx.writes) tx.me tx.number c answer d.untaken (sym d.records)
   same_there ask.Commit asked (inr part) = absurd part
   same_there ask.Abort asked (inr part) = absurd part
   same_there ask.End asked (inr part) = absurd part

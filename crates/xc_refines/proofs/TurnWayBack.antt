@@ -32,13 +32,13 @@ use Rattle.xc_flight.specs.Active as flight
 use Rattle.xc_flight.specs.Flight.{Flight}
 use Rattle.xc_flight.specs.State.{FlightState, InFlight, IsActive, turned}
 use Rattle.xc_flight.specs.Turns.{went_back}
-use Rattle.xc_flight.proofs.Laws.{newest_undone, way_back, backs, body_gone, goes_on as flight_goes_on}
+use Rattle.xc_flight.proofs.Laws.{newest_undone, way_back, backs, body_gone, flight_goes_on as flight_goes_on}
 use Rattle.xc_refines.specs.InFlight.{IsUnnoted, flown, flown_saved, flown_phase, ran_at}
 use Rattle.xc_refines.proofs.FlownLists.{flown_there, none_unnoted}
 use Rattle.xc_refines.proofs.TurnAborts.{given_in}
 use Rattle.xc_refines.proofs.TurnBack.{holds_at, records_so, undone_in}
 use Rattle.xc_refines.proofs.TurnCalls.{flown_copy}
-use Rattle.xc_refines.proofs.TurnParts.{Flying, world_in, flight_in, goes_on, airfield}
+use Rattle.xc_refines.proofs.TurnParts.{Flying, world_in, flight_in, flies_on, airfield}
 
 -- all of a block that goes back is noted
 backing_noted : (next : Ask) (us : List CallWithAnswer) → IsUnnoted Backing next us → us ≡ []
@@ -93,7 +93,7 @@ module _ (s : Setting) (p : Progress) (words : List ℕ) (contents : Contents) (
       let t' = flown job.me (f.unnoted at) tx' in
       let same : tx_flown ≡ t' = λ i. record tx_flown { phase = (flown_back ∙ sym undoes) i } in
       let a = asked_of_tx s (slice_get p.jobs at) tx' in
-      goes_on s p words words contents contents started started jobs next at (f.unnoted at) job place tx tx' there doing refl f
+      flies_on s p words words contents contents started started jobs next at (f.unnoted at) job place tx tx' there doing refl f
       (flight_goes_on flight_now at tx_flown t' flight_now.now f.flies active refl refl (keeps_itself (Own tx_flown) flight_now.now)
       (subst (Flight flight_now.state flight_now.now) same (f.flies.flights at tx_flown active)))
       (none_unnoted ph a (f.unnoted at) noted) (holds_at ran a ph tx.held held)
@@ -116,7 +116,7 @@ module _ (s : Setting) (p : Progress) (words : List ℕ) (contents : Contents) (
       let leads : undone_to flight_now.now u end ≡ world_in w words contents' started =
       undone_in flight_now.now u end ∙ ap (λ cs. world_in w words cs started) (sym effect) in
       let a = asked_of_tx s (slice_get p.jobs at) tx' in
-      goes_on s p words words contents contents' started started jobs next at (f.unnoted at) job place tx tx' there doing refl f
+      flies_on s p words words contents contents' started started jobs next at (f.unnoted at) job place tx tx' there doing refl f
       (subst (λ v. InFlight (turned flight_now at (Some (flown job.me (f.unnoted at) tx')) v)) leads
       (subst (λ ph. InFlight (turned flight_now at (Some (record (flown job.me (f.unnoted at) tx') { phase = ph })) (undone_to flight_now.now u end)))
       (flown_back ∙ sym (after_flown number end)) done))
@@ -141,7 +141,7 @@ module _ (s : Setting) (p : Progress) (words : List ℕ) (contents : Contents) (
       given_in w words contents started items ∙ ap (λ cs. world_in w words cs started) (sym returned) in
       let touched : (ran_at w job.me tx').touched ≡ ran.touched =
       body_gone flight_now at tx_flown (flown_copy kept) items faults f.flies active flown_back sound way in
-      goes_on s p words words contents contents' started started jobs next at us job place tx tx' there doing refl f
+      flies_on s p words words contents contents' started started jobs next at us job place tx tx' there doing refl f
       (subst (λ v. InFlight (turned flight_now at (Some (flown job.me us tx')) v)) leads
       (subst (λ t. InFlight (turned flight_now at (Some t) (given_back flight_now.now items))) becomes done))
       (none_unnoted Running (asked_of_tx s (slice_get p.jobs at) tx') us noted)

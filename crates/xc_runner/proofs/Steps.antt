@@ -11,7 +11,7 @@ use Rattle.xc_turnstile.specs.Known.{Known}
 use Rattle.xc_turnstile.specs.Meanings.{Meaning}
 use Rattle.xc_turnstile.specs.Views.{left_view, numbered}
 use Rattle.xc_turnstile.specs.declared.view.View.{View}
-use Rattle.xc_turnstile.proofs.Laws.{gains, goes_further, outside_further}
+use Rattle.xc_turnstile.proofs.Laws.{gains, pass_goes_further, outside_further}
 use Rattle.xc_runner.specs.Tries.{GainsOnce, IsHeldOff}
 
 -- ---- one event
@@ -74,7 +74,7 @@ waits_further a b c word p h = outside_further a b c p (held_outside b c word h)
 pub behind : (a b c : Known) (events : List Event) (entries : List (ℕ × Entry)) → IsOutside a b → Gains b c events entries → Gains a c events entries
 behind a b c events entries p q =
     record {
-      goes = goes_further a b c (outside_goes a b p) q.goes;
+      goes = pass_goes_further a b c (outside_goes a b p) q.goes;
       gained = q.gained ∙ ap (λ (v : View). v.events ++ events) p.view;
       mine = q.mine ∙ ap (λ (v : View). v.mine ++ entries) p.view;
       stand = q.stand;

@@ -13,8 +13,8 @@ use Rattle.xc_script.specs.Asking.{ask_of, asks}
 use Rattle.xc_script.specs.Answers.{bound, target_of, refuses, answered, behind_ask}
 use Rattle.xc_script.specs.Ask.{next_body}
 use Rattle.xc_script.specs.Blocks.{behind_keep, back_to}
-use Rattle.xc_script.specs.Position.{Position, job_of, left_at, walk_of, IsPastSilent, IsAskedCall, is_call}
-use Rattle.xc_script.proofs.Settling.{remains_from}
+use Rattle.xc_script.specs.Position.{Position, job_of, statements_left, walk_of, IsPastSilent, IsAskedCall, is_call_asked}
+use Rattle.xc_script.proofs.Settling.{statements_remain}
 
 -- silent statements store nothing
 pub stored_stays : (variables : Variables) (stored : ℕ) (refused : Bool) (left : List Statement)
@@ -37,13 +37,13 @@ pub back_at : (script : Script) (old new : Position) (body : List Statement) (va
 back_at script old new body values was now settled saved holds stored refused behind =
     let walk : Walk = walk_of script old in
     let values_is : new.variables ≡ with_values walk.variables values = holds ∙ ap (λ v. with_values v values) settled.variables in
-    let stored_is : new.stored ≡ walk.stored = stored ∙ sym (stored_stays old.variables old.stored old.refused (left_at script old)) in
-    let left_old : left_at script old ≡ drop old.at body = ap (λ (o : Option (List Statement)). drop old.at (unwrap_or o [])) was in
-    let left_new : left_at script new ≡ drop new.at body = ap (λ (o : Option (List Statement)). drop new.at (unwrap_or o [])) now in
-    let left_is : left_at script new ≡ behind_keep walk.left = left_new ∙ behind ∙ ap behind_keep (sym left_old ∙ settled.left) in
-    ap (λ v. past_silent v new.stored new.refused (left_at script new)) values_is
-    ∙ ap (λ s. past_silent (with_values walk.variables values) s new.refused (left_at script new)) stored_is
-    ∙ ap (λ r. past_silent (with_values walk.variables values) walk.stored r (left_at script new)) refused
+    let stored_is : new.stored ≡ walk.stored = stored ∙ sym (stored_stays old.variables old.stored old.refused (statements_left script old)) in
+    let left_old : statements_left script old ≡ drop old.at body = ap (λ (o : Option (List Statement)). drop old.at (unwrap_or o [])) was in
+    let left_new : statements_left script new ≡ drop new.at body = ap (λ (o : Option (List Statement)). drop new.at (unwrap_or o [])) now in
+    let left_is : statements_left script new ≡ behind_keep walk.left = left_new ∙ behind ∙ ap behind_keep (sym left_old ∙ settled.left) in
+    ap (λ v. past_silent v new.stored new.refused (statements_left script new)) values_is
+    ∙ ap (λ s. past_silent (with_values walk.variables values) s new.refused (statements_left script new)) stored_is
+    ∙ ap (λ r. past_silent (with_values walk.variables values) walk.stored r (statements_left script new)) refused
     ∙ ap (λ l. past_silent (with_values walk.variables values) walk.stored false l) left_is
     ∙ ap (back_to walk) (sym saved)
 
@@ -54,7 +54,7 @@ drop_there (y ∷ xs) zero x lt is = ap (λ z. z ∷ xs) (sym is)
 drop_there (y ∷ xs) (suc at) x lt is = drop_there xs at x (omega (arith, lt)) is
 
 -- a call that is asked is answered by its statement
-behind_call : (walk : Walk) (s : Statement) (rest : List Statement) (a : Ask) (reply : Reply) → IsTrue (is_call a)
+behind_call : (walk : Walk) (s : Statement) (rest : List Statement) (a : Ask) (reply : Reply) → IsTrue (is_call_asked a)
     → past_silent (bound walk.variables (target_of s) reply) (stored_after walk.stored (carried_by a) reply) (refuses reply) rest ≡ behind_ask walk
     (s ∷ rest) a reply
 behind_call walk s rest (ask.Call call) reply calls = refl
@@ -72,7 +72,7 @@ here variables stored refused s rest true e loud = absurd (let no : false ≡ tr
 
 -- a transaction is answered where it is
 pub answered_here : (variables : Variables) (stored : ℕ) (refused : Bool) (s : Statement) (rest : List Statement) (reply : Reply)
-    → none_silent_first variables refused (s ∷ rest) ≡ true → IsTrue (is_call (ask_of variables stored s))
+    → none_silent_first variables refused (s ∷ rest) ≡ true → IsTrue (is_call_asked (ask_of variables stored s))
     → past_silent (bound variables (target_of s) reply) (stored_after stored (carried_by (ask_of variables stored s)) reply) (refuses reply) rest
     ≡ answered (past_silent variables stored refused (s ∷ rest)) reply
 answered_here variables stored refused s rest reply loud calls =
@@ -89,22 +89,22 @@ pub answer_at : (script : Script) (old new : Position) (body : List Statement) (
     → walk_of script new ≡ answered (walk_of script old) reply
 answer_at script old new body s reply was now settled asked within there at holds stored refused =
     let rest : List Statement = drop (suc old.at) body in
-    let left_old : left_at script old ≡ s ∷ rest
+    let left_old : statements_left script old ≡ s ∷ rest
     = ap (λ (o : Option (List Statement)). drop old.at (unwrap_or o [])) was ∙ drop_there body old.at s within there in
-    let left_new : left_at script new ≡ rest
+    let left_new : statements_left script new ≡ rest
     = ap (λ (o : Option (List Statement)). drop new.at (unwrap_or o [])) now ∙ ap (λ n. drop n body) at in
     let loud : none_silent_first old.variables old.refused (s ∷ rest) ≡ true
     = subst (λ l. none_silent_first old.variables old.refused l ≡ true) left_old
-    (remains_from old.variables old.stored old.refused (left_at script old) settled.left) in
+    (statements_remain old.variables old.stored old.refused (statements_left script old) settled.left) in
     let walk_is : walk_of script old ≡ past_silent old.variables old.stored old.refused (s ∷ rest)
     = ap (λ l. past_silent old.variables old.stored old.refused l) left_old in
-    let calls : IsTrue (is_call (ask_of old.variables old.stored s))
-    = subst (λ w. IsTrue (is_call (asks w))) (walk_is
+    let calls : IsTrue (is_call_asked (ask_of old.variables old.stored s))
+    = subst (λ w. IsTrue (is_call_asked (asks w))) (walk_is
     ∙ here old.variables old.stored old.refused s rest (is_silent old.variables old.refused s) refl loud) asked in
-    ap (λ v. past_silent v new.stored new.refused (left_at script new)) holds
-    ∙ ap (λ n. past_silent (bound old.variables (target_of s) reply) n new.refused (left_at script new)) stored
+    ap (λ v. past_silent v new.stored new.refused (statements_left script new)) holds
+    ∙ ap (λ n. past_silent (bound old.variables (target_of s) reply) n new.refused (statements_left script new)) stored
     ∙ ap (λ r. past_silent (bound old.variables (target_of s) reply) (stored_after old.stored (carried_by (ask_of old.variables old.stored s)) reply) r
-    (left_at script new)) refused
+    (statements_left script new)) refused
     ∙ ap (λ l. past_silent (bound old.variables (target_of s) reply) (stored_after old.stored (carried_by (ask_of old.variables old.stored s)) reply)
     (refuses reply) l) left_new
     ∙ answered_here old.variables old.stored old.refused s rest reply loud calls

@@ -21,7 +21,7 @@ use Rattle.xc_script.specs.Walks.{Walk, is_silent, set_by, past_silent}
 use Rattle.xc_script.specs.Asking.{asks}
 use Rattle.xc_script.specs.Answers.{answered, behind_ask}
 use Rattle.xc_script.specs.Ask.{Job, transactions_of, next_body}
-use Rattle.xc_script.specs.Blocks.{BlockWalk, IsInner, behind_keep, after_call, after_ask, fits_block, ask_fits, replied, all_replied, block_from}
+use Rattle.xc_script.specs.Blocks.{BlockWalk, IsInner, behind_keep, block_after_call, after_ask, fits_block, ask_fits, replied, all_replied, block_from}
 
 false_true : {A : Type 0} → false ≡ true → A
 false_true e = absurd (let no : false ≡ true = e in cc)
@@ -94,7 +94,7 @@ answered_inner within walk s rest ask.End reply behind is = is
 
 -- a call with bytes, or the transaction's own abort
 over_inner : (b : BlockWalk) (over : Bool) (c : Call) (reply : Reply)
-    → after_call b c reply ≡ record { walk = answered b.walk reply; saved = b.saved }
+    → block_after_call b c reply ≡ record { walk = answered b.walk reply; saved = b.saved }
     → are_inner (is_some b.saved) (answered b.walk reply).left ≡ true → IsInner b → IsInner (after_ask b (if over then ask.Abort else ask.Call c) reply)
 over_inner b true c reply same behind is = is
 over_inner b false c reply same behind is = subst IsInner (sym same) behind
@@ -102,7 +102,7 @@ over_inner b false c reply same behind is = subst IsInner (sym same) behind
 -- after a back
 gone_inner : (variables : Variables) (stored : ℕ) (refused : Bool) (saved : Option Values) (s : Statement) (rest : List Statement)
     → behind_keep (s ∷ rest) ≡ behind_keep rest → (is_some saved && are_inner (is_some saved) rest) ≡ true → (reply : Reply)
-    → IsInner (after_call
+    → IsInner (block_after_call
     (record { walk = record { variables = variables; stored = stored; refused = refused; left = s ∷ rest }; saved = saved }) call.Back reply)
 gone_inner variables stored refused None s rest skips is reply = false_true is
 gone_inner variables stored refused (Some values) s rest skips is reply =

@@ -26,7 +26,7 @@ silent_or variables stored refused s rest true e same =
     (same ∙ ap (λ silent. (if silent then behind else record { variables = variables; stored = stored; refused = refused; left = s ∷ rest }).left) e))
 
 -- statements that stay as they are begin with none that is silent
-pub remains_from : (variables : Variables) (stored : ℕ) (refused : Bool) (left : List Statement) →
+pub statements_remain : (variables : Variables) (stored : ℕ) (refused : Bool) (left : List Statement) →
     left ≡ (past_silent variables stored refused left).left → none_silent_first variables refused left ≡ true
-remains_from variables stored refused [] same = refl
-remains_from variables stored refused (s ∷ rest) same = silent_or variables stored refused s rest (is_silent variables refused s) refl same
+statements_remain variables stored refused [] same = refl
+statements_remain variables stored refused (s ∷ rest) same = silent_or variables stored refused s rest (is_silent variables refused s) refl same

@@ -18,9 +18,9 @@ no_ends variables (c ∷ calls) [] none = refl
 no_ends variables (c ∷ calls) (end ∷ ends) none = absurd (omega (arith, none))
 
 -- where no call is left, none is kept
-pub no_calls : (dropped : Bool) (calls : List Call) (replies : List Reply) → length calls < 1 → kept_behind dropped calls replies ≡ []
-no_calls dropped [] replies none = refl
-no_calls dropped (c ∷ calls) replies none = absurd (omega (arith, none))
+pub no_calls_kept : (dropped : Bool) (calls : List Call) (replies : List Reply) → length calls < 1 → kept_behind dropped calls replies ≡ []
+no_calls_kept dropped [] replies none = refl
+no_calls_kept dropped (c ∷ calls) replies none = absurd (omega (arith, none))
 
 -- nor where no reply is left
 pub no_replies : (dropped : Bool) (calls : List Call) (replies : List Reply) → length replies < 1 → kept_behind dropped calls replies ≡ []

@@ -79,9 +79,9 @@ one_target (Some v) = target.One v
 one_target None = target.Nowhere
 
 -- two variables, where they are named
-abbrev pub two_targets : Option (ℕ × ℕ) → Target
-two_targets (Some (v, w)) = target.Two v w
-two_targets None = target.Nowhere
+abbrev pub target_of_two : Option (ℕ × ℕ) → Target
+target_of_two (Some (v, w)) = target.Two v w
+target_of_two None = target.Nowhere
 
 -- the variables that take the reply to a call, where its line names some
 abbrev pub form_target : CallForm → Target
@@ -102,7 +102,7 @@ form_target (form.Pipe into) = one_target into
 form_target (form.ReadPipe h n into) = one_target into
 form_target (form.WritePipe h items slot) = target.Nowhere
 form_target (form.Shutdown h slot) = target.Nowhere
-form_target (form.Pair into) = two_targets into
+form_target (form.Pair into) = target_of_two into
 form_target (form.Receive h into) = one_target into
 form_target (form.Send h items slot) = target.Nowhere
 form_target (form.Start block slot) = target.Nowhere

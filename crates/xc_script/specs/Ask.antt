@@ -45,8 +45,8 @@ asks_from None walk = ask.End
 asks_from (Some body) walk = asks walk
 
 -- the job at the next transaction, with the variables that these replies leave
-abbrev pub passed : Script → Job → List Reply → Job
-passed script job replies =
+abbrev pub job_passed : Script → Job → List Reply → Job
+job_passed script job replies =
     record { block = job.block; next = job.next + 1; variables = (all_answered (walk_from script job) replies).variables }
 
 -- no variable holds anything, and each of the script's slots is unset

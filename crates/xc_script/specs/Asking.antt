@@ -11,7 +11,7 @@ use Rattle.xc_text.specs.declared.script.Statement.TheVariants as statement
 use Rattle.xc_text.specs.Stated.{CallForm, Statement}
 use Rattle.xc_script.specs.declared.ask.Ask.{Ask}
 use Rattle.xc_script.specs.declared.ask.Ask.TheVariants as ask
-use Rattle.xc_script.specs.Values.{Variables, handle_value, term_value, expression_value, data_of}
+use Rattle.xc_script.specs.Values.{Variables, handle_value, term_value, expression_value, joined_data}
 use Rattle.xc_script.specs.Walks.{is_over, Walk}
 
 -- ---- what is asked
@@ -33,9 +33,9 @@ form_ask variables stored (form.Create name into) = ask.Call (call.XCreate name)
 form_ask variables stored (form.Rename from to) = ask.Call (call.XRename from to)
 form_ask variables stored (form.Read h n into) = ask.Call (call.XRead (handle_value variables h) (term_value variables n))
 form_ask variables stored (form.Overwrite h items) =
-    unless_over stored (call.XWriteOvr (handle_value variables h) (data_of variables items))
+    unless_over stored (call.XWriteOvr (handle_value variables h) (joined_data variables items))
 form_ask variables stored (form.Append h items) =
-    unless_over stored (call.XWriteSeq (handle_value variables h) (data_of variables items))
+    unless_over stored (call.XWriteSeq (handle_value variables h) (joined_data variables items))
 form_ask variables stored (form.Seek h to) = ask.Call (call.XSeek (handle_value variables h) (term_value variables to))
 form_ask variables stored (form.Length h into) = ask.Call (call.XLen (handle_value variables h))
 form_ask variables stored (form.Close h) = ask.Call (call.XClose (handle_value variables h))
@@ -44,12 +44,12 @@ form_ask variables stored (form.Sync h slot) = ask.Call (call.XSync (handle_valu
 form_ask variables stored (form.Pipe into) = ask.Call call.XPipe
 form_ask variables stored (form.ReadPipe h n into) = ask.Call (call.XReadPipe (handle_value variables h) (term_value variables n))
 form_ask variables stored (form.WritePipe h items slot) =
-    unless_over stored (call.XWritePipe (handle_value variables h) (data_of variables items) (name_of_slot variables slot))
+    unless_over stored (call.XWritePipe (handle_value variables h) (joined_data variables items) (name_of_slot variables slot))
 form_ask variables stored (form.Shutdown h slot) = ask.Call (call.XShutdown (handle_value variables h) (name_of_slot variables slot))
 form_ask variables stored (form.Pair into) = ask.Call call.XPair
 form_ask variables stored (form.Receive h into) = ask.Call (call.XRecvmsg (handle_value variables h))
 form_ask variables stored (form.Send h items slot) =
-    unless_over stored (call.XSendmsg (handle_value variables h) (data_of variables items) (name_of_slot variables slot))
+    unless_over stored (call.XSendmsg (handle_value variables h) (joined_data variables items) (name_of_slot variables slot))
 form_ask variables stored (form.Start block slot) = ask.Call (call.XThreadCreate block (name_of_slot variables slot))
 form_ask variables stored form.Save = ask.Call call.Save
 form_ask variables stored form.Keep = ask.Call call.Keep

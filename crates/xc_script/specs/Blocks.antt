@@ -44,16 +44,16 @@ back_to walk None = walk
 back_to walk (Some values) = past_silent (record walk.variables { values = values }) walk.stored false (behind_keep walk.left)
 
 -- the block that a call opens or closes
-abbrev pub after_call : BlockWalk → Call → Reply → BlockWalk
-after_call b call.Save reply = record { walk = answered b.walk reply; saved = Some b.walk.variables.values }
-after_call b call.Keep reply = record { walk = answered b.walk reply; saved = None }
-after_call b call.Back reply = record { walk = back_to b.walk b.saved; saved = None }
+abbrev pub block_after_call : BlockWalk → Call → Reply → BlockWalk
+block_after_call b call.Save reply = record { walk = answered b.walk reply; saved = Some b.walk.variables.values }
+block_after_call b call.Keep reply = record { walk = answered b.walk reply; saved = None }
+block_after_call b call.Back reply = record { walk = back_to b.walk b.saved; saved = None }
 -- any other call is made in the block that is open, also one yet to come
-after_call b _ reply = record { walk = answered b.walk reply; saved = b.saved }
+block_after_call b _ reply = record { walk = answered b.walk reply; saved = b.saved }
 
 -- after what is asked: where that is no call, no reply comes, and it stays
 abbrev pub after_ask : BlockWalk → Ask → Reply → BlockWalk
-after_ask b (ask.Call call) reply = after_call b call reply
+after_ask b (ask.Call call) reply = block_after_call b call reply
 after_ask b ask.Commit reply = b
 after_ask b ask.Abort reply = b
 after_ask b ask.End reply = b

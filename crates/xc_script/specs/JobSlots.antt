@@ -47,13 +47,13 @@ end_number (end.NoMemory n) = 5
 end_number end.Shut = 6
 
 -- what an end counts as: 0 where there is none
-abbrev pub number_of : Option LateEnd → ℕ
-number_of None = 0
-number_of (Some e) = end_number e
+abbrev pub slot_end_number : Option LateEnd → ℕ
+slot_end_number None = 0
+slot_end_number (Some e) = end_number e
 
 -- what the slot at a place counts as
 abbrev pub slot_number : Slots → ℕ → ℕ
-slot_number slots at = number_of (slice_get slots.ends at)
+slot_number slots at = slot_end_number (slice_get slots.ends at)
 
 -- the name of the slot at a place
 abbrev pub slot_name : Slots → ℕ → Option (List ℕ)

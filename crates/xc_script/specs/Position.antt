@@ -84,17 +84,17 @@ abbrev pub job_of : Position → Job
 job_of place = record { block = place.block; next = place.next; variables = place.variables }
 
 -- the statements of its transaction from the place on
-abbrev pub left_at : Script → Position → List Statement
-left_at script place = drop place.at (unwrap_or (next_body script (job_of place)) [])
+abbrev pub statements_left : Script → Position → List Statement
+statements_left script place = drop place.at (unwrap_or (next_body script (job_of place)) [])
 
 -- the transaction on its way there
 abbrev pub walk_of : Script → Position → Walk
-walk_of script place = past_silent place.variables place.stored place.refused (left_at script place)
+walk_of script place = past_silent place.variables place.stored place.refused (statements_left script place)
 
 -- the place is where its walk is: no silent statement comes first
 pub record IsPastSilent (script : Script) (place : Position) : Type 0 where
   pub variables : place.variables ≡ (walk_of script place).variables
-  pub left : left_at script place ≡ (walk_of script place).left
+  pub left : statements_left script place ≡ (walk_of script place).left
 
 -- nothing is kept for an abort
 abbrev pub nothing_kept : Variables
@@ -120,15 +120,15 @@ at_begin job =
     }
 
 -- the transaction asks a call
-abbrev pub is_call : Ask → Bool
-is_call (ask.Call call) = true
-is_call ask.Commit = false
-is_call ask.Abort = false
-is_call ask.End = false
+abbrev pub is_call_asked : Ask → Bool
+is_call_asked (ask.Call call) = true
+is_call_asked ask.Commit = false
+is_call_asked ask.Abort = false
+is_call_asked ask.End = false
 
 -- a call is asked at this place
 abbrev pub IsAskedCall : Script → Position → Type 0
-IsAskedCall script place = IsTrue (is_call (asks (walk_of script place)))
+IsAskedCall script place = IsTrue (is_call_asked (asks (walk_of script place)))
 
 -- the variables that take the reply to what is asked, where some do
 abbrev pub first_target : List Statement → Target

@@ -29,12 +29,12 @@ kept_behind dropped (c ∷ calls) (reply ∷ replies) =
     if is_late reply && not dropped then c ∷ kept_behind dropped calls replies else kept_behind dropped calls replies
 
 -- a slot takes an end, where one is named
-abbrev pub with_end : Variables → Option (List ℕ) → LateEnd → Variables
-with_end variables None end = variables
-with_end variables (Some name) end = record variables { slots = with_slot variables.slots name end }
+abbrev pub with_slot_end : Variables → Option (List ℕ) → LateEnd → Variables
+with_slot_end variables None end = variables
+with_slot_end variables (Some name) end = record variables { slots = with_slot variables.slots name end }
 
 -- the slots of kept calls take their ends, one after another: of two with one slot the later end stands
 abbrev pub with_ends : Variables → List Call → List LateEnd → Variables
 with_ends variables [] ends = variables
 with_ends variables (c ∷ calls) [] = variables
-with_ends variables (c ∷ calls) (end ∷ ends) = with_ends (with_end variables (slot_of c) end) calls ends
+with_ends variables (c ∷ calls) (end ∷ ends) = with_ends (with_slot_end variables (slot_of c) end) calls ends

@@ -73,5 +73,5 @@ item_value variables (item.Bytes v) = bytes_value variables v
 item_value variables (item.Digits t) = decimal (term_value variables t)
 
 -- the items joined
-abbrev pub data_of : Variables → List Item → List ℕ
-data_of variables items = flat_map (item_value variables) items
+abbrev pub joined_data : Variables → List Item → List ℕ
+joined_data variables items = flat_map (item_value variables) items

@@ -1,20 +1,20 @@
 ghost use Rattle.std.specs.Prelude.{◌≡◌, ◌≤◌, ◌+◌, ◌<◌, ◌^◌, length, IfOk, OnOk, OnErr, IsOk, None};
 ghost use Rattle.xc_script.specs.Walks.{bytes_got, fails_check, stored_after};
-ghost use Rattle.xc_script.specs.Answers.{value_in, one_target, two_targets, target_of};
+ghost use Rattle.xc_script.specs.Answers.{value_in, one_target, target_of_two, target_of};
 ghost use Rattle.xc_text.specs.Kept.{said_by};
 ghost use Rattle.xc_script.specs.Answers.{handles_in, bound_both, bound, refuses};
 ghost use Rattle.xc_script.specs.declared.answer.Target.TheVariants.{Nowhere};
 
 use crate::value::{Value, Variables};
 use xc_data::{NoMemory, Reply};
-use xc_text::{Form, KeptStatement, Place};
+use xc_text::{Form, KeptStatement, NameIndex};
 
 /// The variables that take what a reply brings: none, one, or one for each side of a pair.
 #[derive(Clone, Copy)]
 pub enum Target {
     Nowhere,
-    One(Place),
-    Two(Place, Place),
+    One(NameIndex),
+    Two(NameIndex, NameIndex),
 }
 
 // What a reply leaves in one variable. Bytes are shared.
@@ -47,7 +47,7 @@ fn handles_in(reply: &Reply) -> Option<(u16, u16)>
     }
 }
 
-fn one_target(into: Option<Place>) -> Target
+fn one_target(into: Option<NameIndex>) -> Target
     ensures { result ≡ one_target into }
 {
     match into {
@@ -56,8 +56,8 @@ fn one_target(into: Option<Place>) -> Target
     }
 }
 
-fn two_targets(into: Option<(Place, Place)>) -> Target
-    ensures { result ≡ two_targets into }
+fn two_targets(into: Option<(NameIndex, NameIndex)>) -> Target
+    ensures { result ≡ target_of_two into }
 {
     match into {
         Some((first, second)) => Target::Two(first, second),
@@ -98,7 +98,7 @@ pub fn target_of(statement: &KeptStatement) -> Target
 
 // Two variables take the handles of a pair, the second one last, or lose their own. It takes no memory.
 // So a pair that was made is never put back for lack of memory.
-fn bind_both(variables: &mut Variables, first: Place, second: Place, reply: &Reply)
+fn bind_both(variables: &mut Variables, first: NameIndex, second: NameIndex, reply: &Reply)
     ensures { variables.new ≡ bound_both variables.old first second (handles_in reply.now) }
 {
     match handles_in(reply) {

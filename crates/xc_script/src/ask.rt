@@ -2,7 +2,7 @@ ghost use Rattle.std.specs.Prelude.{◌≡◌, ◌≤◌, length, IfOk, Some, No
 ghost use Rattle.xc_data.specs.declared.call.Call.TheVariants.{XSendmsg, XWriteOvr, XWritePipe, XWriteSeq};
 ghost use Rattle.xc_script.specs.Walks.{is_over};
 ghost use Rattle.xc_script.specs.Asking.{unless_over};
-ghost use Rattle.xc_script.specs.Values.{data_of, handle_value};
+ghost use Rattle.xc_script.specs.Values.{joined_data, handle_value};
 ghost use Rattle.xc_script.specs.Asking.{name_of_slot, ask_of};
 ghost use Rattle.xc_script.specs.Walks.{carried_by};
 ghost use Rattle.xc_text.specs.Kept.{said_by};
@@ -16,7 +16,7 @@ use crate::terms::handle_in;
 use crate::value::Variables;
 use std::alloc::Global;
 use xc_data::{Call, Chunk, MOST_STORED, NoMemory, SlotName};
-use xc_text::{Data, Expression, Form, KeptStatement, Place};
+use xc_text::{Data, Expression, Form, KeptStatement, NameIndex};
 
 /// What a job is asked to do next.
 #[derive(Drop)]
@@ -31,8 +31,8 @@ pub enum Ask {
 
 // The length of a write's data, where the transaction may store so many bytes more.
 // It is counted before the bytes are joined, in 128 bits, so no sum of lengths wraps.
-fn room_for(variables: &Variables, stored: u128, items: &Data<Place>) -> Option<usize>
-    ensures { let n = length (data_of variables.now items.now) in result ≡ (if is_over stored n then None else Some n) }
+fn room_for(variables: &Variables, stored: u128, items: &Data<NameIndex>) -> Option<usize>
+    ensures { let n = length (joined_data variables.now items.now) in result ≡ (if is_over stored n then None else Some n) }
 {
     let Some(len) = data_len(variables, items) else {
         return None;
@@ -48,9 +48,9 @@ fn data_within(
     alloc: Global,
     variables: &Variables,
     stored: u128,
-    items: &Data<Place>,
+    items: &Data<NameIndex>,
 ) -> Result<Option<Chunk>, NoMemory>
-    ensures { let bytes = data_of variables.now items.now in
+    ensures { let bytes = joined_data variables.now items.now in
         IfOk result (λ found. found ≡ (if is_over stored (length bytes) then None else Some bytes)) }
 {
     if room_for(variables, stored, items).is_none() {
@@ -64,11 +64,11 @@ fn overwrite(
     alloc: Global,
     variables: &Variables,
     stored: u128,
-    handle: Place,
-    items: &Data<Place>,
+    handle: NameIndex,
+    items: &Data<NameIndex>,
 ) -> Result<Ask, NoMemory>
     ensures { IfOk result (λ ask. ask
-        ≡ unless_over stored (XWriteOvr (handle_value variables.now handle) (data_of variables.now items.now))) }
+        ≡ unless_over stored (XWriteOvr (handle_value variables.now handle) (joined_data variables.now items.now))) }
 {
     let h = handle_in(variables, handle);
     match data_within(alloc, variables, stored, items)? {
@@ -82,11 +82,11 @@ fn append(
     alloc: Global,
     variables: &Variables,
     stored: u128,
-    handle: Place,
-    items: &Data<Place>,
+    handle: NameIndex,
+    items: &Data<NameIndex>,
 ) -> Result<Ask, NoMemory>
     ensures { IfOk result (λ ask. ask
-        ≡ unless_over stored (XWriteSeq (handle_value variables.now handle) (data_of variables.now items.now))) }
+        ≡ unless_over stored (XWriteSeq (handle_value variables.now handle) (joined_data variables.now items.now))) }
 {
     let h = handle_in(variables, handle);
     match data_within(alloc, variables, stored, items)? {
@@ -100,10 +100,10 @@ fn late_data(
     alloc: Global,
     variables: &Variables,
     stored: u128,
-    items: &Data<Place>,
-    slot: Option<Place>,
+    items: &Data<NameIndex>,
+    slot: Option<NameIndex>,
 ) -> Result<Option<(Chunk, SlotName)>, NoMemory>
-    ensures { let bytes = data_of variables.now items.now in
+    ensures { let bytes = joined_data variables.now items.now in
         IfOk result (λ found. found
         ≡ (if is_over stored (length bytes) then None else Some (bytes, name_of_slot variables.now slot))) }
 {
@@ -118,12 +118,12 @@ fn write_pipe(
     alloc: Global,
     variables: &Variables,
     stored: u128,
-    handle: Place,
-    items: &Data<Place>,
-    slot: Option<Place>,
+    handle: NameIndex,
+    items: &Data<NameIndex>,
+    slot: Option<NameIndex>,
 ) -> Result<Ask, NoMemory>
     ensures { IfOk result (λ ask. ask
-        ≡ unless_over stored (XWritePipe (handle_value variables.now handle) (data_of variables.now items.now)
+        ≡ unless_over stored (XWritePipe (handle_value variables.now handle) (joined_data variables.now items.now)
         (name_of_slot variables.now slot))) }
 {
     let h = handle_in(variables, handle);
@@ -138,12 +138,12 @@ fn send(
     alloc: Global,
     variables: &Variables,
     stored: u128,
-    handle: Place,
-    items: &Data<Place>,
-    slot: Option<Place>,
+    handle: NameIndex,
+    items: &Data<NameIndex>,
+    slot: Option<NameIndex>,
 ) -> Result<Ask, NoMemory>
     ensures { IfOk result (λ ask. ask
-        ≡ unless_over stored (XSendmsg (handle_value variables.now handle) (data_of variables.now items.now)
+        ≡ unless_over stored (XSendmsg (handle_value variables.now handle) (joined_data variables.now items.now)
         (name_of_slot variables.now slot))) }
 {
     let h = handle_in(variables, handle);
@@ -217,8 +217,8 @@ pub fn ask_of(
 }
 
 // How many bytes the data of a write has, where the transaction may store so many more.
-fn data_carried(variables: &Variables, stored: u128, items: &Data<Place>) -> usize
-    ensures value { let n = length (data_of variables.now items.now) in result ≡ (if is_over stored n then 0 else n) }
+fn data_carried(variables: &Variables, stored: u128, items: &Data<NameIndex>) -> usize
+    ensures value { let n = length (joined_data variables.now items.now) in result ≡ (if is_over stored n then 0 else n) }
     ensures bound { result ≤ 1024 }
 {
     match room_for(variables, stored, items) {

@@ -8,18 +8,18 @@ use crate::terms::{expression_of, handle_in, value_of};
 use crate::value::Variables;
 use std::alloc::Global;
 use xc_data::{Boxed, Call, Ident, NoMemory, SharedName};
-use xc_text::{Expression, Place, Term};
+use xc_text::{Expression, NameIndex, Term};
 
 // The calls that carry no bytes, each from the words of its line.
 
-pub fn load(variables: &Variables, at: Term<Place>) -> Call
+pub fn load(variables: &Variables, at: Term<NameIndex>) -> Call
     ensures { result ≡ Load (term_value variables.now at) }
 {
     let at = value_of(variables, at);
     Call::Load { at }
 }
 
-pub fn store(variables: &Variables, at: Term<Place>, value: Expression<Place>) -> Call
+pub fn store(variables: &Variables, at: Term<NameIndex>, value: Expression<NameIndex>) -> Call
     ensures { result ≡ Store (term_value variables.now at) (expression_value variables.now value) }
 {
     Call::Store {
@@ -49,7 +49,7 @@ pub fn rename(from: &SharedName, to: &SharedName) -> Call
     }
 }
 
-pub fn read(variables: &Variables, handle: Place, n: Term<Place>) -> Call
+pub fn read(variables: &Variables, handle: NameIndex, n: Term<NameIndex>) -> Call
     ensures { result ≡ XRead (handle_value variables.now handle) (term_value variables.now n) }
 {
     Call::XRead {
@@ -58,7 +58,7 @@ pub fn read(variables: &Variables, handle: Place, n: Term<Place>) -> Call
     }
 }
 
-pub fn read_pipe(variables: &Variables, handle: Place, n: Term<Place>) -> Call
+pub fn read_pipe(variables: &Variables, handle: NameIndex, n: Term<NameIndex>) -> Call
     ensures { result ≡ XReadPipe (handle_value variables.now handle) (term_value variables.now n) }
 {
     Call::XReadPipe {
@@ -67,7 +67,7 @@ pub fn read_pipe(variables: &Variables, handle: Place, n: Term<Place>) -> Call
     }
 }
 
-pub fn seek(variables: &Variables, handle: Place, to: Term<Place>) -> Call
+pub fn seek(variables: &Variables, handle: NameIndex, to: Term<NameIndex>) -> Call
     ensures { result ≡ XSeek (handle_value variables.now handle) (term_value variables.now to) }
 {
     Call::XSeek {
@@ -76,28 +76,28 @@ pub fn seek(variables: &Variables, handle: Place, to: Term<Place>) -> Call
     }
 }
 
-pub fn measure(variables: &Variables, handle: Place) -> Call
+pub fn measure(variables: &Variables, handle: NameIndex) -> Call
     ensures { result ≡ XLen (handle_value variables.now handle) }
 {
     let h = handle_in(variables, handle);
     Call::XLen { h }
 }
 
-pub fn receive(variables: &Variables, handle: Place) -> Call
+pub fn receive(variables: &Variables, handle: NameIndex) -> Call
     ensures { result ≡ XRecvmsg (handle_value variables.now handle) }
 {
     let h = handle_in(variables, handle);
     Call::XRecvmsg { h }
 }
 
-pub fn close(variables: &Variables, handle: Place) -> Call
+pub fn close(variables: &Variables, handle: NameIndex) -> Call
     ensures { result ≡ XClose (handle_value variables.now handle) }
 {
     let h = handle_in(variables, handle);
     Call::XClose { h }
 }
 
-pub fn unlink(variables: &Variables, name: &SharedName, slot: Option<Place>) -> Call
+pub fn unlink(variables: &Variables, name: &SharedName, slot: Option<NameIndex>) -> Call
     ensures { result ≡ XUnlink name.now (name_of_slot variables.now slot) }
 {
     Call::XUnlink {
@@ -106,7 +106,7 @@ pub fn unlink(variables: &Variables, name: &SharedName, slot: Option<Place>) -> 
     }
 }
 
-pub fn sync(variables: &Variables, handle: Place, slot: Option<Place>) -> Call
+pub fn sync(variables: &Variables, handle: NameIndex, slot: Option<NameIndex>) -> Call
     ensures { result ≡ XSync (handle_value variables.now handle) (name_of_slot variables.now slot) }
 {
     Call::XSync {
@@ -115,7 +115,7 @@ pub fn sync(variables: &Variables, handle: Place, slot: Option<Place>) -> Call
     }
 }
 
-pub fn shutdown(variables: &Variables, handle: Place, slot: Option<Place>) -> Call
+pub fn shutdown(variables: &Variables, handle: NameIndex, slot: Option<NameIndex>) -> Call
     ensures { result ≡ XShutdown (handle_value variables.now handle) (name_of_slot variables.now slot) }
 {
     Call::XShutdown {
@@ -128,7 +128,7 @@ pub fn start(
     alloc: Global,
     variables: &Variables,
     block: &Boxed<Ident>,
-    slot: Option<Place>,
+    slot: Option<NameIndex>,
 ) -> Result<Call, NoMemory>
     ensures { IfOk result (λ call. call ≡ XThreadCreate block.now (name_of_slot variables.now slot)) }
 {

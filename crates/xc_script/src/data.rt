@@ -1,12 +1,12 @@
 ghost use Rattle.std.specs.Prelude.{◌≡◌, ◌≤◌, ◌<◌, ◌++◌, length, IfSome, IfNone, IfOk, OnOk};
 ghost use Rattle.std.specs.Fmt.{decimal};
-ghost use Rattle.xc_script.specs.Values.{item_value, data_of};
+ghost use Rattle.xc_script.specs.Values.{item_value, joined_data};
 
 use crate::terms::{bytes_in, chunk_in, value_of};
 use crate::value::Variables;
 use std::alloc::Global;
 use xc_data::{Chunk, MOST_CALL_BYTES, NoMemory};
-use xc_text::{Data, Item, Place};
+use xc_text::{Data, Item, NameIndex};
 
 // How many decimal digits a number has.
 #[tactic(auto, using(crate::proofs::Digits::digit_count, crate::proofs::Digits::digits_count))]
@@ -19,7 +19,7 @@ fn digits(n: u64) -> usize
     }
 }
 
-fn item_len(variables: &Variables, item: &Item<Place>) -> usize
+fn item_len(variables: &Variables, item: &Item<NameIndex>) -> usize
     ensures { result ≡ length (item_value variables.now item.now) }
 {
     match item {
@@ -30,9 +30,9 @@ fn item_len(variables: &Variables, item: &Item<Place>) -> usize
 }
 
 /// The length of data of no more than 1,024 bytes.
-pub fn data_len(variables: &Variables, items: &Data<Place>) -> Option<usize>
-    ensures some { IfSome result (λ len. (len ≡ length (data_of variables.now items.now)) × (len ≤ 1024)) }
-    ensures none { IfNone result (1024 < length (data_of variables.now items.now)) }
+pub fn data_len(variables: &Variables, items: &Data<NameIndex>) -> Option<usize>
+    ensures some { IfSome result (λ len. (len ≡ length (joined_data variables.now items.now)) × (len ≤ 1024)) }
+    ensures none { IfNone result (1024 < length (joined_data variables.now items.now)) }
 {
     let mut len = 0;
     for item in items.as_slice() {
@@ -57,7 +57,7 @@ fn push_item(
     alloc: Global,
     variables: &Variables,
     bytes: &mut Vec<u8>,
-    item: &Item<Place>,
+    item: &Item<NameIndex>,
 ) -> Result<(), NoMemory>
     ensures { OnOk result (bytes.new.items ≡ bytes.old.items ++ item_value variables.now item.now) }
 {
@@ -69,8 +69,8 @@ fn push_item(
 }
 
 // The bytes of a single literal, or of a single variable that has bytes.
-fn shared_in<'a>(variables: &'a Variables, items: &'a Data<Place>) -> Option<&'a Chunk>
-    ensures { IfSome result (λ bytes. bytes.now ≡ data_of variables.now items.now) }
+fn shared_in<'a>(variables: &'a Variables, items: &'a Data<NameIndex>) -> Option<&'a Chunk>
+    ensures { IfSome result (λ bytes. bytes.now ≡ joined_data variables.now items.now) }
 {
     match items.as_slice() {
         [Item::Literal(literal)] => Some(literal),
@@ -80,8 +80,12 @@ fn shared_in<'a>(variables: &'a Variables, items: &'a Data<Place>) -> Option<&'a
 }
 
 /// The items joined. What is a single item is shared, and not copied.
-pub fn data_in(alloc: Global, variables: &Variables, items: &Data<Place>) -> Result<Chunk, NoMemory>
-    ensures { IfOk result (λ bytes. bytes ≡ data_of variables.now items.now) }
+pub fn data_in(
+    alloc: Global,
+    variables: &Variables,
+    items: &Data<NameIndex>,
+) -> Result<Chunk, NoMemory>
+    ensures { IfOk result (λ bytes. bytes ≡ joined_data variables.now items.now) }
 {
     if let Some(bytes) = shared_in(variables, items) {
         return bytes.share();

@@ -21,7 +21,7 @@ use std::alloc::Global;
 use std::marker::Model;
 use std::mem;
 use xc_data::{Call, LateEnd, NoMemory, Reply};
-use xc_text::{KeptStatement, Place, Script};
+use xc_text::{KeptStatement, NameIndex, Script};
 
 /// A job's place in its block, and its variables. What each call reads stands after what only a begin and an end do.
 #[derive(Drop)]

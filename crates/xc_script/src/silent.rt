@@ -5,7 +5,7 @@ ghost use Rattle.xc_script.specs.Walks.{holds, is_silent, set_by, past_silent, n
 
 use crate::terms::{expression_of, value_of};
 use crate::value::{Value, Variables};
-use xc_text::{Expression, Form, KeptStatement, Place, Test};
+use xc_text::{Expression, Form, KeptStatement, NameIndex, Test};
 
 fn holds(test: Test, left: u64, right: u64) -> bool
     ensures { result ≡ holds test left right }
@@ -47,7 +47,7 @@ fn is_silent(variables: &Variables, refused: bool, form: &Form) -> bool
 }
 
 // Sets a variable to a number.
-fn set_number(variables: &mut Variables, into: Place, value: Expression<Place>)
+fn set_number(variables: &mut Variables, into: NameIndex, value: Expression<NameIndex>)
     ensures { variables.new ≡ set_by variables.old (Let into value) }
 {
     let number = expression_of(variables, value);

@@ -3,10 +3,10 @@ ghost use Rattle.xc_script.specs.Values.{bytes_value, handle_value, term_value, 
 
 use crate::value::{Value, Variables};
 use xc_data::Chunk;
-use xc_text::{Expression, Place, Term};
+use xc_text::{Expression, NameIndex, Term};
 
 /// The bytes of a variable that has some.
-pub fn chunk_in(variables: &Variables, at: Place) -> Option<&Chunk>
+pub fn chunk_in(variables: &Variables, at: NameIndex) -> Option<&Chunk>
     ensures { MatchOption result (bytes_value variables.now at ≡ []) (λ bytes. bytes.now ≡ bytes_value variables.now at) }
 {
     match variables.get(at) {
@@ -16,7 +16,7 @@ pub fn chunk_in(variables: &Variables, at: Place) -> Option<&Chunk>
 }
 
 /// A variable without bytes counts as no bytes.
-pub fn bytes_in(variables: &Variables, at: Place) -> &[u8]
+pub fn bytes_in(variables: &Variables, at: NameIndex) -> &[u8]
     ensures { result.now ≡ bytes_value variables.now at }
 {
     match chunk_in(variables, at) {
@@ -26,7 +26,7 @@ pub fn bytes_in(variables: &Variables, at: Place) -> &[u8]
 }
 
 /// A variable without a handle counts as 65,535.
-pub fn handle_in(variables: &Variables, at: Place) -> u16
+pub fn handle_in(variables: &Variables, at: NameIndex) -> u16
     ensures { result ≡ handle_value variables.now at }
 {
     match variables.get(at) {
@@ -36,7 +36,7 @@ pub fn handle_in(variables: &Variables, at: Place) -> u16
 }
 
 /// A variable without a number counts as 0, and so does a slot that is unset.
-pub fn value_of(variables: &Variables, term: Term<Place>) -> u64
+pub fn value_of(variables: &Variables, term: Term<NameIndex>) -> u64
     ensures { result ≡ term_value variables.now term }
 {
     match term {
@@ -50,7 +50,7 @@ pub fn value_of(variables: &Variables, term: Term<Place>) -> u64
 }
 
 /// Sums and differences are taken modulo 2^64.
-pub fn expression_of(variables: &Variables, expression: Expression<Place>) -> u64
+pub fn expression_of(variables: &Variables, expression: Expression<NameIndex>) -> u64
     ensures { result ≡ expression_value variables.now expression }
 {
     match expression {

@@ -6,7 +6,7 @@ ghost use Rattle.xc_script.specs.Walks.{set_to};
 ghost use Rattle.xc_script.specs.Values.{value_at};
 ghost use Rattle.xc_script.specs.Ask.{with_handles};
 ghost use Rattle.xc_script.specs.Position.{nothing_kept};
-ghost use Rattle.xc_script.specs.Slots.{with_end};
+ghost use Rattle.xc_script.specs.Slots.{with_slot_end};
 
 use crate::slots::Slots;
 use crate::values::Values;
@@ -14,7 +14,7 @@ use std::alloc::Global;
 use std::marker::Model;
 use std::mem;
 use xc_data::{Chunk, Ident, LateEnd, NoMemory, SlotName, SlotNames};
-use xc_text::Place;
+use xc_text::NameIndex;
 
 /// What a variable holds.
 #[derive(Clone, Drop)]
@@ -64,21 +64,21 @@ impl Variables {
     }
 
     /// What a variable holds.
-    pub fn get(&self, at: Place) -> Option<&Value>
+    pub fn get(&self, at: NameIndex) -> Option<&Value>
         ensures { option_copied result ≡ value_at self.now.values at }
     {
         self.values.get(at)
     }
 
     /// What a slot counts as.
-    pub fn slot(&self, at: Place) -> u64
+    pub fn slot(&self, at: NameIndex) -> u64
         ensures { result ≡ slot_number self.now.slots at }
     {
         self.slots.number(at)
     }
 
     /// The name of a slot, where one is wanted. It takes no memory.
-    pub fn slot_name(&self, slot: Option<Place>) -> SlotName
+    pub fn slot_name(&self, slot: Option<NameIndex>) -> SlotName
         ensures { result ≡ name_of_slot self.now slot }
     {
         match slot {
@@ -88,14 +88,14 @@ impl Variables {
     }
 
     /// A variable takes a value, or loses its own where there is none. It takes no memory.
-    pub fn set(&mut self, at: Place, value: Option<Value>)
+    pub fn set(&mut self, at: NameIndex, value: Option<Value>)
         ensures { self.new ≡ set_to self.old at value }
     {
         self.values.set(at, value);
     }
 
     /// These variables hold the handles from 0 on. It takes no memory.
-    pub fn hold(&mut self, places: &[Place])
+    pub fn hold(&mut self, places: &[NameIndex])
         requires { length places.now ≤ 2 ^ 16 }
         ensures { self.new ≡ record self.old { values = with_handles places.now 0 self.old.values } }
     {
@@ -104,7 +104,7 @@ impl Variables {
 
     /// A slot takes an end, where one is named. It takes no memory.
     pub fn end(&mut self, slot: Option<Ident>, end: LateEnd)
-        ensures { self.new ≡ with_end self.old slot end }
+        ensures { self.new ≡ with_slot_end self.old slot end }
     {
         if let Some(name) = slot {
             self.slots.set(name, end);

@@ -7,7 +7,7 @@ use crate::value::Value;
 use std::alloc::Global;
 use std::marker::Model;
 use xc_data::NoMemory;
-use xc_text::Place;
+use xc_text::NameIndex;
 
 /// What the variables hold, by their places.
 #[derive(Drop)]
@@ -47,7 +47,7 @@ impl Values {
     }
 
     /// What the variable at a place holds, if it holds anything.
-    pub fn get(&self, at: Place) -> Option<&Value>
+    pub fn get(&self, at: NameIndex) -> Option<&Value>
         ensures { option_copied result ≡ value_at self.now at }
     {
         match self.held.get(at as usize) {
@@ -57,7 +57,7 @@ impl Values {
     }
 
     /// A variable takes a value, or loses its own. It takes no memory.
-    pub fn set(&mut self, at: Place, value: Option<Value>)
+    pub fn set(&mut self, at: NameIndex, value: Option<Value>)
         ensures { self.new ≡ slice_set self.old at value }
     {
         let at = at as usize;
@@ -67,7 +67,7 @@ impl Values {
     }
 
     /// These variables hold the handles from 0 on. It takes no memory.
-    pub fn hold(&mut self, places: &[Place])
+    pub fn hold(&mut self, places: &[NameIndex])
         requires { length places.now ≤ 2 ^ 16 }
         ensures { self.new ≡ with_handles places.now 0 self.old }
     {

@@ -35,8 +35,8 @@ remove-insert_other m a b x ne = same_map nat_cmp_total exact_unsigned _ _ (λ q
     ∙ ap (cond (eq_by_cmp nat_cmp q a) (Some x)) (sym (get-remove nat_cmp_total m b q)) ∙ sym (get-insert nat_cmp_total _ a x q))
 
 -- the key of the one that stands beside
-pub get_beside : (m : Keys) (o : Option (ℕ × ℕ)) (n k q : ℕ) → o ≡ Some (n, k) → n ≡ q → get (with_key o m) q ≡ Some k
-get_beside m o n k q is same =
+pub get_key_beside : (m : Keys) (o : Option (ℕ × ℕ)) (n k q : ℕ) → o ≡ Some (n, k) → n ≡ q → get (with_key o m) q ≡ Some k
+get_key_beside m o n k q is same =
     ap (λ e. get (with_key e m) q) is ∙ ap (get (insert m n k)) (sym same) ∙ get-insert_same nat_cmp_total exact_unsigned m n k
 
 -- and of another

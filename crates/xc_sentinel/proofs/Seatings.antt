@@ -15,7 +15,7 @@ use Rattle.slab.specs.Slab.{Slab, get as slot_at, with_value, Updates as SlotUpd
 use Rattle.slab.proofs.SlabLemmas.{Updates-with_value}
 use Rattle.xc_sentinel.specs.declared.seat.Seat.{Seat}
 use Rattle.xc_sentinel.specs.declared.seat.Slot.{Slot}
-use Rattle.xc_sentinel.specs.Seated.{seat_of, number_of, seat_at, seat_by, AreSeated}
+use Rattle.xc_sentinel.specs.Seated.{seat_of, seat_number, seat_at, seat_by, AreSeated}
 
 apart : (k q : ℕ) → (k ≡ q → ⊥) → eq_by_cmp nat_cmp k q ≡ false
 apart k q ne = by_order (nat_cmp k q) refl
@@ -52,15 +52,15 @@ key_removed keys keys' tx is =
 
 module _ (keys keys' : map.FinMap nat_cmp ℕ) (slots slots' : Slab Slot) (tx key : ℕ) where
   -- what stays where one transaction's key and slot change
-  pub record Stays : Type 0 where
+  pub record OtherSlotsStay : Type 0 where
     pub key_on : (n : ℕ) → (n ≡ tx → ⊥) → map.get keys' n ≡ map.get keys n
     pub slot_on : (k : ℕ) → k ≢ key → slot_at slots' k ≡ slot_at slots k
     pub other : (n : ℕ) → (n ≡ tx → ⊥) → map.get keys n ≡ Some key → ⊥
 
-  slot_stays : Stays → (n k : ℕ) → (n ≡ tx → ⊥) → map.get keys n ≡ Some k → slot_at slots' k ≡ slot_at slots k
+  slot_stays : OtherSlotsStay → (n k : ℕ) → (n ≡ tx → ⊥) → map.get keys n ≡ Some k → slot_at slots' k ≡ slot_at slots k
   slot_stays s n k ne e = s.slot_on k (λ same. s.other n ne (e ∙ ap Some same))
 
-  seat_stays : Stays → (n : ℕ) → (n ≡ tx → ⊥) → seat_by keys' slots' n ≡ seat_by keys slots n
+  seat_stays : OtherSlotsStay → (n : ℕ) → (n ≡ tx → ⊥) → seat_by keys' slots' n ≡ seat_by keys slots n
   seat_stays s n ne = ap (seat_at slots') (s.key_on n ne) ∙ by_key (map.get keys n) refl
     where
       by_key : (o : Option ℕ) → map.get keys n ≡ o → seat_at slots' o ≡ seat_at slots o
@@ -68,16 +68,16 @@ module _ (keys keys' : map.FinMap nat_cmp ℕ) (slots slots' : Slab Slot) (tx ke
       by_key (Some k) e = ap seat_of (slot_stays s n k ne e)
 
   -- all are seated, where the one is
-  pub seated : Stays → AreSeated keys slots → ((k : ℕ) → map.get keys' tx ≡ Some k → number_of (slot_at slots' k) ≡ Some tx)
+  pub seated : OtherSlotsStay → AreSeated keys slots → ((k : ℕ) → map.get keys' tx ≡ Some k → seat_number (slot_at slots' k) ≡ Some tx)
       → AreSeated keys' slots'
   seated s all one n k e = dite (ℕ_discrete n tx)
       (λ (here : n ≡ tx). one k (ap (map.get keys') (sym here) ∙ e) ∙ ap Some (sym here))
       (λ (ne : n ≢ tx).
       let was : map.get keys n ≡ Some k = sym (s.key_on n ne) ∙ e in
-      ap number_of (slot_stays s n k ne was) ∙ all n k was)
+      ap seat_number (slot_stays s n k ne was) ∙ all n k was)
 
   -- the seat is this one, and all others stay
-  pub sets : Stays → (seat : Option Seat) → seat_by keys' slots' tx ≡ seat
+  pub sets : OtherSlotsStay → (seat : Option Seat) → seat_by keys' slots' tx ≡ seat
       → (n : ℕ) → seat_by keys' slots' n ≡ (if nat_eq n tx then seat else seat_by keys slots n)
   sets s seat is n = dite (ℕ_discrete n tx)
       (λ (here : n ≡ tx).
@@ -95,7 +95,7 @@ two_keys keys slots tx key all has n ne e =
 pub vacant_key : (keys : map.FinMap nat_cmp ℕ) (slots : Slab Slot) (tx key : ℕ) → AreSeated keys slots → slot_at slots key ≡ None
     → (n : ℕ) → (n ≡ tx → ⊥) → map.get keys n ≡ Some key → ⊥
 vacant_key keys slots tx key all none n ne e =
-    let h : ◌≡◌ {A = Option ℕ} None (Some n) = ap number_of (sym none) ∙ all n key e in cc
+    let h : ◌≡◌ {A = Option ℕ} None (Some n) = ap seat_number (sym none) ∙ all n key e in cc
 
 -- ---- each call
 -- a new transaction at a vacant key, where room was made
@@ -109,7 +109,7 @@ module _ (keys keys' : map.FinMap nat_cmp ℕ) (slots room slots' : Slab Slot) (
   put : slot_at slots' key ≡ Some (record { tx = tx; seat = seat })
   put = ap (slot_at slots') (sym is) ∙ s.changed
 
-  others : Stays keys keys' slots slots' tx key
+  others : OtherSlotsStay keys keys' slots slots' tx key
   others = record {
     key_on = k.others;
     slot_on = λ j ne. s.others j (λ e. ne (e ∙ is)) ∙ room_is j;
@@ -119,17 +119,17 @@ module _ (keys keys' : map.FinMap nat_cmp ℕ) (slots room slots' : Slab Slot) (
   pub inserted_seated : AreSeated keys' slots'
   inserted_seated = seated keys keys' slots slots' tx key others all (λ j e.
       let same_key : key ≡ j = let both : Some key ≡ Some j = sym k.changed ∙ e in cc both in
-      ap (λ n. number_of (slot_at slots' n)) (sym same_key) ∙ ap number_of put)
+      ap (λ n. seat_number (slot_at slots' n)) (sym same_key) ∙ ap seat_number put)
 
   pub inserted_sets : (n : ℕ) → seat_by keys' slots' n ≡ (if nat_eq n tx then Some seat else seat_by keys slots n)
   inserted_sets = sets keys keys' slots slots' tx key others (Some seat) (ap (seat_at slots') k.changed ∙ ap seat_of put)
 
 -- a slot is written, whose number stays
-pub written : (keys : map.FinMap nat_cmp ℕ) (slots : Slab Slot) (tx key : ℕ) (seat : Seat) (slot : Slot) → AreSeated keys slots
+pub seat_written : (keys : map.FinMap nat_cmp ℕ) (slots : Slab Slot) (tx key : ℕ) (seat : Seat) (slot : Slot) → AreSeated keys slots
     → map.get keys tx ≡ Some key → Some slot ≡ slot_at slots key
     → SlotUpdates slots (with_value slots key (record { tx = slot.tx; seat = seat })) key (Some (record { tx = tx; seat = seat }))
-written keys slots tx key seat slot all has there =
-    let number : Some slot.tx ≡ Some tx = ap number_of there ∙ all tx key has in
+seat_written keys slots tx key seat slot all has there =
+    let number : Some slot.tx ≡ Some tx = ap seat_number there ∙ all tx key has in
     let same : slot.tx ≡ tx = cc number in
     subst (λ (n : ℕ). SlotUpdates slots (with_value slots key (record { tx = slot.tx; seat = seat })) key (Some (record { tx = n; seat = seat }))) same
     (Updates-with_value slots key (record { tx = slot.tx; seat = seat }) (subst IsSome there refl))
@@ -137,13 +137,13 @@ written keys slots tx key seat slot all has there =
 -- a seat is written
 module _ (keys : map.FinMap nat_cmp ℕ) (slots slots' : Slab Slot) (tx key : ℕ) (seat : Seat) (has : map.get keys tx ≡ Some key)
     (s : SlotUpdates slots slots' key (Some (record { tx = tx; seat = seat }))) (all : AreSeated keys slots) where
-  others_kept : Stays keys keys slots slots' tx key
+  others_kept : OtherSlotsStay keys keys slots slots' tx key
   others_kept = record { key_on = λ n ne. refl; slot_on = s.others; other = two_keys keys slots tx key all has }
 
   pub set_seated : AreSeated keys slots'
   set_seated = seated keys keys slots slots' tx key others_kept all (λ j e.
       let same_key : key ≡ j = let both : Some key ≡ Some j = sym has ∙ e in cc both in
-      ap (λ n. number_of (slot_at slots' n)) (sym same_key) ∙ ap number_of s.changed)
+      ap (λ n. seat_number (slot_at slots' n)) (sym same_key) ∙ ap seat_number s.changed)
 
   pub set_sets : (n : ℕ) → seat_by keys slots' n ≡ (if nat_eq n tx then Some seat else seat_by keys slots n)
   set_sets = sets keys keys slots slots' tx key others_kept (Some seat) (ap (seat_at slots') has ∙ ap seat_of s.changed)
@@ -151,7 +151,7 @@ module _ (keys : map.FinMap nat_cmp ℕ) (slots slots' : Slab Slot) (tx key : �
 -- a transaction goes
 module _ (keys keys' : map.FinMap nat_cmp ℕ) (slots slots' : Slab Slot) (tx key : ℕ) (has : map.get keys tx ≡ Some key)
     (k : KeyUpdates keys keys' tx None) (s : SlotUpdates slots slots' key None) (all : AreSeated keys slots) where
-  others_left : Stays keys keys' slots slots' tx key
+  others_left : OtherSlotsStay keys keys' slots slots' tx key
   others_left = record { key_on = k.others; slot_on = s.others; other = two_keys keys slots tx key all has }
 
   pub removed_seated : AreSeated keys' slots'

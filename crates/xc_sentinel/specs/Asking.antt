@@ -8,20 +8,20 @@ use Rattle.xc_locks.specs.Table.{KeepsOthers, claimed, held_mode}
 use Rattle.xc_locks.specs.Met.{IsFirstMet, IsNotMet}
 use Rattle.xc_data.specs.declared.entry.Mark.{Mark}
 use Rattle.xc_sentinel.specs.declared.seat.Seat.{Seat}
-use Rattle.xc_sentinel.specs.declared.seat.Verdict.{Verdict}
-use Rattle.xc_sentinel.specs.declared.seat.Verdict.TheVariants as verdict
+use Rattle.xc_sentinel.specs.declared.seat.ClaimVerdict.{ClaimVerdict}
+use Rattle.xc_sentinel.specs.declared.seat.ClaimVerdict.TheVariants as verdict
 use Rattle.xc_sentinel.specs.declared.sentinels.Sentinels.{Sentinels}
 use Rattle.xc_sentinel.specs.Seating.{seat_in, SetsSeat, KeepsSeats}
 
 -- ---- a mark
 -- what becomes of a mark: a running transaction without one takes this one
-abbrev pub mark_behind : Bool → Option Mark → Mark → Option Mark
-mark_behind true None new = Some new
-mark_behind running kept new = kept
+abbrev pub mark_taken : Bool → Option Mark → Mark → Option Mark
+mark_taken true None new = Some new
+mark_taken running kept new = kept
 
 -- the seat after it
 abbrev pub marked_seat : Seat → Mark → Seat
-marked_seat seat new = record seat { mark = mark_behind seat.running seat.mark new }
+marked_seat seat new = record seat { mark = mark_taken seat.running seat.mark new }
 
 -- the mark of a seat
 abbrev pub mark_of : Option Seat → Option Mark
@@ -74,14 +74,14 @@ module _ (step : Step Sentinels) (tx : ℕ) (c : Claiming) where
     pub same : step.new ≡ step.old
 
   -- the answer, and what changed
-  abbrev pub IsAnswer : Verdict → Type 0
+  abbrev pub IsAnswer : ClaimVerdict → Type 0
   IsAnswer verdict.Granted = AreGranted step tx c.claims
   IsAnswer (verdict.Busy object holder) = IsBusy object holder
   IsAnswer (verdict.Conflict object holder) = IsConflict object holder
   IsAnswer verdict.NoMemory = All (IsNotMet step.old.claims tx) c.claims × (step.new ≡ step.old)
 
 -- what a transaction holds after its answer: what it claimed too, where that is granted
-abbrev pub held_after : Verdict → List Claim → List Claim → List Claim
+abbrev pub held_after : ClaimVerdict → List Claim → List Claim → List Claim
 held_after verdict.Granted held claims = holding held claims
 held_after (verdict.Busy object holder) held claims = held
 held_after (verdict.Conflict object holder) held claims = held

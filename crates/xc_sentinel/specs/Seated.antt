@@ -25,9 +25,9 @@ seat_of None = None
 seat_of (Some slot) = Some slot.seat
 
 -- and its number
-abbrev pub number_of : Option Slot → Option ℕ
-number_of None = None
-number_of (Some slot) = Some slot.tx
+abbrev pub seat_number : Option Slot → Option ℕ
+seat_number None = None
+seat_number (Some slot) = Some slot.tx
 
 -- and at a key, where there is one
 abbrev pub seat_at : Slab Slot → Option ℕ → Option Seat
@@ -40,7 +40,7 @@ seat_by keys slots n = seat_at slots (map.get keys n)
 
 -- at each number's key is a seat of that number
 abbrev pub AreSeated : map.FinMap nat_cmp ℕ → Slab Slot → Type 0
-AreSeated keys slots = (n key : ℕ) → map.get keys n ≡ Some key → number_of (slot_at slots key) ≡ Some n
+AreSeated keys slots = (n key : ℕ) → map.get keys n ≡ Some key → seat_number (slot_at slots key) ≡ Some n
 
 -- no seat has a mark
 abbrev pub AreUnmarked : Slab Slot → Type 0

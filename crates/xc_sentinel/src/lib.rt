@@ -7,5 +7,5 @@ mod seat;
 mod seats;
 mod sentinels;
 
-pub use seat::{Seat, Verdict};
+pub use seat::{ClaimVerdict, Seat};
 pub use sentinels::Sentinels;

@@ -22,7 +22,7 @@ pub struct Slot {
 
 /// What becomes of claims.
 #[derive(Drop)]
-pub enum Verdict {
+pub enum ClaimVerdict {
     /// All is claimed.
     Granted,
     /// The holder is younger, and the transaction waits for it.

@@ -5,7 +5,7 @@ ghost use Rattle.xc_locks.specs.Held.{HasRoomFor};
 ghost use Rattle.xc_locks.specs.Met.{IsFirstMet};
 ghost use Rattle.xc_locks.specs.Table.{Holds, KeepsOthers, held_mode};
 
-use crate::seat::{Seat, Verdict};
+use crate::seat::{ClaimVerdict, Seat};
 use crate::seats::Seats;
 use std::alloc::Global;
 use std::sync::ledger::Ledger;
@@ -96,12 +96,19 @@ impl Sentinels {
     // What becomes of claims of which the first that is met is on this object. Apart, since most claims are granted.
     #[cold]
     #[inline(never)]
-    fn meet(&mut self, object: &Object, holder: u32, tx: u32, patient: bool, at: u32) -> Verdict
+    fn meet(
+        &mut self,
+        object: &Object,
+        holder: u32,
+        tx: u32,
+        patient: bool,
+        at: u32,
+    ) -> ClaimVerdict
         ensures { (claims : List Claim) → IsFirstMet self.old.claims claims tx object.now holder
             → IsAnswer (record { old = self.old; new = self.new }) tx (record { claims = claims; patient = patient; at = at }) result }
     {
         if !patient || !self.is_younger(tx, holder) {
-            return Verdict::Conflict {
+            return ClaimVerdict::Conflict {
                 object: object.again(),
                 holder,
             };
@@ -112,7 +119,7 @@ impl Sentinels {
             at,
         };
         self.mark(holder, &mark);
-        Verdict::Busy {
+        ClaimVerdict::Busy {
             object: object.again(),
             holder,
         }
@@ -128,7 +135,7 @@ impl Sentinels {
         held: &mut Holding,
         patient: bool,
         at: u32,
-    ) -> Verdict
+    ) -> ClaimVerdict
         requires list { Holds self.old.claims tx held.old.items }
         requires room { HasRoomFor held.old claims.now }
         ensures answer { IsAnswer (record { old = self.old; new = self.new }) tx
@@ -136,8 +143,8 @@ impl Sentinels {
         ensures list { held.new.items ≡ held_after result held.old.items claims.now }
     {
         match self.claims.claim(claims, tx, held) {
-            Ok(()) => Verdict::Granted,
-            Err(ClaimErr::NoMemory) => Verdict::NoMemory,
+            Ok(()) => ClaimVerdict::Granted,
+            Err(ClaimErr::NoMemory) => ClaimVerdict::NoMemory,
             Err(ClaimErr::Met { object, holder }) => self.meet(&object, holder, tx, patient, at),
         }
     }

@@ -17,7 +17,7 @@ use Rattle.xc_script.specs.Values.{Values, Variables}
 use Rattle.xc_script.specs.Walks.{Walk, is_silent, set_by, past_silent, stored_after}
 use Rattle.xc_script.specs.Asking.{asks_of, asks}
 use Rattle.xc_script.specs.Answers.{behind_ask, bound, target_of, refuses}
-use Rattle.xc_script.specs.Blocks.{BlockWalk, is_keep, behind_keep, after_call, after_ask, replied, all_replied}
+use Rattle.xc_script.specs.Blocks.{BlockWalk, is_keep, behind_keep, block_after_call, after_ask, replied, all_replied}
 use Rattle.xc_script.specs.declared.ask.Ask.{Ask}
 use Rattle.xc_script.specs.declared.ask.Ask.TheVariants as ask
 use Rattle.xc_model.specs.Asked.{AsksEach}
@@ -114,8 +114,8 @@ asks_again walk (r ∷ replies) e =
 -- behind each call fewer statements are left, where at last none is asked
 made_falls : (walk : Walk) (saved : Option Values) (c : Call) (r : Reply) (replies : List Reply) (n : ℕ) → asks walk ≡ ask.Call c
     → length walk.left ≤ suc n
-    → asks_call (asks (all_replied (after_call (record { walk = walk; saved = saved }) c r) replies).walk) ≡ false
-    → length (after_call (record { walk = walk; saved = saved }) c r).walk.left ≤ n
+    → asks_call (asks (all_replied (block_after_call (record { walk = walk; saved = saved }) c r) replies).walk) ≡ false
+    → length (block_after_call (record { walk = walk; saved = saved }) c r).walk.left ≤ n
 made_falls walk saved call.Save r replies n e le end = left_falls walk walk.left call.Save r n e le
 made_falls walk saved call.Keep r replies n e le end = left_falls walk walk.left call.Keep r n e le
 made_falls walk None call.Back r replies n e le end =
@@ -181,7 +181,7 @@ same_calls (suc n) tx s b (c ∷ calls) (r ∷ replies) le asked same fit none e
     let fine = fine_act w me tx c r faults.0 fits_each.0 in
     let given : (act w me tx c answer.Fine).reply ≡ r = sym (ap (λ x. x.reply) fine) ∙ ap (head_of r) same in
     let after : block_step tx s one ≡ block_step tx s (without_fault c) = ap (λ x. marked c s.saved (stepped tx s.now c x)) fine in
-    let behind : replied b r ≡ after_call b c r = ap (λ a. after_ask b a r) asked.0 in
+    let behind : replied b r ≡ block_after_call b c r = ap (λ a. after_ask b a r) asked.0 in
     let falls : length (replied b r).walk.left ≤ n =
     subst (λ (x : BlockWalk). length x.walk.left ≤ n) (sym behind)
     (made_falls b.walk b.saved c r replies n asked.0 le (subst (λ x. asks_call (asks (all_replied x replies).walk) ≡ false) behind end)) in

@@ -28,7 +28,7 @@ use Rattle.xc_model.specs.Progress.{Following, Progress, private_of, body_of, ru
 use Rattle.xc_model.specs.Setting.{Setting}
 use Rattle.xc_model.specs.Recorded.{Recorded, no_records, all_records, IsStuckIn, saved_records}
 use Rattle.xc_model.specs.Asked.{next_of}
-use Rattle.xc_model.specs.EntryEnds.{IsReport, IsHeld, IsHeldAt, IsCauseOf, IsCaused, AreRecords}
+use Rattle.xc_model.specs.EntryEnds.{IsReport, IsHeld, IsHeldAt, IsCauseOf, HasAbortCause, AreRecords}
 use Rattle.xc_model.specs.Joint.{IsEntry, IsAskedFor, IsPlayedOutcome}
 use Rattle.xc_model.specs.Serial.{is_asked, is_final}
 use Rattle.xc_world.specs.Ends.{Ending, AreLegal, blocker, is_undone}
@@ -40,52 +40,52 @@ use Rattle.xc_serial.proofs.Calls.{replies_of_pairs}
 
 -- ---- the compensations of an aborted transaction
 -- records, each undone without a fault
-abbrev pub undone : List Undo → List Ending
-undone us = map (λ (undo : Undo). (undo, Undone 0)) us
+abbrev pub undone_cleanly : List Undo → List Ending
+undone_cleanly us = map (λ (undo : Undo). (undo, Undone 0)) us
 
-none_blocks : (from : ℕ) (u : Undo) (us : List Undo) → blocker from u (undone us) ≡ None
+none_blocks : (from : ℕ) (u : Undo) (us : List Undo) → blocker from u (undone_cleanly us) ≡ None
 none_blocks from u [] = refl
 none_blocks from u (v ∷ us) = none_blocks (from + 1) u us
 
 -- legal ends without a fault undid their records
-pub all_undone : (tries from : ℕ) (records : List Ending) → 1 ≤ tries → AreLegal tries from records → sum_by undo_faults records ≡ 0
-    → records ≡ undone (map (λ r. r.0) records)
-all_undone tries from [] some legal none = refl
-all_undone tries from ((u, Undone n) ∷ newer) some legal none =
+pub legal_undone : (tries from : ℕ) (records : List Ending) → 1 ≤ tries → AreLegal tries from records → sum_by undo_faults records ≡ 0
+    → records ≡ undone_cleanly (map (λ r. r.0) records)
+legal_undone tries from [] some legal none = refl
+legal_undone tries from ((u, Undone n) ∷ newer) some legal none =
     let parts = no_sum undo_faults (u, Undone n) newer none in
-    ap₂ (λ k l. (u, Undone k) ∷ l) parts.0 (all_undone tries (from + 1) newer some legal.1 parts.1)
-all_undone tries from ((u, Failed done n) ∷ newer) some legal none =
+    ap₂ (λ k l. (u, Undone k) ∷ l) parts.0 (legal_undone tries (from + 1) newer some legal.1 parts.1)
+legal_undone tries from ((u, Failed done n) ∷ newer) some legal none =
     let parts = no_sum undo_faults (u, Failed done n) newer none in
     let met : n ≡ tries = legal.0.1 in
     let no : n ≡ 0 = parts.0 in
     absurd (omega arith)
-all_undone tries from ((u, Blocked by) ∷ newer) some legal none =
+legal_undone tries from ((u, Blocked by) ∷ newer) some legal none =
     let parts = no_sum undo_faults (u, Blocked by) newer none in
-    let later = all_undone tries (from + 1) newer some legal.1 parts.1 in
+    let later = legal_undone tries (from + 1) newer some legal.1 parts.1 in
     let no : None ≡ Some by = sym (none_blocks (from + 1) u (map (λ r. r.0) newer)) ∙ sym (ap (blocker (from + 1) u) later) ∙ legal.0 in
     cc
 
 -- ---- its end
 none_failed : (us : List Undo) (older : List Ending) (u : Undo) (done faults : ℕ) (newer : List Ending)
-    → undone us ≡ older ++ (u, Failed done faults) ∷ newer → ⊥
+    → undone_cleanly us ≡ older ++ (u, Failed done faults) ∷ newer → ⊥
 none_failed [] [] u done faults newer e = cc
 none_failed [] (o ∷ older) u done faults newer e = cc
 none_failed (v ∷ us) [] u done faults newer e =
     let no : true ≡ false = ap (λ (r : Ending). is_undone r.1) (ap (head_of (v, Undone 0)) e) in cc
 none_failed (v ∷ us) (o ∷ older) u done faults newer e = none_failed us older u done faults newer (ap rest_of e)
 
-asked_where : (c : Cause) (k : Option ℕ) (us : List Undo) → is_asked c ≡ true → IsStuckIn k 1 (undone us) c → c ≡ cause.Asked
+asked_where : (c : Cause) (k : Option ℕ) (us : List Undo) → is_asked c ≡ true → IsStuckIn k 1 (undone_cleanly us) c → c ≡ cause.Asked
 asked_where cause.Asked k us e stuck = refl
 asked_where (cause.Stuck failed) k us e stuck =
     let at = stuck.1 in absurd (none_failed us at.older at.stuck at.done at.faults at.newer at.parts)
 asked_where _ k us e stuck = cc
 
 -- where each record was undone without a fault, no way back got stuck: the script asked for the abort
-pub asked_is : (tries : ℕ) (k : Recorded) (last : Ask) (report : Report) → 1 ≤ tries → IsReport tries k report → IsCaused k last report
+pub asked_is : (tries : ℕ) (k : Recorded) (last : Ask) (report : Report) → 1 ≤ tries → IsReport tries k report → HasAbortCause k last report
     → sum_by undo_faults report.records ≡ 0 → is_asked report.cause ≡ true → report.cause ≡ cause.Asked
 asked_is tries k last report some is caused none asked =
     asked_where report.cause (saved_records k) (map (λ r. r.0) report.records) asked
-    (subst (λ rs. IsStuckIn (saved_records k) 1 rs report.cause) (all_undone tries 1 report.records some is.legal none) caused.stuck)
+    (subst (λ rs. IsStuckIn (saved_records k) 1 rs report.cause) (legal_undone tries 1 report.records some is.legal none) caused.stuck)
 
 -- why an entry was aborted, where it was
 abbrev IsCausedBy : Outcome → Cause → Type 0
@@ -140,8 +140,8 @@ same_outcome tries p e next (Aborted report) some asked played faults starved wh
     let aborts : next ≡ ask.Abort = subst (λ c. IsCauseOf c next) why asked.0.asked in
     let trail : map (λ (r : Ending). r.0) report.records ≡ (body_of p.state e).trail =
     subst (λ c. AreRecords (body_of p.state e) e.tx next c (map (λ r. r.0) report.records)) why played in
-    let records = all_undone tries 1 report.records some asked.1.legal faults ∙ ap undone trail in
-    let made : Outcome = Aborted (record { cause = cause.Asked; records = undone (body_of p.state e).trail }) in
+    let records = legal_undone tries 1 report.records some asked.1.legal faults ∙ ap undone_cleanly trail in
+    let made : Outcome = Aborted (record { cause = cause.Asked; records = undone_cleanly (body_of p.state e).trail }) in
     let here : Aborted report ≡ made = λ i. Aborted (record { cause = why i; records = records i }) in
     here ∙ sym (ap (outcome_of (run_of p.state e [])) aborts)
 

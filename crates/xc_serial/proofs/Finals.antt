@@ -15,15 +15,15 @@ use Rattle.xc_data.specs.declared.entry.Outcome.{Outcome}
 use Rattle.xc_data.specs.declared.entry.Outcome.TheVariants.{Committed, Aborted}
 use Rattle.xc_print.specs.Text.{rendered}
 use Rattle.xc_script.specs.Ask.{fresh_job, block_place, next_body}
-use Rattle.xc_model.specs.Ending.{IsEnd, AreEnds, Final, IsTrueEnd, StopWhereFull, all_done, is_done, is_memory, is_starved}
+use Rattle.xc_model.specs.Ending.{IsEnd, AreEnds, Final, IsTrueEnd, StopWhereFull, all_done, is_done_end, is_memory, is_starved}
 use Rattle.xc_model.specs.Ending.{is_final_or_tried_again}
 use Rattle.xc_model.specs.Ending.{some_late_starved, wanted_memory}
 use Rattle.xc_model.specs.Progress.{Following, untried, opening_progress, progress_of}
 use Rattle.xc_model.specs.Setting.{Setting}
-use Rattle.xc_model.specs.Serial.{AreInOrder, IsSerial, all_final, is_alone, is_asked, is_final}
+use Rattle.xc_model.specs.Serial.{AreSerial, IsSerial, all_final, is_alone, is_asked, is_final}
 use Rattle.xc_model.specs.EntryEnds.{is_tried_again}
 use Rattle.xc_text.specs.declared.script.Script.{Script}
-use Rattle.xc_turns.proofs.Laws.{GoesOn, all_go, joint_of_parts}
+use Rattle.xc_turns.proofs.Laws.{IsNotStarved, all_go, joint_of_parts}
 use Rattle.xc_serial.specs.Plain.{plain_job_end, plain_journal, plain_lines, plain_text}
 use Rattle.xc_serial.specs.Undisturbed.{all_alone, is_full, is_full_end}
 use Rattle.xc_serial.proofs.Journals.{AreOver, AreOverBefore, AreUntried, are_next, rise, same_journal, untried_all}
@@ -48,7 +48,7 @@ all_are_settled (e ∷ entries) alone each =
     and_from (is_final e.outcome) (all_final entries) (settled_alone e.outcome both.0 parts.0) (all_are_settled entries parts.1 both.1)
 
 -- where transactions came one after another none met another
-alone_in_order : (place : ℕ) (entries : List Entry) → AreInOrder place entries → all_alone entries ≡ true
+alone_in_order : (place : ℕ) (entries : List Entry) → AreSerial place entries → all_alone entries ≡ true
 alone_in_order place [] order = refl
 alone_in_order place (e ∷ entries) order =
     and_from (is_alone e.outcome) (all_alone entries) order.2 (alone_in_order (place + 1) entries order.3)
@@ -62,7 +62,7 @@ goes_on s n f job_end.JournalFull ends fed = ends.0
 goes_on s n f job_end.NoMemory ends fed = cc
 
 all_go_on : (s : Setting) (n : ℕ) (jobs : List Following) (lines : List JobLine) → AreEnds s n jobs lines → list_any is_starved lines ≡ false
-    → AllByRecursion GoesOn jobs
+    → AllByRecursion IsNotStarved jobs
 all_go_on s n [] lines ends fed = tt
 all_go_on s n (f ∷ jobs) [] ends fed = absurd ends
 all_go_on s n (f ∷ jobs) (line ∷ lines) ends fed =
@@ -129,12 +129,12 @@ line_beside s n (f ∷ jobs) (line ∷ lines) zero g ends has =
 line_beside s n (f ∷ jobs) (line ∷ lines) (suc i) g ends has = line_beside s n jobs lines i g ends.1 has
 
 -- a plain end of a job that found the journal not full is that of one that was done
-plain_done : (script : Script) (f : Following) (d : JobEnd) → d ≡ plain_job_end script f → is_full_end d ≡ false → is_done d ≡ true
-plain_done script f d same room = subst (λ (x : JobEnd). is_full_end x ≡ false → is_done x ≡ true) (sym same)
+plain_done : (script : Script) (f : Following) (d : JobEnd) → d ≡ plain_job_end script f → is_full_end d ≡ false → is_done_end d ≡ true
+plain_done script f d same room = subst (λ (x : JobEnd). is_full_end x ≡ false → is_done_end x ≡ true) (sym same)
     (by_next (is_some (next_body script f.job))) room
   where
     by_next : (b : Bool) → is_full_end (if b then job_end.JournalFull else job_end.Done) ≡ false
-        → is_done (if b then job_end.JournalFull else job_end.Done) ≡ true
+        → is_done_end (if b then job_end.JournalFull else job_end.Done) ≡ true
     by_next true full = let no : true ≡ false = full in cc
     by_next false full = refl
 
@@ -145,7 +145,7 @@ all_plain s n [] lines ends room = ap all_done ends
 all_plain s n (f ∷ jobs) [] ends room = absurd ends
 all_plain s n (f ∷ jobs) (line ∷ lines) ends room =
     let parts = or_parts (is_full line) (list_any is_full lines) room in
-    and_from (is_done line.end) (all_done lines) (plain_done s.script f line.end ends.0.end.same parts.0)
+    and_from (is_done_end line.end) (all_done lines) (plain_done s.script f line.end ends.0.end.same parts.0)
     (all_plain s n jobs lines ends.1 parts.1)
 
 -- with a journal that isn't full none has a transaction left

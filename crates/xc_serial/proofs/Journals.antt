@@ -15,11 +15,11 @@ use Rattle.xc_data.specs.declared.entry.Outcome.TheVariants.{Committed, Aborted}
 use Rattle.xc_script.specs.Ask.{Job, next_body}
 use Rattle.xc_script.specs.Blocks.{kept_calls}
 use Rattle.xc_model.specs.Ending.{has_memory_end, some_late_starved}
-use Rattle.xc_model.specs.Progress.{Following, Progress, untried, started_blocks, started_job, committed_job}
+use Rattle.xc_model.specs.Progress.{Following, Progress, untried, started_blocks, started_following, committed_job}
 use Rattle.xc_model.specs.Progress.{following_abort, after_following, after_outcome, following_of, after_entry}
 use Rattle.xc_model.specs.Setting.{Setting}
 use Rattle.xc_model.specs.Joint.{AreTrue}
-use Rattle.xc_model.specs.Serial.{AreInOrder, JobsRise, is_asked, is_final, all_final}
+use Rattle.xc_model.specs.Serial.{AreSerial, JobsRise, is_asked, is_final, all_final}
 use Rattle.xc_text.specs.declared.script.Script.{Script}
 use Rattle.xc_serial.specs.Plain.{entry_at, entry_in, journal_from, journal_with, next_place, plain_from}
 use Rattle.xc_serial.proofs.Calls.{no_sum}
@@ -44,7 +44,7 @@ untried_append : (a b : List Following) → AreUntried a → AreUntried b → Ar
 untried_append [] b first later = later
 untried_append (f ∷ a) b first later = (first.0, untried_append a b first.1 later)
 
-untried_started : (script : Script) (job : Job) (since : ℕ) (blocks : List (List ℕ)) → AreUntried (map (started_job script job since) blocks)
+untried_started : (script : Script) (job : Job) (since : ℕ) (blocks : List (List ℕ)) → AreUntried (map (started_following script job since) blocks)
 untried_started script job since [] = tt
 untried_started script job since (b ∷ blocks) = ((refl, refl), untried_started script job since blocks)
 
@@ -91,7 +91,7 @@ AreNext (suc n) script p (e ∷ entries) = (next_place script p.jobs ≡ Some (e
 
 -- such a journal is the plain one
 pub same_journal : (s : Setting) (p : Progress) (place n : ℕ) (entries : List Entry) → AreTrue s p entries → IsTrue s.tells → 1 ≤ s.rules.undo_tries
-    → AreInOrder place entries → sum_by entry_faults entries ≡ 0 → some_late_starved entries ≡ false → all_final entries ≡ true
+    → AreSerial place entries → sum_by entry_faults entries ≡ 0 → some_late_starved entries ≡ false → all_final entries ≡ true
     → AreUntried p.jobs → length entries ≤ n → AreNext n s.script p entries → entries ≡ plain_from n s.script place p
 same_journal s p place zero [] told tells tries order faults starved settled all le next = refl
 same_journal s p place (suc n) [] told tells tries order faults starved settled all le next =
@@ -163,16 +163,16 @@ AreFrom k [] = Unit {0}
 AreFrom k (e ∷ entries) = (k ≤ e.job) × AreFrom k entries
 
 -- after each entry none has a smaller one
-abbrev pub Rise : List Entry → Type 0
-Rise [] = Unit {0}
-Rise (e ∷ entries) = AreFrom e.job entries × Rise entries
+abbrev pub EntriesRise : List Entry → Type 0
+EntriesRise [] = Unit {0}
+EntriesRise (e ∷ entries) = AreFrom e.job entries × EntriesRise entries
 
 are_from : (k : ℕ) (entries : List Entry) → ((j : ℕ) (b : Entry) → slice_get entries j ≡ Some b → k ≤ b.job) → AreFrom k entries
 are_from k [] all = tt
 are_from k (e ∷ entries) all = (all 0 e refl, are_from k entries (λ j b has. all (suc j) b has))
 
 -- so it is entry after entry
-pub rise : (entries : List Entry) → JobsRise entries → Rise entries
+pub rise : (entries : List Entry) → JobsRise entries → EntriesRise entries
 rise [] all = tt
 rise (e ∷ entries) all = (
   are_from e.job entries (λ j b has. all 0 (suc j) e b refl has (omega arith)),
@@ -196,7 +196,7 @@ AreOverBefore script jobs job = (i : ℕ) (g : Following) → i < job - 1 → sl
 
 -- where at the end none of the jobs before an entry's has a transaction left, and no job at all but after so many entries, each
 -- entry is of the first job that has
-pub are_next : (s : Setting) (p : Progress) (n : ℕ) (entries : List Entry) → AreTrue s p entries → Rise entries
+pub are_next : (s : Setting) (p : Progress) (n : ℕ) (entries : List Entry) → AreTrue s p entries → EntriesRise entries
     → ((k : ℕ) (e : Entry) → slice_get entries k ≡ Some e → AreOverBefore s.script (fold (after_entry s.script) p entries).jobs e.job)
     → (length entries < n → AreOver s.script (fold (after_entry s.script) p entries).jobs) → AreNext n s.script p entries
 are_next s p zero entries told up before over = tt

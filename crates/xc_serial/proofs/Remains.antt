@@ -16,19 +16,19 @@ use Rattle.xc_model.specs.Setting.{Setting}
 use Rattle.xc_model.specs.Asked.{next_of}
 use Rattle.xc_model.specs.Joint.{AreTrue, IsAskedFor}
 use Rattle.xc_serial.proofs.Calls.{no_sum}
-use Rattle.xc_serial.proofs.Entries.{all_undone, undone}
+use Rattle.xc_serial.proofs.Entries.{legal_undone, undone_cleanly}
 
 -- a record that was undone leaves nothing
-none_stands : (us : List Undo) → count_by effect_remains (undone us) ≡ 0
+none_stands : (us : List Undo) → count_by effect_remains (undone_cleanly us) ≡ 0
 none_stands [] = refl
 none_stands (u ∷ us) =
-    let rest = none_stands us in sum_by-cons (λ r. cond (effect_remains r) 1 0) (u, Undone 0) (undone us) ∙ omega (arith, rest)
+    let rest = none_stands us in sum_by-cons (λ r. cond (effect_remains r) 1 0) (u, Undone 0) (undone_cleanly us) ∙ omega (arith, rest)
 
 none_of_outcome : (tries : ℕ) (e : Entry) (next : Ask) (o : Outcome) → 1 ≤ tries → IsAskedFor tries e next o → outcome_faults o ≡ 0
     → outcome_remains o ≡ 0
 none_of_outcome tries e next (Committed late) some asked none = refl
 none_of_outcome tries e next (Aborted report) some asked none =
-    ap (count_by effect_remains) (all_undone tries 1 report.records some asked.1.legal none) ∙ none_stands (map (λ r. r.0) report.records)
+    ap (count_by effect_remains) (legal_undone tries 1 report.records some asked.1.legal none) ∙ none_stands (map (λ r. r.0) report.records)
 
 sum_of : (f : Entry → ℕ) (e : Entry) (entries : List Entry) → f e ≡ 0 → sum_by f entries ≡ 0 → sum_by f (e ∷ entries) ≡ 0
 sum_of f e entries here later = sum_by-cons f e entries ∙ ap₂ (λ m n. m + n) here later

@@ -19,27 +19,27 @@ use Rattle.xc_data.specs.declared.entry.Turn.{Turn}
 use Rattle.xc_data.specs.declared.entry.Turn.TheVariants as turn
 use Rattle.xc_host.specs.Model.{HostModel}
 use Rattle.xc_model.specs.Progress.{Following, Progress, after_entry, after_following, after_outcome, committed_job, following_abort, following_of}
-use Rattle.xc_model.specs.Progress.{opening_progress, started_blocks, started_job, untried}
+use Rattle.xc_model.specs.Progress.{opening_progress, started_blocks, started_following, untried}
 use Rattle.xc_script.specs.Blocks.{kept_calls}
 use Rattle.xc_text.specs.declared.script.Script.{Script}
 use Rattle.xc_turns.proofs.Laws.{get_front}
 use Rattle.xc_model.specs.declared.origin.Origin.{Origin}
 use Rattle.xc_turnstile.specs.declared.view.View.{View}
 use Rattle.xc_turnstile.specs.Views.{BeginsWith}
-use Rattle.xc_station.specs.Events.{IsTried}
+use Rattle.xc_station.specs.Events.{IsTurnTried}
 use Rattle.xc_station.specs.declared.job.Job.{Job}
-use Rattle.xc_station.specs.declared.start.Opening.{Opening}
-use Rattle.xc_station.specs.Names.{IsNameOf, name_at, told_blocks}
+use Rattle.xc_station.specs.declared.run_result.Opening.{Opening}
+use Rattle.xc_station.specs.Names.{IsNameOf, block_name_at, told_blocks}
 use Rattle.xc_station.specs.Stations.{StationView, live_at, lives}
-use Rattle.xc_serve.specs.Answers.{IsOwn, IsOwnIn, block_or_none}
+use Rattle.xc_serve.specs.Answers.{IsOwnBlock, IsOwnIn, block_or_none}
 
 -- the block of a started job
 abbrev block : Following → List ℕ
 block f = f.block
 
 -- those of all
-abbrev told : Progress → List (List ℕ)
-told p = map block p.jobs
+abbrev blocks_told : Progress → List (List ℕ)
+blocks_told p = map block p.jobs
 
 -- more come behind them
 abbrev Goes : List (List ℕ) → List (List ℕ) → Type 0
@@ -61,31 +61,31 @@ abort_block entered f e (cause.Revoked object by at) = refl
 
 -- by how the entry ended
 by_outcome : (script : Script) (p : Progress) (f : Following) (e : Entry) (o : Outcome) → slice_get p.jobs (e.job - 1) ≡ Some f
-    → Goes (told p) (told (after_outcome script p f e o))
+    → Goes (blocks_told p) (blocks_told (after_outcome script p f e o))
 by_outcome script p f e (Committed late) there =
     let job = committed_job script f.job e.calls e.replies late in
     one_set p.jobs (e.job - 1) f (untried f.block job (p.entered + 1))
-    (map (started_job script job (p.entered + 1)) (started_blocks (kept_calls e.calls e.replies) late)) there refl
+    (map (started_following script job (p.entered + 1)) (started_blocks (kept_calls e.calls e.replies) late)) there refl
 by_outcome script p f e (Aborted report) there = (
   [],
   map_set_same block p.jobs (e.job - 1) (following_abort p.entered f e report.cause) f there (abort_block p.entered f e report.cause)
-      ∙ sym (append-nil (told p)),
+      ∙ sym (append-nil (blocks_told p)),
 )
 
 -- by whether its job is started
 by_following : (script : Script) (p : Progress) (e : Entry) (o : Option Following) → following_of p e ≡ o
-    → Goes (told p) (told (after_following script p e o))
-by_following script p e None there = ([], sym (append-nil (told p)))
+    → Goes (blocks_told p) (blocks_told (after_following script p e o))
+by_following script p e None there = ([], sym (append-nil (blocks_told p)))
 by_following script p e (Some f) there = by_outcome script p f e e.outcome there
 
 -- what entries add stands behind
-all_go : (script : Script) (p : Progress) (journal : List Entry) → Goes (told p) (told (fold (after_entry script) p journal))
-all_go script p [] = ([], sym (append-nil (told p)))
+all_go : (script : Script) (p : Progress) (journal : List Entry) → Goes (blocks_told p) (blocks_told (fold (after_entry script) p journal))
+all_go script p [] = ([], sym (append-nil (blocks_told p)))
 all_go script p (e ∷ journal) =
-    let one : Goes (told p) (told (after_entry script p e)) = by_following script p e (following_of p e) refl in
-    let rest : Goes (told (after_entry script p e)) (told (fold (after_entry script) (after_entry script p e) journal)) =
+    let one : Goes (blocks_told p) (blocks_told (after_entry script p e)) = by_following script p e (following_of p e) refl in
+    let rest : Goes (blocks_told (after_entry script p e)) (blocks_told (fold (after_entry script) (after_entry script p e) journal)) =
     all_go script (after_entry script p e) journal in
-    (one.0 ++ rest.0, rest.1 ∙ (ap (λ (bs : List (List ℕ)). bs ++ rest.0) one.1 ∙ append_assoc (told p) one.0 rest.0))
+    (one.0 ++ rest.0, rest.1 ∙ (ap (λ (bs : List (List ℕ)). bs ++ rest.0) one.1 ∙ append_assoc (blocks_told p) one.0 rest.0))
 
 -- a chosen value stays
 chosen : (t : Bool) (x y : Option (List ℕ)) (b : List ℕ) → (x ≡ Some b → y ≡ Some b) → (if t then None else x) ≡ Some b → (if t then None else y) ≡ Some b
@@ -93,19 +93,19 @@ chosen true x y b on h = h
 chosen false x y b on h = on h
 
 -- a name stays where the journal grows
-pub names_stay : (script : Script) (xs ys : List Entry) → BeginsWith ys xs → (job : ℕ) (b : List ℕ) → name_at (told_blocks script xs) job ≡ Some b
-    → name_at (told_blocks script ys) job ≡ Some b
+pub names_stay : (script : Script) (xs ys : List Entry) → BeginsWith ys xs → (job : ℕ) (b : List ℕ) → block_name_at (told_blocks script xs) job ≡ Some b
+    → block_name_at (told_blocks script ys) job ≡ Some b
 names_stay script xs ys h job b is =
     let more = all_go script (fold (after_entry script) (opening_progress script) xs) h.0 in
     let same : told_blocks script ys ≡ told_blocks script xs ++ more.0 =
-    ap (told_blocks script) h.1 ∙ (ap told (fold-append (after_entry script) (opening_progress script) xs h.0) ∙ more.1) in
-    subst (λ (bs : List (List ℕ)). name_at bs job ≡ Some b) (sym same)
+    ap (told_blocks script) h.1 ∙ (ap blocks_told (fold-append (after_entry script) (opening_progress script) xs h.0) ∙ more.1) in
+    subst (λ (bs : List (List ℕ)). block_name_at bs job ≡ Some b) (sym same)
     (chosen (job == 0) (slice_get (told_blocks script xs) (job - 1)) (slice_get (told_blocks script xs ++ more.0) (job - 1)) b
     (λ e. get_front (told_blocks script xs) more.0 (job - 1) b e) is)
 
 -- so does the job's own
-pub own_stays : (script : Script) (xs ys : List Entry) → BeginsWith ys xs → (job : ℕ) (b : List ℕ) (last : Option Turn) → IsOwn script xs job b last
-    → IsOwn script ys job b last
+pub own_stays : (script : Script) (xs ys : List Entry) → BeginsWith ys xs → (job : ℕ) (b : List ℕ) (last : Option Turn) → IsOwnBlock script xs job b last
+    → IsOwnBlock script ys job b last
 own_stays script xs ys h job b None own = tt
 own_stays script xs ys h job b (Some turn.Went) own = tt
 own_stays script xs ys h job b (Some (turn.Busy object holder)) own = tt
@@ -114,7 +114,7 @@ own_stays script xs ys h job b (Some (turn.Ended end)) own = names_stay script x
 
 -- also as a pass knows it
 own_by : (o : Option Origin) (xs ys : List Entry) → BeginsWith ys xs → (job : ℕ) (b : List ℕ) (last : Option Turn)
-    → IsSomeAnd o (λ (from : Origin). IsOwn from.script xs job b last) → IsSomeAnd o (λ (from : Origin). IsOwn from.script ys job b last)
+    → IsSomeAnd o (λ (from : Origin). IsOwnBlock from.script xs job b last) → IsSomeAnd o (λ (from : Origin). IsOwnBlock from.script ys job b last)
 own_by None xs ys h job b last own = own
 own_by (Some from) xs ys h job b last own = own_stays from.script xs ys h job b last own
 
@@ -122,15 +122,15 @@ own_by (Some from) xs ys h job b last own = own_stays from.script xs ys h job b 
 pub own_longer : (v w : View) → w.origin ≡ v.origin → BeginsWith w.seen v.seen → (job : ℕ) (b : List ℕ) (last : Option Turn) → IsOwnIn v job b last
     → IsOwnIn w job b last
 own_longer v w same h job b last own =
-    subst (λ (o : Option Origin). IsSomeAnd o (λ (from : Origin). IsOwn from.script w.seen job b last)) (sym same)
+    subst (λ (o : Option Origin). IsSomeAnd o (λ (from : Origin). IsOwnBlock from.script w.seen job b last)) (sym same)
     (own_by v.origin v.seen w.seen h job b last own)
 
 -- a pass that knows a station's journal and origin knows the job's own
 pub own_known : (v : View) (from : Origin) (journal : List Entry) → v.origin ≡ Some from → v.seen ≡ journal → (job : ℕ) (b : List ℕ) (last : Option Turn)
-    → IsOwn from.script journal job b last → IsOwnIn v job b last
+    → IsOwnBlock from.script journal job b last → IsOwnIn v job b last
 own_known v from journal origin seen job b last own =
-    subst (λ (o : Option Origin). IsSomeAnd o (λ (f : Origin). IsOwn f.script v.seen job b last)) (sym origin)
-    (subst (λ (es : List Entry). IsOwn from.script es job b last) (sym seen) own)
+    subst (λ (o : Option Origin). IsSomeAnd o (λ (f : Origin). IsOwnBlock f.script v.seen job b last)) (sym origin)
+    (subst (λ (es : List Entry). IsOwnBlock from.script es job b last) (sym seen) own)
 
 -- ---- a job that is live
 -- a number that isn't 0
@@ -158,16 +158,16 @@ live_within jobs number live =
 
 -- a job that took a turn was live
 tried_live : {H : Type 0} (model : HostModel H) (job : ℕ) (station : Step (StationView H)) (a : Turn) (t : Bool) (live : Bool) → live ≡ t
-    → IsTried model job station t (Some a) → live ≡ true
+    → IsTurnTried model job station t (Some a) → live ≡ true
 tried_live model job station a true live is tried = is
 tried_live model job station a false live is tried = absurd tried
 
 -- the name of a job before a turn is the job's own behind it
 pub own_told : {H : Type 0} (model : HostModel H) (job : ℕ) (station : Step (StationView H)) (name : Option (List ℕ)) (answer : Option Turn)
-    → IsTried model job station (live_at station.old.jobs job) answer → station.new.opening ≡ station.old.opening
+    → IsTurnTried model job station (live_at station.old.jobs job) answer → station.new.opening ≡ station.old.opening
     → BeginsWith station.new.journal station.old.journal
     → (1 ≤ job → job ≤ length station.old.jobs → IsNameOf station.old.opening.script station.old.journal job name)
-    → IsOwn station.new.opening.script station.new.journal job (block_or_none name) answer
+    → IsOwnBlock station.new.opening.script station.new.journal job (block_or_none name) answer
 own_told model job station name None tried same front named = tt
 own_told model job station name (Some turn.Went) tried same front named = tt
 own_told model job station name (Some (turn.Busy object holder)) tried same front named = tt
@@ -176,7 +176,7 @@ own_told model job station name (Some (turn.Ended end)) tried same front named =
     let was = station.old in
     let (some, few) = live_within was.jobs job (tried_live model job station (turn.Ended end) (live_at was.jobs job) (live_at was.jobs job) refl tried) in
     let known = named some few in
-    let later : name_at (told_blocks was.opening.script station.new.journal) job ≡ Some known.block =
+    let later : block_name_at (told_blocks was.opening.script station.new.journal) job ≡ Some known.block =
     names_stay was.opening.script was.journal station.new.journal front job known.block known.told in
     let is : Some known.block ≡ Some (block_or_none name) = ap (λ (b : List ℕ). Some b) (sym (ap block_or_none known.is)) in
-    subst (λ (o : Opening). name_at (told_blocks o.script station.new.journal) job ≡ Some (block_or_none name)) (sym same) (later ∙ is)
+    subst (λ (o : Opening). block_name_at (told_blocks o.script station.new.journal) job ≡ Some (block_or_none name)) (sym same) (later ∙ is)

@@ -5,27 +5,16 @@ use Rattle.std.proofs.Math.ListN.{drop_of_length-le}
 use Rattle.std.proofs.lemmas.List.{append-nil}
 use Rattle.xc_data.specs.declared.entry.Entry.{Entry}
 use Rattle.xc_data.specs.declared.entry.Event.{Event}
-use Rattle.xc_station.specs.Events.{IsEvent, meaning_of}
-use Rattle.xc_station.specs.Stations.{StationView}
 use Rattle.xc_turnstile.specs.declared.view.View.{View}
 use Rattle.xc_turnstile.specs.Insides.{Gains, GainsEvent, IsInside, IsNext}
 use Rattle.xc_turnstile.specs.Known.{Known}
 use Rattle.xc_turnstile.specs.Meanings.{Meaning, boxed}
 use Rattle.xc_turnstile.specs.Views.{AreAtPlaces, added, entered_view, left_view, numbered}
-use Rattle.xc_turnstile.proofs.Laws.{gains_at, goes_further, numbered_stands, stands_append, stands_longer, starts_self}
+use Rattle.xc_turnstile.proofs.Laws.{gains_at, pass_goes_further, numbered_stands, stands_append, stands_longer, starts_self}
 use Rattle.xc_print.specs.Entries.{journal_text}
-use Rattle.xc_serve.specs.Answers.{texts}
+use Rattle.xc_serve.specs.Answers.{entry_texts}
 
 -- ---- one entering
--- an event of a station leads on
-pub event_next : {H : Type 0} (old new : StationView H) (event : Event) → IsEvent old new event → IsNext meaning_of old new event
-event_next old new event is =
-    record {
-      front = is.front;
-      origin = λ i. record { script = (is.origin.opening i).script; faults = (is.origin.opening i).faults; rules = is.origin.rules i };
-      count = is.count;
-      last = is.last;
-    }
 
 -- a value that was handed out in its box
 pub unboxed : {X Z : Type 0} (m : Meaning X) (pass hold : Known) (b : Box X Z) → IsInside (boxed m) pass hold b → IsInside m pass hold b.value
@@ -68,7 +57,7 @@ gains_nothing a =
 pub gains_further : (a b c : Known) (es fs : List Event) (ps qs : List (ℕ × Entry)) → Gains a b es ps → Gains b c fs qs → Gains a c (es ++ fs) (ps ++ qs)
 gains_further a b c es fs ps qs p q =
     record {
-      goes = goes_further a b c p.goes q.goes;
+      goes = pass_goes_further a b c p.goes q.goes;
       gained = q.gained ∙ (ap (λ xs. xs ++ fs) p.gained ∙ append_assoc a.view.events es fs);
       mine = q.mine ∙ (ap (λ xs. xs ++ qs) p.mine ∙ append_assoc a.view.mine ps qs);
       stand = stands_append ps qs c.view.seen (stands_longer ps c.view.seen b.view.seen q.goes.seen p.stand) q.stand;
@@ -86,5 +75,5 @@ journal_text-append [] fs = refl
 journal_text-append (e ∷ es) fs = rw (journal_text-append es fs) (sym (append_assoc _ (journal_text es) (journal_text fs)))
 
 -- the text of what was added
-pub texts_added : (n : ℕ) (journal : List Entry) → texts (added n journal) ≡ journal_text (drop n journal)
+pub texts_added : (n : ℕ) (journal : List Entry) → entry_texts (added n journal) ≡ journal_text (drop n journal)
 texts_added n journal = ap journal_text (numbered_entries n (drop n journal))

@@ -20,17 +20,17 @@ use Rattle.xc_turnstile.specs.Known.{Known}
 use Rattle.xc_turnstile.specs.declared.view.View.{View}
 use Rattle.xc_turnstile.specs.Views.{BeginsWith}
 use Rattle.xc_data.specs.Counts.{counted}
-use Rattle.xc_serve.specs.declared.answer.Answer.{Answer}
+use Rattle.xc_serve.specs.declared.answer.ServeAnswer.{ServeAnswer}
 use Rattle.xc_serve.specs.declared.order.Order.{Order}
 use Rattle.xc_serve.specs.declared.order.Order.TheVariants as order
 use Rattle.xc_serve.specs.declared.serve.Next.{Next}
 use Rattle.xc_serve.specs.declared.serve.Next.TheVariants as next
 use Rattle.xc_serve.specs.declared.serve.SessionEnd.{SessionEnd}
 use Rattle.xc_serve.specs.declared.serve.SessionEnd.TheVariants as end
-use Rattle.xc_serve.specs.Answers.{IsAnswer, looked_up, not_yet_line, text_at}
+use Rattle.xc_serve.specs.Answers.{IsServeAnswer, looked_up, not_yet_line, text_at}
 use Rattle.xc_turnstile.specs.Insides.{Gains}
-use Rattle.xc_serve.specs.Gains.{IsFollowed}
-use Rattle.xc_serve.specs.Sessions.{EndsIn, Exchange, GoesOn, HasServed, IsAsked, IsExchange, IsServing, IsSession, Takes}
+use Rattle.xc_serve.specs.Gains.{IsOrderFollowed}
+use Rattle.xc_serve.specs.Sessions.{EndsIn, Exchange, SessionGoesOn, HasServed, IsAsked, IsExchange, IsServing, IsSession, TakesAnswers}
 use Rattle.xc_serve.specs.Sessions.{answers_of, entries_of, events_of, reads}
 use Rattle.xc_serve.specs.Serving.{IsSaid, IsSaidIf, IsServed}
 use Rattle.xc_serve.proofs.Blocks.{own_longer}
@@ -67,7 +67,7 @@ record Longer (v w : View) : Type 0 where
 
 -- an answer stays right
 answer_longer : (v w : View) (o : Order) (es : List Event) (ps : List (ℕ × Entry)) (answer : List ℕ) → Longer v w
-    → IsAnswer v o es ps answer → IsAnswer w o es ps answer
+    → IsServeAnswer v o es ps answer → IsServeAnswer w o es ps answer
 answer_longer v w order.Work es ps answer h (inl k) = inl k
 answer_longer v w order.Work es ps answer h (inr k) =
     inr (record {
@@ -120,7 +120,7 @@ serving_nothing a w =
         took = Appends-nil w.taken;
         later = omega arith;
       };
-      going = All-nil (λ (x : Exchange). GoesOn x.order);
+      going = All-nil (λ (x : Exchange). SessionGoesOn x.order);
     }
 
 -- a count that rose in a part of a session rose in it
@@ -140,7 +140,7 @@ front_took a b c xs ys n p q = subst (Appends a c) (sym (take-append-add xs ys n
 
 -- ---- a line that was read, and followed
 module _ (a b c : Known) (w0 w1 w2 : Wire) (h : IsServing a b w0 w1) (o : Order) (asked : IsAsked w1 w2 (Some o)) (kept : Keeps w1.taken w2.taken)
-    (later : w1.faults ≤ w2.faults) (told : Option Answer) (k : IsFollowed b c o told) where
+    (later : w1.faults ≤ w2.faults) (told : Option ServeAnswer) (k : IsOrderFollowed b c o told) where
   -- with what came of it
   abbrev line : Exchange
   line = record { read = asked.0; order = o; events = k.events; entries = k.entries; answer = k.answer }
@@ -169,7 +169,7 @@ module _ (a b c : Known) (w0 w1 w2 : Wire) (h : IsServing a b w0 w1) (o : Order)
       }
 
   -- ---- no memory for its answer
-  pub ends_starved : GoesOn o → IsSession a c w0 w2 end.NoMemory
+  pub ends_starved : SessionGoesOn o → IsSession a c w0 w2 end.NoMemory
   ends_starved goes =
       record {
         lines = lines_more;
@@ -231,16 +231,16 @@ module _ (a b c : Known) (w0 w1 w2 : Wire) (h : IsServing a b w0 w1) (o : Order)
           }
 
       -- the session goes on
-      pub serves_on : GoesOn o → IsServing a c w0 w3
+      pub serves_on : SessionGoesOn o → IsServing a c w0 w3
       serves_on goes =
           record {
             lines = lines_more;
             served = line_answered;
-            going = All-push (λ (x : Exchange). GoesOn x.order) h.lines line h.going goes;
+            going = All-push (λ (x : Exchange). SessionGoesOn x.order) h.lines line h.going goes;
           }
 
       -- or ends by this line
-      pub ends_by : (e : SessionEnd) → Takes e w0 w3 (answers_of lines_more) → EndsIn (Some line) e w0 w3 → IsSession a c w0 w3 e
+      pub ends_by : (e : SessionEnd) → TakesAnswers e w0 w3 (answers_of lines_more) → EndsIn (Some line) e w0 w3 → IsSession a c w0 w3 e
       ends_by e takes ends =
           record {
             lines = lines_more;
@@ -270,7 +270,7 @@ module _ (a b c : Known) (w0 w1 w2 : Wire) (h : IsServing a b w0 w1) (o : Order)
 module _ (a b : Known) (w0 w1 w2 : Wire) (h : IsServing a b w0 w1) (kept : Keeps w1.taken w2.taken) (later : w1.faults ≤ w2.faults) where
   -- the session ends behind the lines so far
   no_line : (e : SessionEnd) (rest : List ℕ) → length rest < 65 → IsWithin rest → Consumes w1.left w2.left rest
-      → Takes e w0 w2 (answers_of h.lines) → EndsIn None e w0 w2 → IsSession a b w0 w2 e
+      → TakesAnswers e w0 w2 (answers_of h.lines) → EndsIn None e w0 w2 → IsSession a b w0 w2 e
   no_line e rest short within came takes ends =
       record {
         lines = h.lines;
@@ -305,14 +305,14 @@ module _ (a b : Known) (w0 w1 w2 : Wire) (h : IsServing a b w0 w1) (kept : Keeps
 
 -- ---- a line that was served
 -- where the session stands behind it
-abbrev pub Stands : Known → Known → Wire → Wire → Next → Type 0
-Stands old new before after next.Line = IsServing old new before after
-Stands old new before after (next.End e) = IsSession old new before after e
+abbrev pub SessionStands : Known → Known → Wire → Wire → Next → Type 0
+SessionStands old new before after next.Line = IsServing old new before after
+SessionStands old new before after (next.End e) = IsSession old new before after e
 
 module _ (a b c : Known) (w0 w1 w2 w3 : Wire) (h : IsServing a b w0 w1) (o : Order) (asked : IsAsked w1 w2 (Some o)) (kept : Keeps w1.taken w2.taken)
     (later : w1.faults ≤ w2.faults) where
   -- where there was an answer
-  by_next : (ans : Answer) (k : IsFollowed b c o (Some ans)) (to : Next) → IsSaid w2 w3 o k.answer to → Stands a c w0 w3 to
+  by_next : (ans : ServeAnswer) (k : IsOrderFollowed b c o (Some ans)) (to : Next) → IsSaid w2 w3 o k.answer to → SessionStands a c w0 w3 to
   by_next ans k next.Line (goes, wrote) =
       serves_on a b c w0 w1 w2 h o asked kept later (Some ans) k w3 wrote.left wrote.later wrote.took goes
   by_next ans k (next.End end.Quit) (is, wrote) =
@@ -324,13 +324,13 @@ module _ (a b c : Known) (w0 w1 w2 w3 : Wire) (h : IsServing a b w0 w1) (o : Ord
   by_next ans k (next.End end.NoMemory) never = absurd never
 
   -- and where there was none
-  by_told : (told : Option Answer) (to : Next) → IsFollowed b c o told → IsSaidIf w2 w3 o told to → Stands a c w0 w3 to
+  by_told : (told : Option ServeAnswer) (to : Next) → IsOrderFollowed b c o told → IsSaidIf w2 w3 o told to → SessionStands a c w0 w3 to
   by_told None to k (is, same) =
-      subst (Stands a c w0 w3) (sym is)
+      subst (SessionStands a c w0 w3) (sym is)
       (subst (λ (w : Wire). IsSession a c w0 w end.NoMemory) (sym same)
       (ends_starved a b c w0 w1 w2 h o asked kept later None k (k.starved refl)))
   by_told (Some ans) to k said = by_next ans k to (subst (λ (bytes : List ℕ). IsSaid w2 w3 o bytes to) k.told_is said)
 
   -- either
-  pub line_served : (to : Next) → IsServed b c (record { old = w2; new = w3 }) o to → Stands a c w0 w3 to
+  pub line_served : (to : Next) → IsServed b c (record { old = w2; new = w3 }) o to → SessionStands a c w0 w3 to
   line_served to s = by_told s.told to s.followed s.said

@@ -17,8 +17,8 @@ use Rattle.xc_runner.specs.Walks.{is_last}
 use Rattle.xc_turnstile.specs.Views.{added}
 use Rattle.xc_print.specs.Entries.{entry_text, journal_text}
 use Rattle.xc_data.specs.declared.memory.NoMemory.{NoMemory}
-use Rattle.xc_serve.specs.declared.answer.Answer.{Answer}
-use Rattle.xc_serve.specs.Answers.{IsLook, looked_up, not_yet_line, text_at, texts, turns_of}
+use Rattle.xc_serve.specs.declared.answer.ServeAnswer.{ServeAnswer}
+use Rattle.xc_serve.specs.Answers.{IsLook, looked_up, not_yet_line, text_at, entry_texts, turn_events}
 use Rattle.xc_turnstile.specs.Insides.{Gains}
 use Rattle.xc_serve.specs.Gains.{Grows, HasGone, IsMade, IsText, IsTold, IsToldJob, IsToldTurn, closing_if}
 use Rattle.xc_serve.proofs.Gained.{gains_further, gains_nothing, journal_text-append, texts_added}
@@ -43,7 +43,7 @@ grows_made (Ok t) a b text same grows lost = subst (Grows a b) same grows
 grows_made (Err e) a b text same grows lost = grows_lost a b text lost
 
 -- the texts of two parts
-pub texts-append : (xs ys : List (ℕ × Entry)) → texts (xs ++ ys) ≡ texts xs ++ texts ys
+pub texts-append : (xs ys : List (ℕ × Entry)) → entry_texts (xs ++ ys) ≡ entry_texts xs ++ entry_texts ys
 texts-append xs ys =
     ap journal_text (map-append (λ (e : ℕ × Entry). e.1) xs ys)
     ∙ journal_text-append (map (λ (e : ℕ × Entry). e.1) xs) (map (λ (e : ℕ × Entry). e.1) ys)
@@ -59,7 +59,7 @@ text_more es i e lt is =
 
 -- the entries that were added, as a slice
 pub grows_added : (a b : Option (List ℕ)) (old new was is : List Entry) → old ≡ was → new ≡ is
-    → Grows a b (journal_text (take (length new - length old) (drop (length old) new))) → Grows a b (texts (added (length was) is))
+    → Grows a b (journal_text (take (length new - length old) (drop (length old) new))) → Grows a b (entry_texts (added (length was) is))
 grows_added a b old new was is p q h =
     let rest : journal_text (take (length new - length old) (drop (length old) new)) ≡ journal_text (drop (length old) new) =
     ap journal_text (take_rest new (length old)) in
@@ -69,10 +69,10 @@ grows_added a b old new was is p q h =
 
 -- ---- what is told
 -- an answer whose text was made, or not
-pub told_made : (r : Result (List ℕ) NoMemory) (told : Option Answer) (text : List ℕ) → IfOk r (λ (t : List ℕ). t ≡ text) → IsMade r told
+pub told_made : (r : Result (List ℕ) NoMemory) (told : Option ServeAnswer) (text : List ℕ) → IfOk r (λ (t : List ℕ). t ≡ text) → IsMade r told
     → IsTold told text
-told_made (Ok t) told text same made = subst (λ (o : Option Answer). IsTold o text) (sym made) same
-told_made (Err e) told text same made = subst (λ (o : Option Answer). IsTold o text) (sym made) tt
+told_made (Ok t) told text same made = subst (λ (o : Option ServeAnswer). IsTold o text) (sym made) same
+told_made (Err e) told text same made = subst (λ (o : Option ServeAnswer). IsTold o text) (sym made) tt
 
 -- ---- a look
 -- by whether the place is below the length
@@ -97,7 +97,8 @@ look_is seen journal count place same is =
 
 -- ---- a job's turns
 -- one turn more
-turns_more : (job : ℕ) (before : List (Option Turn)) (last : Option Turn) → turns_of job (before ++ last ∷ []) ≡ turns_of job before ++ Turned job last ∷ []
+turns_more : (job : ℕ) (before : List (Option Turn)) (last : Option Turn)
+    → turn_events job (before ++ last ∷ []) ≡ turn_events job before ++ Turned job last ∷ []
 turns_more job before last = map-append (λ (answer : Option Turn). Turned job answer) before (last ∷ [])
 
 -- no turn yet
@@ -114,33 +115,33 @@ gone_nowhere a job =
 module _ (a b c : Known) (job : ℕ) (answer : Option Turn) (told after : Option (List ℕ)) (h : HasGone a b job told)
     (k : IsToldTurn b c job answer (record { old = told; new = after })) where
   -- what the turns so far and this one gained
-  both_gain : Gains a c (turns_of job (h.before ++ answer ∷ [])) (h.entries ++ k.entries)
+  both_gain : Gains a c (turn_events job (h.before ++ answer ∷ [])) (h.entries ++ k.entries)
   both_gain =
       subst (λ (es : List Event). Gains a c es (h.entries ++ k.entries)) (sym (turns_more job h.before answer))
-      (gains_further a b c (turns_of job h.before) (Turned job answer ∷ []) h.entries k.entries h.gains k.gains)
+      (gains_further a b c (turn_events job h.before) (Turned job answer ∷ []) h.entries k.entries h.gains k.gains)
 
   -- and their text
   both_told : (last : Bool) → is_last answer ≡ last
-      → IsText after (texts (h.entries ++ k.entries) ++ closing_if last job k.block answer)
+      → IsText after (entry_texts (h.entries ++ k.entries) ++ closing_if last job k.block answer)
   both_told last is =
-      let all : IsText after (texts h.entries ++ (texts k.entries ++ closing_if (is_last answer) job k.block answer)) =
-      k.grows (texts h.entries) h.text in
-      let way : texts h.entries ++ (texts k.entries ++ closing_if (is_last answer) job k.block answer)
-      ≡ texts (h.entries ++ k.entries) ++ closing_if last job k.block answer =
-      sym (append_assoc (texts h.entries) (texts k.entries) (closing_if (is_last answer) job k.block answer))
+      let all : IsText after (entry_texts h.entries ++ (entry_texts k.entries ++ closing_if (is_last answer) job k.block answer)) =
+      k.grows (entry_texts h.entries) h.text in
+      let way : entry_texts h.entries ++ (entry_texts k.entries ++ closing_if (is_last answer) job k.block answer)
+      ≡ entry_texts (h.entries ++ k.entries) ++ closing_if last job k.block answer =
+      sym (append_assoc (entry_texts h.entries) (entry_texts k.entries) (closing_if (is_last answer) job k.block answer))
       ∙ ap (λ (xs : List ℕ). xs ++ closing_if (is_last answer) job k.block answer) (sym (texts-append h.entries k.entries))
-      ∙ ap (λ (t : Bool). texts (h.entries ++ k.entries) ++ closing_if t job k.block answer) is in
+      ∙ ap (λ (t : Bool). entry_texts (h.entries ++ k.entries) ++ closing_if t job k.block answer) is in
       subst (IsText after) way all
 
   -- it goes on
-  pub gone_on : is_last answer ≡ false → HasGone a c job after
-  gone_on is =
+  pub turn_gone_on : is_last answer ≡ false → HasGone a c job after
+  turn_gone_on is =
       record {
         before = h.before ++ answer ∷ [];
         entries = h.entries ++ k.entries;
         gains = both_gain;
         went_on = All-push (λ (turn : Option Turn). is_last turn ≡ false) h.before answer h.went_on is;
-        text = subst (IsText after) (append-nil (texts (h.entries ++ k.entries))) (both_told false is);
+        text = subst (IsText after) (append-nil (entry_texts (h.entries ++ k.entries))) (both_told false is);
       }
 
   -- it was the last

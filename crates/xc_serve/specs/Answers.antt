@@ -12,12 +12,12 @@ use Rattle.xc_data.specs.declared.entry.Turn.TheVariants as turn
 use Rattle.xc_print.specs.Entries.{entry_text, journal_text}
 use Rattle.xc_print.specs.Text.{job_line}
 use Rattle.xc_runner.specs.Walks.{is_last}
-use Rattle.xc_station.specs.Names.{name_at, told_blocks}
+use Rattle.xc_station.specs.Names.{block_name_at, told_blocks}
 use Rattle.xc_text.specs.declared.script.Script.{Script}
 use Rattle.xc_model.specs.declared.origin.Origin.{Origin}
 use Rattle.xc_turnstile.specs.declared.view.View.{View}
-use Rattle.xc_serve.specs.declared.answer.Answer.{Answer}
-use Rattle.xc_serve.specs.declared.answer.Answer.TheVariants as answer
+use Rattle.xc_serve.specs.declared.answer.ServeAnswer.{ServeAnswer}
+use Rattle.xc_serve.specs.declared.answer.ServeAnswer.TheVariants as answer
 use Rattle.xc_serve.specs.declared.order.Order.{Order}
 use Rattle.xc_serve.specs.declared.order.Order.TheVariants as order
 
@@ -52,12 +52,12 @@ too_long_line = codes "too long\n"
 
 -- ---- a job
 -- the texts of entries, in order
-abbrev pub texts : List (ℕ × Entry) → List ℕ
-texts entries = journal_text (map (λ (e : ℕ × Entry). e.1) entries)
+abbrev pub entry_texts : List (ℕ × Entry) → List ℕ
+entry_texts entries = journal_text (map (λ (e : ℕ × Entry). e.1) entries)
 
 -- turns of a job with these answers
-abbrev pub turns_of : ℕ → List (Option Turn) → List Event
-turns_of job answers = map (λ answer. Turned job answer) answers
+abbrev pub turn_events : ℕ → List (Option Turn) → List Event
+turn_events job answers = map (λ answer. Turned job answer) answers
 
 -- a block, or no bytes where none is known
 abbrev pub block_or_none : Option (List ℕ) → List ℕ
@@ -65,18 +65,18 @@ block_or_none None = []
 block_or_none (Some block) = block
 
 -- what stands behind a job's entries: its line, with its block and its end, or that it had ended before
-abbrev pub closing : ℕ → List ℕ → Option Turn → List ℕ
-closing job block (Some (turn.Ended end)) = job_line job (record { block = block; end = end })
-closing job block _ = ended_line
+abbrev pub job_closing : ℕ → List ℕ → Option Turn → List ℕ
+job_closing job block (Some (turn.Ended end)) = job_line job (record { block = block; end = end })
+job_closing job block _ = ended_line
 
 -- where the job's line is printed, its block is the job's own, as this journal tells it
-abbrev pub IsOwn : Script → List Entry → ℕ → List ℕ → Option Turn → Type 0
-IsOwn script journal job block (Some (turn.Ended end)) = name_at (told_blocks script journal) job ≡ Some block
-IsOwn script journal job block _ = Unit {0}
+abbrev pub IsOwnBlock : Script → List Entry → ℕ → List ℕ → Option Turn → Type 0
+IsOwnBlock script journal job block (Some (turn.Ended end)) = block_name_at (told_blocks script journal) job ≡ Some block
+IsOwnBlock script journal job block _ = Unit {0}
 
 -- the same, as a pass knows the journal
 abbrev pub IsOwnIn : View → ℕ → List ℕ → Option Turn → Type 0
-IsOwnIn v job block last = IsSomeAnd v.origin (λ (from : Origin). IsOwn from.script v.seen job block last)
+IsOwnIn v job block last = IsSomeAnd v.origin (λ (from : Origin). IsOwnBlock from.script v.seen job block last)
 
 -- a job was picked and its turns were taken, up to the first answer after which it takes none: the entries, and how it ended
 pub record IsWorked (v : View) (events : List Event) (entries : List (ℕ × Entry)) (answer : List ℕ) : Type 0 where
@@ -84,11 +84,11 @@ pub record IsWorked (v : View) (events : List Event) (entries : List (ℕ × Ent
   pub before : List (Option Turn)
   pub last : Option Turn
   pub block : List ℕ
-  pub gained : events ≡ Picked (Some job) ∷ turns_of job (before ++ last ∷ [])
+  pub gained : events ≡ Picked (Some job) ∷ turn_events job (before ++ last ∷ [])
   pub went_on : All (λ turn. is_last turn ≡ false) before
   pub ends : is_last last ≡ true
   pub own : IsOwnIn v job block last
-  pub said : answer ≡ texts entries ++ closing job block last
+  pub said : answer ≡ entry_texts entries ++ job_closing job block last
 
 -- no job was left
 pub record IsIdle (events : List Event) (entries : List (ℕ × Entry)) (answer : List ℕ) : Type 0 where
@@ -115,24 +115,24 @@ pub record IsLook (seen : List Entry) (say : ℕ → List ℕ) (events : List Ev
   pub said : answer ≡ say count
 
 -- nothing was done, and this is said
-pub record IsPlain (say : List ℕ) (events : List Event) (entries : List (ℕ × Entry)) (answer : List ℕ) : Type 0 where
+pub record IsPlainAnswer (say : List ℕ) (events : List Event) (entries : List (ℕ × Entry)) (answer : List ℕ) : Type 0 where
   pub gained : events ≡ []
   pub none : entries ≡ []
   pub said : answer ≡ say
 
 -- ---- any line
 -- what it is answered, from the events and the entries that the pass gained for it, and what the pass knows by then
-abbrev pub IsAnswer : View → Order → List Event → List (ℕ × Entry) → List ℕ → Type 0
-IsAnswer v order.Work events entries answer = IsIdle events entries answer ⊎ IsWorked v events entries answer
-IsAnswer v order.Seen events entries answer = IsLook v.seen seen_line events entries answer
-IsAnswer v (order.Entry place) events entries answer = IsLook v.seen (λ count. looked_up v.seen count place) events entries answer
-IsAnswer v order.Quit events entries answer = IsPlain bye_line events entries answer
-IsAnswer v order.Bad events entries answer = IsPlain bad_line events entries answer
-IsAnswer v order.TooLong events entries answer = IsPlain too_long_line events entries answer
+abbrev pub IsServeAnswer : View → Order → List Event → List (ℕ × Entry) → List ℕ → Type 0
+IsServeAnswer v order.Work events entries answer = IsIdle events entries answer ⊎ IsWorked v events entries answer
+IsServeAnswer v order.Seen events entries answer = IsLook v.seen seen_line events entries answer
+IsServeAnswer v (order.Entry place) events entries answer = IsLook v.seen (λ count. looked_up v.seen count place) events entries answer
+IsServeAnswer v order.Quit events entries answer = IsPlainAnswer bye_line events entries answer
+IsServeAnswer v order.Bad events entries answer = IsPlainAnswer bad_line events entries answer
+IsServeAnswer v order.TooLong events entries answer = IsPlainAnswer too_long_line events entries answer
 
 -- ---- as the code has it
 -- the bytes of an answer
-abbrev pub answer_bytes : Answer → List ℕ
+abbrev pub answer_bytes : ServeAnswer → List ℕ
 answer_bytes answer.NoJob = no_job_line
 answer_bytes answer.NotYet = not_yet_line
 answer_bytes answer.Bye = bye_line

@@ -12,11 +12,11 @@ use Rattle.xc_turnstile.specs.Known.{Known}
 use Rattle.xc_turnstile.specs.Views.{added}
 use Rattle.xc_runner.specs.Walks.{is_last}
 use Rattle.xc_data.specs.declared.memory.NoMemory.{NoMemory}
-use Rattle.xc_serve.specs.declared.answer.Answer.{Answer}
-use Rattle.xc_serve.specs.declared.answer.Answer.TheVariants as answer
+use Rattle.xc_serve.specs.declared.answer.ServeAnswer.{ServeAnswer}
+use Rattle.xc_serve.specs.declared.answer.ServeAnswer.TheVariants as answer
 use Rattle.xc_serve.specs.declared.order.Order.{Order}
 use Rattle.xc_serve.specs.declared.order.Order.TheVariants as order
-use Rattle.xc_serve.specs.Answers.{IsAnswer, IsOwn, IsOwnIn, answer_bytes, closing, texts, turns_of}
+use Rattle.xc_serve.specs.Answers.{IsServeAnswer, IsOwnBlock, IsOwnIn, answer_bytes, job_closing, entry_texts, turn_events}
 
 -- a text is this one, or was lost for lack of memory
 abbrev pub IsText : Option (List ℕ) → List ℕ → Type 0
@@ -29,7 +29,7 @@ Grows old new more = (text : List ℕ) → IsText old text → IsText new (text 
 -- what stands behind the entries of a turn: nothing where the job goes on
 abbrev pub closing_if : Bool → ℕ → List ℕ → Option Turn → List ℕ
 closing_if false job block last = []
-closing_if true job block last = closing job block last
+closing_if true job block last = job_closing job block last
 
 -- a text before and after
 abbrev pub Texts : Type 0
@@ -38,9 +38,9 @@ Texts = Step (Option (List ℕ))
 -- what a turn of a job did to a text: that of the entries behind the first so many came, and how the job ended
 pub record TellsTurn (script : Script) (journal : Step (List Entry)) (job : ℕ) (answer : Option Turn) (text : Texts) : Type 0 where
   pub block : List ℕ
-  pub own : IsOwn script journal.new job block answer
+  pub own : IsOwnBlock script journal.new job block answer
   pub grows : Grows text.old text.new
-      (texts (added (length journal.old) journal.new) ++ closing_if (is_last answer) job block answer)
+      (entry_texts (added (length journal.old) journal.new) ++ closing_if (is_last answer) job block answer)
 
 -- one turn of a job, with the text of the entries that it made and of how the job ended
 pub record IsToldTurn (old new : Known) (job : ℕ) (answer : Option Turn) (text : Texts) : Type 0 where
@@ -48,7 +48,7 @@ pub record IsToldTurn (old new : Known) (job : ℕ) (answer : Option Turn) (text
   pub block : List ℕ
   pub gains : Gains old new (Turned job answer ∷ []) entries
   pub own : IsOwnIn new.view job block answer
-  pub grows : Grows text.old text.new (texts entries ++ closing_if (is_last answer) job block answer)
+  pub grows : Grows text.old text.new (entry_texts entries ++ closing_if (is_last answer) job block answer)
 
 -- all turns of a job, with their text
 pub record IsToldJob (old new : Known) (job : ℕ) (told : Option (List ℕ)) : Type 0 where
@@ -56,35 +56,35 @@ pub record IsToldJob (old new : Known) (job : ℕ) (told : Option (List ℕ)) : 
   pub last : Option Turn
   pub block : List ℕ
   pub entries : List (ℕ × Entry)
-  pub gains : Gains old new (turns_of job (before ++ last ∷ [])) entries
+  pub gains : Gains old new (turn_events job (before ++ last ∷ [])) entries
   pub went_on : All (λ turn. is_last turn ≡ false) before
   pub ends : is_last last ≡ true
   pub own : IsOwnIn new.view job block last
-  pub text : IsText told (texts entries ++ closing job block last)
+  pub text : IsText told (entry_texts entries ++ job_closing job block last)
 
 -- turns of a job that goes on, with the text of their entries
 pub record HasGone (old new : Known) (job : ℕ) (told : Option (List ℕ)) : Type 0 where
   pub before : List (Option Turn)
   pub entries : List (ℕ × Entry)
-  pub gains : Gains old new (turns_of job before) entries
+  pub gains : Gains old new (turn_events job before) entries
   pub went_on : All (λ turn. is_last turn ≡ false) before
-  pub text : IsText told (texts entries)
+  pub text : IsText told (entry_texts entries)
 
 -- what an order was answered, where there was memory for it
-abbrev pub IsTold : Option Answer → List ℕ → Type 0
-IsTold told answer = IfSome told (λ (a : Answer). answer_bytes a ≡ answer)
+abbrev pub IsTold : Option ServeAnswer → List ℕ → Type 0
+IsTold told answer = IfSome told (λ (a : ServeAnswer). answer_bytes a ≡ answer)
 
 -- the text was made, or not
-abbrev pub IsMade : Result (List ℕ) NoMemory → Option Answer → Type 0
+abbrev pub IsMade : Result (List ℕ) NoMemory → Option ServeAnswer → Type 0
 IsMade (Ok text) told = told ≡ Some (answer.Told text)
 IsMade (Err e) told = told ≡ None
 
 -- an order was followed
-pub record IsFollowed (old new : Known) (asked : Order) (told : Option Answer) : Type 0 where
+pub record IsOrderFollowed (old new : Known) (asked : Order) (told : Option ServeAnswer) : Type 0 where
   pub events : List Event
   pub entries : List (ℕ × Entry)
   pub answer : List ℕ
   pub gains : Gains old new events entries
-  pub is : IsAnswer new.view asked events entries answer
+  pub is : IsServeAnswer new.view asked events entries answer
   pub told_is : IsTold told answer
   pub starved : told ≡ None → (asked ≢ order.Quit) × (asked ≢ order.TooLong)

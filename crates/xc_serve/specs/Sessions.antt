@@ -14,7 +14,7 @@ use Rattle.xc_serve.specs.declared.order.Order.{Order}
 use Rattle.xc_serve.specs.declared.order.Order.TheVariants as order
 use Rattle.xc_serve.specs.declared.serve.SessionEnd.{SessionEnd}
 use Rattle.xc_serve.specs.declared.serve.SessionEnd.TheVariants as end
-use Rattle.xc_serve.specs.Answers.{IsAnswer}
+use Rattle.xc_serve.specs.Answers.{IsServeAnswer}
 use Rattle.xc_turnstile.specs.Insides.{Gains}
 use Rattle.xc_serve.specs.Orders.{order_of}
 
@@ -46,12 +46,12 @@ Asks read asked = IsWholeLine read asked ⊎ IsLongLine read asked
 
 -- the line asks for this, and this is its answer, by what the pass knows
 abbrev pub IsExchange : View → Exchange → Type 0
-IsExchange v x = Asks x.read x.order × IsAnswer v x.order x.events x.entries x.answer
+IsExchange v x = Asks x.read x.order × IsServeAnswer v x.order x.events x.entries x.answer
 
 -- a list of this one, where there is one
-abbrev pub listed : Option Exchange → List Exchange
-listed None = []
-listed (Some x) = x ∷ []
+abbrev pub exchange_list : Option Exchange → List Exchange
+exchange_list None = []
+exchange_list (Some x) = x ∷ []
 
 -- all bytes that were read, in order
 abbrev pub reads : List Exchange → List ℕ
@@ -70,8 +70,8 @@ abbrev pub answers_of : List Exchange → List ℕ
 answers_of xs = flat_map (λ (x : Exchange). x.answer) xs
 
 -- the session goes on behind this line
-abbrev pub GoesOn : Order → Type 0
-GoesOn asked = (asked ≢ order.Quit) × (asked ≢ order.TooLong)
+abbrev pub SessionGoesOn : Order → Type 0
+SessionGoesOn asked = (asked ≢ order.Quit) × (asked ≢ order.TooLong)
 
 -- these lines were read, the pass gained what they gained, and these of them were answered
 pub record HasServed (old new : Known) (link : Step Wire) (lines answered : List Exchange) : Type 0 where
@@ -85,7 +85,7 @@ pub record HasServed (old new : Known) (link : Step Wire) (lines answered : List
 pub record IsServing (old new : Known) (before after : Wire) : Type 0 where
   pub lines : List Exchange
   pub served : HasServed old new (record { old = before; new = after }) lines lines
-  pub going : All (λ (x : Exchange). GoesOn x.order) lines
+  pub going : All (λ (x : Exchange). SessionGoesOn x.order) lines
 
 -- what was read of the next line: all of it; or a rest without an end, and no more comes
 abbrev pub IsAsked : Wire → Wire → Option Order → Type 0
@@ -94,10 +94,10 @@ IsAsked old new (Some asked) = (read : List ℕ) × Asks read asked × Consumes 
 
 -- ---- how a session ends
 -- the link took all answers; or a front of them
-abbrev pub Takes : SessionEnd → Wire → Wire → List ℕ → Type 0
-Takes end.Quit before after answers = Appends before.taken after.taken answers
-Takes end.TooLong before after answers = Appends before.taken after.taken answers
-Takes _ before after answers = (n : ℕ) × Appends before.taken after.taken (take n answers)
+abbrev pub TakesAnswers : SessionEnd → Wire → Wire → List ℕ → Type 0
+TakesAnswers end.Quit before after answers = Appends before.taken after.taken answers
+TakesAnswers end.TooLong before after answers = Appends before.taken after.taken answers
+TakesAnswers _ before after answers = (n : ℕ) × Appends before.taken after.taken (take n answers)
 
 -- the line in which it ends, behind lines that go on; or none, where no line came any more
 abbrev pub EndsIn : Option Exchange → SessionEnd → Wire → Wire → Type 0
@@ -107,7 +107,7 @@ EndsIn None _ before after = ⊥
 EndsIn (Some x) end.Quit before after = x.order ≡ order.Quit
 EndsIn (Some x) end.TooLong before after = x.order ≡ order.TooLong
 EndsIn (Some x) end.LinkFault before after = HasFailed (giving before) (giving after)
-EndsIn (Some x) end.NoMemory before after = GoesOn x.order
+EndsIn (Some x) end.NoMemory before after = SessionGoesOn x.order
 
 -- a whole session
 pub record IsSession (old new : Known) (before after : Wire) (end : SessionEnd) : Type 0 where
@@ -120,11 +120,11 @@ pub record IsSession (old new : Known) (before after : Wire) (end : SessionEnd) 
   -- what the pass gained for them, and no more; each entry stands at its place in what it has seen
   pub gains : Gains old new (events_of lines) (entries_of lines)
   -- their answers
-  pub took : Takes end before after (answers_of lines)
+  pub took : TakesAnswers end before after (answers_of lines)
   -- it ends in the last of them, where it ends in one
   pub front : List Exchange
   pub last : Option Exchange
-  pub parts : lines ≡ front ++ listed last
-  pub going : All (λ (x : Exchange). GoesOn x.order) front
+  pub parts : lines ≡ front ++ exchange_list last
+  pub going : All (λ (x : Exchange). SessionGoesOn x.order) front
   pub ends : EndsIn last end before after
   pub later : before.faults ≤ after.faults

@@ -1,12 +1,12 @@
 ghost use Rattle.std.specs.Prelude.{◌≡◌, ◌≤◌, ℕ, List, [], ◌∷◌, IfOk, length, slice_get};
 ghost use Rattle.xc_data.specs.declared.entry.Event.TheVariants.{Looked};
 ghost use Rattle.xc_serve.specs.Answers.{seen_line, text_at};
-ghost use Rattle.xc_serve.specs.Gains.{IsFollowed, IsMade, IsText, IsTold};
+ghost use Rattle.xc_serve.specs.Gains.{IsOrderFollowed, IsMade, IsText, IsTold};
 ghost use Rattle.xc_serve.specs.declared.order.Order.TheVariants as Asked;
 ghost use Rattle.xc_station.specs.Events.{IsEvent};
 ghost use Rattle.xc_turnstile.specs.Insides.{Gains};
 
-use crate::answer::Answer;
+use crate::answer::ServeAnswer;
 use crate::job::work_told;
 use crate::order::Order;
 use std::alloc::Global;
@@ -43,32 +43,32 @@ fn seen_text(alloc: Global, length: u32) -> Result<Text, NoMemory>
 }
 
 // What is told, where there was memory for it.
-fn told(text: Result<Text, NoMemory>) -> Option<Answer>
+fn told(text: Result<Text, NoMemory>) -> Option<ServeAnswer>
     ensures { IsMade text result }
 {
     match text {
-        Ok(text) => Some(Answer::Told(text)),
+        Ok(text) => Some(ServeAnswer::Told(text)),
         Err(NoMemory) => None,
     }
 }
 
 // A text that was not lost is told.
-fn all_told(text: Option<Text>) -> Option<Answer>
+fn all_told(text: Option<Text>) -> Option<ServeAnswer>
     ensures { (whole : List ℕ) → IsText text whole → IsTold result whole }
 {
     match text {
-        Some(text) => Some(Answer::Told(text)),
+        Some(text) => Some(ServeAnswer::Told(text)),
         None => None,
     }
 }
 
 // The text of the entry in this place.
-fn entry_in(alloc: Global, entries: &[Entry], place: u64) -> Option<Answer>
+fn entry_in(alloc: Global, entries: &[Entry], place: u64) -> Option<ServeAnswer>
     ensures { IsTold result (text_at (slice_get entries.now place)) }
 {
     match entries.get(place as usize) {
         Some(entry) => told(entry_text(alloc, entry)),
-        None => Some(Answer::NotYet),
+        None => Some(ServeAnswer::NotYet),
     }
 }
 
@@ -78,13 +78,13 @@ fn work<H: Host, R: Wait>(
     alloc: Global,
     shop: &Turnstile<Box<Station<H>>>,
     pass: Pass<Box<Station<H>>>,
-) -> (Pass<Box<Station<H>>>, Option<Answer>)
+) -> (Pass<Box<Station<H>>>, Option<ServeAnswer>)
     requires { pass.table ≡ shop.now.table.shared.table_id }
-    ensures { IsFollowed pass result.0 Asked.Work result.1 }
+    ensures { IsOrderFollowed pass result.0 Asked.Work result.1 }
 {
     let (pass, job) = pick(rt, shop, pass);
     let Some(job) = job else {
-        return (pass, Some(Answer::NoJob));
+        return (pass, Some(ServeAnswer::NoJob));
     };
     let (pass, text) = work_told(rt, alloc, shop, pass, job);
     (pass, all_told(text))
@@ -96,16 +96,20 @@ fn seen<H: Host, R: Wait>(
     alloc: Global,
     shop: &Turnstile<Box<Station<H>>>,
     pass: Pass<Box<Station<H>>>,
-) -> (Pass<Box<Station<H>>>, Option<Answer>)
+) -> (Pass<Box<Station<H>>>, Option<ServeAnswer>)
     requires { pass.table ≡ shop.now.table.shared.table_id }
-    ensures { IsFollowed pass result.0 Asked.Seen result.1 }
+    ensures { IsOrderFollowed pass result.0 Asked.Seen result.1 }
 {
     let (pass, length) = look_told(rt, shop, pass);
     (pass, told(seen_text(alloc, length)))
 }
 
 // A look, and what is told of the entry in this place of the journal.
-fn look_for<H: Host>(alloc: Global, station: &mut Station<H>, place: u64) -> (u32, Option<Answer>)
+fn look_for<H: Host>(
+    alloc: Global,
+    station: &mut Station<H>,
+    place: u64,
+) -> (u32, Option<ServeAnswer>)
     ensures length { result.0 ≡ length station.old.journal }
     ensures same { station.new.journal ≡ station.old.journal }
     ensures event { IsEvent station.old station.new (Looked result.0) }
@@ -122,9 +126,9 @@ fn look_up<H: Host, R: Wait>(
     shop: &Turnstile<Box<Station<H>>>,
     pass: Pass<Box<Station<H>>>,
     place: u64,
-) -> (Pass<Box<Station<H>>>, Option<Answer>)
+) -> (Pass<Box<Station<H>>>, Option<ServeAnswer>)
     requires { pass.table ≡ shop.now.table.shared.table_id }
-    ensures { IsFollowed pass result.0 (Asked.Entry place) result.1 }
+    ensures { IsOrderFollowed pass result.0 (Asked.Entry place) result.1 }
 {
     let (mut station, hold) = enter(rt, shop, pass);
     let (_length, answer) = look_for(alloc, &mut station, place);
@@ -138,16 +142,16 @@ pub fn follow<H: Host, R: Wait>(
     shop: &Turnstile<Box<Station<H>>>,
     pass: Pass<Box<Station<H>>>,
     order: Order,
-) -> (Pass<Box<Station<H>>>, Option<Answer>)
+) -> (Pass<Box<Station<H>>>, Option<ServeAnswer>)
     requires { pass.table ≡ shop.now.table.shared.table_id }
-    ensures { IsFollowed pass result.0 order result.1 }
+    ensures { IsOrderFollowed pass result.0 order result.1 }
 {
     match order {
         Order::Work => work(rt, alloc, shop, pass),
         Order::Seen => seen(rt, alloc, shop, pass),
         Order::Entry(place) => look_up(rt, alloc, shop, pass, place),
-        Order::Quit => (pass, Some(Answer::Bye)),
-        Order::Bad => (pass, Some(Answer::Bad)),
-        Order::TooLong => (pass, Some(Answer::TooLong)),
+        Order::Quit => (pass, Some(ServeAnswer::Bye)),
+        Order::Bad => (pass, Some(ServeAnswer::Bad)),
+        Order::TooLong => (pass, Some(ServeAnswer::TooLong)),
     }
 }

@@ -7,14 +7,14 @@ ghost use Rattle.xc_serve.specs.Answers.{answer_bytes};
 ghost use Rattle.xc_serve.specs.Serving.{IsSaid, IsServed};
 ghost use Rattle.xc_serve.specs.Sessions.{IsAsked, IsSession};
 
-use crate::answer::Answer;
+use crate::answer::ServeAnswer;
 use crate::ask::follow;
 use crate::order::{Order, order_of};
 use std::alloc::Global;
 use std::sync::Wait;
 use xc_edge::Failed;
 use xc_host::Host;
-use xc_links::{Duplex, LINE_BYTES, Line, read_line, send_whole};
+use xc_links::{Duplex, LINE_BYTES, WireLine, read_line, send_whole};
 use xc_station::Station;
 use xc_turnstile::{Pass, Turnstile};
 
@@ -47,9 +47,9 @@ fn next_order<L: Duplex>(link: &mut L) -> Result<Option<Order>, Failed>
 {
     let mut buffer = [0; LINE_BYTES];
     match read_line(link, &mut buffer)? {
-        Line::Whole(size) => Ok(Some(order_of(&buffer[..size]))),
-        Line::TooLong => Ok(Some(Order::TooLong)),
-        Line::Rest(_) => Ok(None),
+        WireLine::Whole(size) => Ok(Some(order_of(&buffer[..size]))),
+        WireLine::TooLong => Ok(Some(Order::TooLong)),
+        WireLine::Rest(_) => Ok(None),
     }
 }
 
@@ -61,7 +61,7 @@ enum Next {
 }
 
 // Writes the answer to an order.
-fn say<L: Duplex>(link: &mut L, order: Order, answer: &Answer) -> Next
+fn say<L: Duplex>(link: &mut L, order: Order, answer: &ServeAnswer) -> Next
     ensures { IsSaid (L.told link.old) (L.told link.new) order (answer_bytes answer.now) result }
 {
     if send_whole(link, answer.as_bytes()).is_err() {

@@ -14,12 +14,12 @@ use Rattle.xc_outcome.specs.declared.finish.Finish.{Finish}
 use Rattle.xc_outcome.specs.declared.finish.Status.{Status}
 use Rattle.xc_outcome.specs.declared.finish.Status.TheVariants as status
 use Rattle.xc_roomy.specs.Room.{Roomy}
-use Rattle.xc_station.specs.declared.start.End.{End}
+use Rattle.xc_station.specs.declared.run_result.End.{End}
 use Rattle.xc_sessions.specs.declared.chosen.ServeChosen.{ServeChosen}
 use Rattle.xc_sessions.specs.declared.serve.ServeStatus.TheVariants.{Ran, AcceptFault}
 use Rattle.xc_sessions.specs.Headline.{IsShort, IsStatusOf, status_of, wanted_of}
 use Rattle.xc_sessions.specs.Options.{serve_settings_of}
-use Rattle.xc_sessions.specs.Parts.{AreWorked, listed}
+use Rattle.xc_sessions.specs.Parts.{AreWorked, sessions_in}
 
 -- ---- its status
 module _ {H M : Type 0} (finish : Finish H) (links : Step (LinksView M)) (ended : IsSome finish.end) where
@@ -45,9 +45,9 @@ module _ {H M : Type 0} (finish : Finish H) (links : Step (LinksView M)) (ended 
   by_status status.NotScripted has failed same rose = written status.NotScripted has failed same (λ e. cc e) rose
 
   -- by the counts before and after
-  pub ends_so : (has : Bool) (before after : ℕ) → before ≡ links.old.faults → after ≡ links.new.faults
+  pub status_by_counts : (has : Bool) (before after : ℕ) → before ≡ links.old.faults → after ≡ links.new.faults
       → IsStatusOf finish links (status_of finish.status has (nat_lt before after))
-  ends_so has before after old new =
+  status_by_counts has before after old new =
       by_status finish.status has (nat_lt before after) refl (λ e. omega (arith, ltb-true before after e, old, new))
 
 -- ---- its sessions
@@ -72,8 +72,8 @@ module _ {H M : Type 0} (told : M → Wire) (links : Step (LinksView M)) (journa
     (old : before ≡ links.old.faults) (new : after ≡ links.new.faults) (same : end.journal.items ≡ journal) where
   -- as many as were wanted, or none
   worked : (wanted : ℕ) (sessions : Option (Roomy (Session M))) → AreWorked told wanted links journal sessions
-      → AreAll told end.journal.items links wanted (listed sessions)
-      ⊎ (IsShort (status_of ran (is_some sessions) (nat_lt before after)) × (listed sessions ≡ []) × (links.new ≡ links.old))
+      → AreAll told end.journal.items links wanted (sessions_in sessions)
+      ⊎ (IsShort (status_of ran (is_some sessions) (nat_lt before after)) × (sessions_in sessions ≡ []) × (links.new ≡ links.old))
   worked wanted (Some sessions) are = inl (subst (λ log. AreAll told log links wanted sessions.items) (sym same) are)
   worked wanted None kept =
       let even : before ≡ after = old ∙ sym (ap (λ (v : LinksView M). v.faults) kept) ∙ sym new in
@@ -84,9 +84,9 @@ module _ {H M : Type 0} (told : M → Wire) (links : Step (LinksView M)) (journa
   -- by the words
   pub sessions_so : (words : List (List ℕ)) (chosen : ServeChosen) (sessions : Option (Roomy (Session M)))
       → serve_settings_of words ≡ Some chosen → AreWorked told chosen.sessions links journal sessions
-      → AreAll told end.journal.items links (wanted_of (serve_settings_of words)) (listed sessions)
-      ⊎ (IsShort (status_of ran (is_some sessions) (nat_lt before after)) × (listed sessions ≡ []) × (links.new ≡ links.old))
+      → AreAll told end.journal.items links (wanted_of (serve_settings_of words)) (sessions_in sessions)
+      ⊎ (IsShort (status_of ran (is_some sessions) (nat_lt before after)) × (sessions_in sessions ≡ []) × (links.new ≡ links.old))
   sessions_so words chosen sessions chose are =
-      subst (λ o. AreAll told end.journal.items links (wanted_of o) (listed sessions)
-      ⊎ (IsShort (status_of ran (is_some sessions) (nat_lt before after)) × (listed sessions ≡ []) × (links.new ≡ links.old))) (sym chose)
+      subst (λ o. AreAll told end.journal.items links (wanted_of o) (sessions_in sessions)
+      ⊎ (IsShort (status_of ran (is_some sessions) (nat_lt before after)) × (sessions_in sessions ≡ []) × (links.new ≡ links.old))) (sym chose)
       (worked chosen.sessions sessions are)

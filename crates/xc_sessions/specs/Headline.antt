@@ -20,17 +20,17 @@ use Rattle.xc_sessions.specs.declared.chosen.ServeChosen.{ServeChosen}
 use Rattle.xc_sessions.specs.declared.serve.Serve.{Serve}
 use Rattle.xc_sessions.specs.declared.serve.ServeStatus.{ServeStatus}
 use Rattle.xc_sessions.specs.declared.serve.ServeStatus.TheVariants.{Ran, AcceptFault}
-use Rattle.xc_sessions.specs.Lines.{usage_line}
+use Rattle.xc_sessions.specs.Lines.{serve_usage_line}
 use Rattle.xc_sessions.specs.Options.{serve_settings_of}
 
 -- ---- what is chosen
 -- what a run needs of a choice, but for who takes its turns: there is no seed
-abbrev pub choice_in : ServeChosen → Choice
-choice_in chosen = record { rules = chosen.rules; seed = None }
+abbrev pub serve_choice_in : ServeChosen → Choice
+serve_choice_in chosen = record { rules = chosen.rules; seed = None }
 
 -- the same of the words, and nothing where they are refused
-abbrev pub choice_of : List (List ℕ) → Option Choice
-choice_of words = option_map choice_in (serve_settings_of words)
+abbrev pub serve_choice_of : List (List ℕ) → Option Choice
+serve_choice_of words = option_map serve_choice_in (serve_settings_of words)
 
 -- how many links the words want accepted, and none where they are refused
 abbrev pub wanted_of : Option ServeChosen → ℕ
@@ -83,23 +83,23 @@ pub record Around (M : Type 0) : Type 0 where
   pub links : Step (LinksView M)
 
 -- a run is finished as any run is
-pub record IsFinished {H : Type 0} (model : HostModel H) (words : List (List ℕ)) (edges : Edges) (handed : H) (finish : Finish H)
+pub record IsServeFinished {H : Type 0} (model : HostModel H) (words : List (List ℕ)) (edges : Edges) (handed : H) (finish : Finish H)
     : Type 0 where
-  pub answered : IsAnswered (choice_of words) usage_line model.takes_scripts edges finish
-  pub run : IfSome finish.end (IsRun model (choice_of words) edges.source handed)
+  pub answered : IsAnswered (serve_choice_of words) serve_usage_line model.takes_scripts edges finish
+  pub run : IfSome finish.end (IsRun model (serve_choice_of words) edges.source handed)
   pub complete : IfSome finish.end (λ end. IsUndisturbed end → IsFullRun finish.status end)
   pub host : IfSome finish.host (λ back. back ≡ handed)
   pub one : IsOneOf finish.end finish.host
 
 -- and its status is that of the run, but for an accept that failed or memory that was wanting for its sessions
-pub record IsServed {H M L : Type 0} (model : HostModel H) (words : List (List ℕ)) (around : Around M) (handed : H)
+pub record IsServedRun {H M L : Type 0} (model : HostModel H) (words : List (List ℕ)) (around : Around M) (handed : H)
     (serve : Serve H M L) : Type 0 where
   pub finish : Finish H
-  pub finished : IsFinished model words around.edges handed finish
+  pub finished : IsServeFinished model words around.edges handed finish
   pub end : serve.end ≡ finish.end
   pub host : serve.host ≡ finish.host
   pub ends : IsStatusOf finish around.links serve.status
 
 -- without the words of the command line: the line of status 2 or of status 5 is written, or a front of it
 abbrev pub IsWordlessRun : ServeStatus → Step StreamView → Type 0
-IsWordlessRun ends sink = (ran : Status) × (ends ≡ Ran ran) × IsWordless usage_line ran sink
+IsWordlessRun ends sink = (ran : Status) × (ends ≡ Ran ran) × IsWordless serve_usage_line ran sink

@@ -2,5 +2,5 @@
 use Rattle.std.specs.Prelude.{ℕ, List, codes}
 
 -- with status 2
-abbrev pub usage_line : List ℕ
-usage_line = codes "usage: xcalls_serve [--sessions N] [--port P] [--attempts N] [--patience N] [--undo-tries N]\n"
+abbrev pub serve_usage_line : List ℕ
+serve_usage_line = codes "usage: xcalls_serve [--sessions N] [--port P] [--attempts N] [--patience N] [--undo-tries N]\n"

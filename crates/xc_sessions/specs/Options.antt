@@ -16,18 +16,19 @@ serve_command =
     with_rule (with_rule (with_rule links (text_rule (codes "attempts"))) (text_rule (codes "patience"))) (text_rule (codes "undo-tries"))
 
 -- a choice of how many sessions, a port and rules, where all are there
-abbrev pub chosen_with : Option ℕ → Option ℕ → Option Rules → Option ServeChosen
-chosen_with (Some sessions) (Some port) (Some rules) = Some (record { sessions = sessions; port = port; rules = rules })
-chosen_with _ _ _ = None
+abbrev pub serve_chosen_with : Option ℕ → Option ℕ → Option Rules → Option ServeChosen
+serve_chosen_with (Some sessions) (Some port) (Some rules) = Some (record { sessions = sessions; port = port; rules = rules })
+serve_chosen_with _ _ _ = None
 
 -- what these texts of the options choose, and nothing where a text is no number of its option
-abbrev pub chosen_given : (Text → Option Text) → Option ServeChosen
-chosen_given given =
-    chosen_with (number_given 1 1 64 (given (codes "sessions"))) (number_given 7040 1 65535 (given (codes "port"))) (rules_given given)
+abbrev pub serve_chosen_given : (Text → Option Text) → Option ServeChosen
+serve_chosen_given given =
+    serve_chosen_with (number_given 1 1 64 (given (codes "sessions"))) (number_given 7040 1 65535 (given (codes "port")))
+    (rules_given given)
 
 -- what the words of a command line choose, and nothing where the command finds a fault in them or a text is no number of its option
 abbrev pub serve_settings_of : List Text → Option ServeChosen
-serve_settings_of words = option_and_then chosen_given (given_by serve_command words)
+serve_settings_of words = option_and_then serve_chosen_given (given_by serve_command words)
 
 -- the port that the words choose, and 7040 where they are refused
 abbrev pub port_of : Option ServeChosen → ℕ
@@ -35,7 +36,7 @@ port_of None = 7040
 port_of (Some chosen) = chosen.port
 
 -- what is chosen keeps the bounds of the options and of the rules
-pub record KeepsBounds (chosen : ServeChosen) : Type 0 where
+pub record KeepsServeBounds (chosen : ServeChosen) : Type 0 where
   pub sessions : IsUpTo 64 chosen.sessions
   pub port : IsUpTo 65535 chosen.port
   pub rules : AreRules chosen.rules

@@ -4,7 +4,7 @@ ghost use Rattle.std.specs.Prelude.{◌≡◌, None, Some, map, string_bytes};
 ghost use Rattle.std.specs.Prelude.{IfOk, IfSome, IsErrOf};
 ghost use Rattle.clap.specs.Words.{app_of, first_value, found_of};
 ghost use Rattle.xc_options.specs.Options.{given_by};
-ghost use Rattle.xc_sessions.specs.Options.{KeepsBounds, chosen_given, port_of, serve_command, serve_settings_of};
+ghost use Rattle.xc_sessions.specs.Options.{KeepsServeBounds, serve_chosen_given, port_of, serve_command, serve_settings_of};
 
 use crate::{ServeChosen, SettingsErr};
 use clap::{ArgMatches, Command};
@@ -42,8 +42,8 @@ fn matches<'a>(alloc: Global, words: &'a [String]) -> Result<ArgMatches<'a>, Set
 
 // What the options choose.
 fn chosen(matches: &ArgMatches<'_>) -> Option<ServeChosen>
-    ensures value { result ≡ chosen_given (first_value (found_of matches.now)) }
-    ensures bounds { IfSome result KeepsBounds }
+    ensures value { result ≡ serve_chosen_given (first_value (found_of matches.now)) }
+    ensures bounds { IfSome result KeepsServeBounds }
 {
     let sessions = number(matches, "sessions", 1, 1, MOST_SESSIONS)?;
     let port = number(matches, "port", DEFAULT_PORT as u32, 1, u16::MAX as u32)?;
@@ -59,7 +59,7 @@ fn chosen(matches: &ArgMatches<'_>) -> Option<ServeChosen>
 pub fn serve_settings(alloc: Global, words: &[String]) -> Result<ServeChosen, SettingsErr>
     ensures ok { IfOk result (λ chosen. serve_settings_of (map string_bytes words.now) ≡ Some chosen) }
     ensures usage { IsErrOf result SettingsErr.Usage → serve_settings_of (map string_bytes words.now) ≡ None }
-    ensures bounds { IfOk result KeepsBounds }
+    ensures bounds { IfOk result KeepsServeBounds }
 {
     let matches = matches(alloc, words)?;
     match chosen(&matches) {

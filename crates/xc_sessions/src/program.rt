@@ -1,7 +1,7 @@
 ghost use Rattle.std.specs.Prelude.{◌≡◌, IfOk, None, Ok, OnErr, map, string_bytes};
 ghost use Rattle.xc_outcome.specs.Said.{IsWordless};
-ghost use Rattle.xc_sessions.specs.Headline.{AreServed, IsServed, IsWordlessRun, wanted_of};
-ghost use Rattle.xc_sessions.specs.Lines.{usage_line};
+ghost use Rattle.xc_sessions.specs.Headline.{AreServed, IsServedRun, IsWordlessRun, wanted_of};
+ghost use Rattle.xc_sessions.specs.Lines.{serve_usage_line};
 ghost use Rattle.xc_sessions.specs.Options.{port_of, serve_settings_of};
 ghost use Rattle.xc_sessions.specs.declared.serve.Serve.{Serve as Served};
 
@@ -21,7 +21,7 @@ const DEFAULT_PORT: u16 = 7040;
 
 // The words could not be had: for lack of memory, or since one is no text, which no option takes.
 fn say_wordless<K: Sink>(sink: &mut K, error: io::Error) -> Status
-    ensures { IsWordless usage_line result (record { old = K.told sink.old; new = K.told sink.new }) }
+    ensures { IsWordless serve_usage_line result (record { old = K.told sink.old; new = K.told sink.new }) }
 {
     if error.kind() == io::ErrorKind::OutOfMemory {
         return write_due(sink, Status::NoMemory, &Due::NoMemory);
@@ -69,7 +69,7 @@ pub fn run_program<
 ) -> ServeStatus
     // It is as `serve_run` finishes, of which only the status is left.
     ensures finished { IfOk words (λ words. (serve : Served H M L) × (serve.status ≡ result)
-        × IsServed H.model (map string_bytes words.items) (record {
+        × IsServedRun H.model (map string_bytes words.items) (record {
           edges = record {
             source = record { old = S.told source.old; new = S.told source.new };
             sink = record { old = K.told sink.old; new = K.told sink.new };

@@ -1,10 +1,10 @@
 ghost use Rattle.std.specs.Prelude.{◌≡◌, ◌≤◌, [], None, map, string_bytes};
-ghost use Rattle.xc_sessions.specs.Headline.{AreServed, IsServed, status_of, wanted_of};
+ghost use Rattle.xc_sessions.specs.Headline.{AreServed, IsServedRun, status_of, wanted_of};
 ghost use Rattle.xc_sessions.specs.Options.{serve_settings_of};
-ghost use Rattle.xc_sessions.specs.Parts.{AreWorked, listed};
+ghost use Rattle.xc_sessions.specs.Parts.{AreWorked, sessions_in};
 ghost use Rattle.xc_station.specs.Stations.{KeepsOrigin, NobodyLives};
 
-use crate::start::{Started, start};
+use crate::start::{ServeStarted, start};
 use crate::{Serve, ServeStatus, Status};
 use std::alloc::{AllocGlobal, Global};
 use std::sync::Wait;
@@ -81,7 +81,7 @@ fn status_of(ran: Status, has_sessions: bool, has_failed: bool) -> ServeStatus
 
 // The sessions that there were.
 fn listed<M>(alloc: Global, sessions: Option<Roomy<Session<M>>>) -> Roomy<Session<M>>
-    ensures { result.items ≡ listed sessions }
+    ensures { result.items ≡ sessions_in sessions }
 {
     match sessions {
         Some(sessions) => sessions,
@@ -104,7 +104,7 @@ pub fn serve_run<
 >(rt: &R, words: &[String], source: &mut S, sink: &mut K, host: H, links: L) -> Serve<H, M, L>
     // The headline, a status with its cause, completeness, and the host that is given back: all as without sessions. The status is
     // another one only where an accept failed, or memory was wanting for the sessions.
-    ensures served { IsServed H.model (map string_bytes words.now) (record {
+    ensures served { IsServedRun H.model (map string_bytes words.now) (record {
       edges = record {
         source = record { old = S.told source.old; new = S.told source.new };
         sink = record { old = K.told sink.old; new = K.told sink.new };
@@ -124,7 +124,7 @@ pub fn serve_run<
     let failed_before = links.faults();
     match start(alloc, words, source, host) {
         Ok(started) => {
-            let Started { station, chosen } = started;
+            let ServeStarted { station, chosen } = started;
             let worked = work(rt, station, links, chosen.sessions);
             let Worked {
                 station,

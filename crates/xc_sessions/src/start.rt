@@ -3,10 +3,10 @@
 ghost use Rattle.std.specs.Prelude.{◌≡◌, IfErr, IfOk, None, map, string_bytes};
 ghost use Rattle.xc_outcome.specs.Due.{due_bytes};
 ghost use Rattle.xc_outcome.specs.Said.{IsCaused, IsDueAlone};
-ghost use Rattle.xc_sessions.specs.Headline.{choice_of};
-ghost use Rattle.xc_sessions.specs.Lines.{usage_line};
+ghost use Rattle.xc_sessions.specs.Headline.{serve_choice_of};
+ghost use Rattle.xc_sessions.specs.Lines.{serve_usage_line};
 ghost use Rattle.xc_sessions.specs.Options.{serve_settings_of};
-ghost use Rattle.xc_sessions.specs.Parts.{IsStarted};
+ghost use Rattle.xc_sessions.specs.Parts.{IsServeStarted};
 
 use crate::usage::usage;
 use crate::{ServeChosen, SettingsErr, Status, serve_settings};
@@ -18,7 +18,7 @@ use xc_station::Station;
 
 /// A station before its first turn, and what the words of the command line chose for its run.
 #[derive(Drop)]
-pub struct Started<H: Host> {
+pub struct ServeStarted<H: Host> {
     pub station: Station<H>,
     pub chosen: ServeChosen,
 }
@@ -29,11 +29,11 @@ pub fn start<S: Source, H: Host>(
     words: &[String],
     source: &mut S,
     host: H,
-) -> Result<Started<H>, NotRun<H>>
-    ensures started { IfOk result (λ s. IsStarted H.model (map string_bytes words.now)
+) -> Result<ServeStarted<H>, NotRun<H>>
+    ensures started { IfOk result (λ s. IsServeStarted H.model (map string_bytes words.now)
         (record { old = S.told source.old; new = S.told source.new }) host s) }
-    ensures due { IfErr result (λ n. IsDueAlone usage_line n.status (due_bytes n.due) × (n.host ≡ host)) }
-    ensures caused { IfErr result (λ n. IsCaused (choice_of (map string_bytes words.now)) H.model.takes_scripts
+    ensures due { IfErr result (λ n. IsDueAlone serve_usage_line n.status (due_bytes n.due) × (n.host ≡ host)) }
+    ensures caused { IfErr result (λ n. IsCaused (serve_choice_of (map string_bytes words.now)) H.model.takes_scripts
         (record { old = S.told source.old; new = S.told source.new }) n.status) }
     ensures unread { serve_settings_of (map string_bytes words.now) ≡ None → source.new ≡ source.old }
 {
@@ -53,7 +53,7 @@ pub fn start<S: Source, H: Host>(
         seed: None,
     };
     match prepare(alloc, choice, source, host) {
-        Ok(station) => Ok(Started { station, chosen }),
+        Ok(station) => Ok(ServeStarted { station, chosen }),
         Err(not_run) => Err(not_run),
     }
 }

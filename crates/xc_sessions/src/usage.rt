@@ -1,6 +1,6 @@
 ghost use Rattle.std.specs.Prelude.{◌≡◌};
 ghost use Rattle.xc_outcome.specs.Due.{due_bytes};
-ghost use Rattle.xc_sessions.specs.Lines.{usage_line};
+ghost use Rattle.xc_sessions.specs.Lines.{serve_usage_line};
 
 use xc_outcome::Due;
 
@@ -9,7 +9,7 @@ const USAGE: &str =
 
 /// What is due where the words are refused.
 pub fn usage() -> Due
-    ensures { due_bytes result ≡ usage_line }
+    ensures { due_bytes result ≡ serve_usage_line }
 {
     Due::Usage(USAGE)
 }

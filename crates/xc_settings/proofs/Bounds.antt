@@ -7,7 +7,7 @@ use Rattle.std.proofs.lemmas.Bool.Decides.{nat_tests}
 use Rattle.std.proofs.lemmas.List.Elements.{All-nil, All-cons}
 use Rattle.std.proofs.lemmas.List.Splits.{length-slice_split}
 use Rattle.xc_tokens.specs.Numbers.{number_of}
-use Rattle.xc_settings.specs.Options.{within, number_in, in_front, numbers_in, comma_parts, job_numbers, schedule_in, IsUpTo, AreJobs}
+use Rattle.xc_settings.specs.Options.{within, number_in, number_in_front, numbers_in, comma_parts, job_numbers, schedule_in, IsUpTo, AreJobs}
 
 -- a number that counts is within its bounds
 within-bounds : (most n m : ℕ) → within most n ≡ Some m → IsUpTo most m
@@ -22,7 +22,7 @@ abbrev AreUpTo : ℕ → List (List ℕ) → List ℕ → Type 0
 AreUpTo most words ns = All (IsUpTo most) ns × (length ns ≡ length words)
 
 front-bounds : (most : ℕ) (words : List (List ℕ)) (word : List ℕ) (o : Option ℕ) (rest : Option (List ℕ)) (ns : List ℕ)
-    → ((n : ℕ) → o ≡ Some n → IsUpTo most n) → ((ms : List ℕ) → rest ≡ Some ms → AreUpTo most words ms) → in_front o rest ≡ Some ns → AreUpTo most
+    → ((n : ℕ) → o ≡ Some n → IsUpTo most n) → ((ms : List ℕ) → rest ≡ Some ms → AreUpTo most words ms) → number_in_front o rest ≡ Some ns → AreUpTo most
     (word ∷ words) ns
 front-bounds most words word (Some n) (Some ms) ns first others e =
     let same : n ∷ ms ≡ ns = cc in

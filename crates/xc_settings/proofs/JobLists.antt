@@ -2,10 +2,10 @@
 use Rattle.std.proofs.Common.{◌≡◌, ℕ, ◌<◌, ◌≤◌, zero, suc, List, [], ◌∷◌, ◌++◌, length, get_or, map, Bor, Option, None, Some, refl, ap, sym, ◌∙◌, arith}
 use Rattle.std.proofs.lemmas.Bool.Decides.{nat_tests}
 use Rattle.std.proofs.lemmas.List.{map-append}
-use Rattle.xc_settings.specs.Options.{number_in, numbers_in, in_front, comma_parts, job_numbers}
+use Rattle.xc_settings.specs.Options.{number_in, numbers_in, number_in_front, comma_parts, job_numbers}
 
-front_push : (o : Option ℕ) (rest more : Option (List ℕ)) (ns : List ℕ) (n : ℕ) → in_front o rest ≡ Some ns
-    → ((ms : List ℕ) → rest ≡ Some ms → more ≡ Some (ms ++ n ∷ [])) → in_front o more ≡ Some (ns ++ n ∷ [])
+front_push : (o : Option ℕ) (rest more : Option (List ℕ)) (ns : List ℕ) (n : ℕ) → number_in_front o rest ≡ Some ns
+    → ((ms : List ℕ) → rest ≡ Some ms → more ≡ Some (ms ++ n ∷ [])) → number_in_front o more ≡ Some (ns ++ n ∷ [])
 front_push (Some m) (Some ms) more ns n e step = let last = step ms refl in cc
 front_push (Some m) None more ns n e step = cc
 front_push None rest more ns n e step = cc
@@ -25,7 +25,7 @@ numbers_in-more most parts part ns more n read last is =
     let now : Bor (List ℕ) → List ℕ = λ lent. lent.now in
     ap (numbers_in most) (map-append now parts (part ∷ [])) ∙ numbers_in-push most (map now parts) part.now ns n read last ∙ ap Some (sym is)
 
-no_rest : (o : Option ℕ) → in_front o None ≡ None
+no_rest : (o : Option ℕ) → number_in_front o None ≡ None
 no_rest (Some n) = refl
 no_rest None = refl
 
@@ -34,9 +34,9 @@ pub numbers_in-refused : (most : ℕ) (parts : List (List ℕ)) (at : ℕ) (part
     → number_in most part ≡ None → numbers_in most parts ≡ None
 numbers_in-refused most [] at part inside is bad = absurd (omega arith)
 numbers_in-refused most (first ∷ parts) zero part inside is bad =
-    ap (λ o. in_front o (numbers_in most parts)) (ap (number_in most) (sym is) ∙ bad)
+    ap (λ o. number_in_front o (numbers_in most parts)) (ap (number_in most) (sym is) ∙ bad)
 numbers_in-refused most (first ∷ parts) (suc at) part inside is bad =
-    ap (in_front (number_in most first)) (numbers_in-refused most parts at part (omega arith) is bad) ∙ no_rest (number_in most first)
+    ap (number_in_front (number_in most first)) (numbers_in-refused most parts at part (omega arith) is bad) ∙ no_rest (number_in most first)
 
 -- a text with such a part is no list
 pub job_numbers-refused : (text : List ℕ) → numbers_in 1000 (comma_parts text) ≡ None → job_numbers text ≡ None

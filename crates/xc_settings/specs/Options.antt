@@ -67,14 +67,14 @@ abbrev pub number_in : ℕ → List ℕ → Option ℕ
 number_in most word = option_and_then (within most) (number_of word)
 
 -- a number in front of numbers, where all are there
-abbrev pub in_front : Option ℕ → Option (List ℕ) → Option (List ℕ)
-in_front (Some n) (Some ns) = Some (n ∷ ns)
-in_front _ _ = None
+abbrev pub number_in_front : Option ℕ → Option (List ℕ) → Option (List ℕ)
+number_in_front (Some n) (Some ns) = Some (n ∷ ns)
+number_in_front _ _ = None
 
 -- the numbers of words, where each is one from 1 to `most`
 abbrev pub numbers_in : ℕ → List (List ℕ) → Option (List ℕ)
 numbers_in most [] = Some []
-numbers_in most (word ∷ words) = in_front (number_in most word) (numbers_in most words)
+numbers_in most (word ∷ words) = number_in_front (number_in most word) (numbers_in most words)
 
 -- what stands before, between and after the commas of a word: one part more than there are commas
 abbrev pub comma_parts : List ℕ → List (List ℕ)

@@ -22,11 +22,11 @@ use Rattle.xc_print.specs.Totals.{totals_of}
 use Rattle.xc_print.specs.declared.totals.Totals.{Totals}
 use Rattle.xc_lines.specs.declared.heads.Head.{Head}
 use Rattle.xc_lines.specs.declared.shown.JobShown.{JobShown}
-use Rattle.xc_lines.specs.declared.shown.Standing.{Standing}
+use Rattle.xc_lines.specs.declared.shown.EffectShown.{EffectShown}
 use Rattle.xc_sheet.specs.declared.lines.Line.{Line}
 use Rattle.xc_sheet.specs.declared.lines.Line.TheVariants as line
-use Rattle.xc_sheet.specs.declared.places.Place.{Place}
-use Rattle.xc_sheet.specs.declared.places.Place.TheVariants as place
+use Rattle.xc_sheet.specs.declared.places.LinePlace.{LinePlace}
+use Rattle.xc_sheet.specs.declared.places.LinePlace.TheVariants as place
 use Rattle.xc_sheet.specs.Ends.{kind_shown, effect_shown, job_end_shown, cause_shown, head_shown, lines_of_calls, lines_of_lates, lines_of_undos}
 use Rattle.xc_sheet.specs.Ends.{line_of_effect, lines_of_effects}
 use Rattle.xc_sheet.specs.Ends.{lines_of_outcome, line_of_held, lines_of_entry, lines_of_entries, lines_of_jobs, line_of_word, lines_of_words}
@@ -35,47 +35,47 @@ use Rattle.xc_sheet.specs.EndRanges.{IsOutcomeInRange, IsEntryInRange}
 use Rattle.xc_sheet.specs.Places.{behind_line, behind_lines}
 
 -- ---- several lines
-behind_append : (o : Option Place) (a b : List Line) → behind_lines o (a ++ b) ≡ behind_lines (behind_lines o a) b
+behind_append : (o : Option LinePlace) (a b : List Line) → behind_lines o (a ++ b) ≡ behind_lines (behind_lines o a) b
 unfolding behind_lines
 behind_append None a b = refl
 behind_append (Some p) [] b = refl
 behind_append (Some p) (l ∷ a) b = behind_append (behind_line p l) a b
 
-then_lines : (p q : Place) (a b : List Line) (r : Option Place) → behind_lines (Some p) a ≡ Some q → behind_lines (Some q) b ≡ r
+then_lines : (p q : LinePlace) (a b : List Line) (r : Option LinePlace) → behind_lines (Some p) a ≡ Some q → behind_lines (Some q) b ≡ r
     → behind_lines (Some p) (a ++ b) ≡ r
 then_lines p q a b r e f = behind_append (Some p) a b ∙ ap (λ o. behind_lines o b) e ∙ f
 
-one_step : (p : Place) (l : Line) (lines : List Line) (o r : Option Place) → behind_line p l ≡ o → behind_lines o lines ≡ r
+one_step : (p : LinePlace) (l : Line) (lines : List Line) (o r : Option LinePlace) → behind_line p l ≡ o → behind_lines o lines ≡ r
     → behind_lines (Some p) (l ∷ lines) ≡ r
 unfolding behind_lines
 one_step p l lines o r e f = ap (λ o. behind_lines o lines) e ∙ f
 
 -- ---- what may stand in a place
-record TakesKept (p : Place) : Type 0 where
+record AdmitsKept (p : LinePlace) : Type 0 where
   kept : (item : KeptItem) → behind_line p (line.Kept item) ≡ Some place.Kept
   total : (committed aborted faults remains : ℕ) → behind_line p (line.Total committed aborted faults remains) ≡ Some place.Ended
 
-record TakesWords (p : Place) : Type 0 where
+record TakesWords (p : LinePlace) : Type 0 where
   word : (at value : ℕ) → behind_line p (line.Word at value) ≡ Some place.Words
-  next : TakesKept p
+  next : AdmitsKept p
 
-record TakesJobs (p : Place) : Type 0 where
+record TakesJobs (p : LinePlace) : Type 0 where
   job : (n : ℕ) (block : List ℕ) (end : JobShown) → behind_line p (line.Job n block end) ≡ Some place.Jobs
   next : TakesWords p
 
-record TakesEntry (p : Place) : Type 0 where
+record TakesEntry (p : LinePlace) : Type 0 where
   head : (h : Head) → behind_line p (line.Head h) ≡ Some (if is_none h.cause then place.Commits else place.Aborts)
   next : TakesJobs p
 
-record TakesHeld (p : Place) : Type 0 where
+record TakesHeld (p : LinePlace) : Type 0 where
   held : (claims : List Claim) → behind_line p (line.Held claims) ≡ Some place.Between
   next : TakesEntry p
 
-record TakesEffects (p : Place) : Type 0 where
-  effect : (shown : Standing) → behind_line p (line.Remains shown) ≡ Some place.Remaining
+record TakesEffects (p : LinePlace) : Type 0 where
+  effect : (shown : EffectShown) → behind_line p (line.Remains shown) ≡ Some place.Remaining
   next : TakesHeld p
 
-kept_takes : TakesKept place.Kept
+kept_takes : AdmitsKept place.Kept
 kept_takes =
     record { kept = λ item. refl; total = λ committed aborted faults remains. refl }
 
@@ -196,36 +196,36 @@ remaining_takes =
     }
 
 -- these lines lead from a place to the end
-abbrev Ends : Place → List Line → Type 0
-Ends p lines = behind_lines (Some p) lines ≡ Some place.Ended
+abbrev LeadsToEnd : LinePlace → List Line → Type 0
+LeadsToEnd p lines = behind_lines (Some p) lines ≡ Some place.Ended
 
 -- they do so from each place of a kind
-abbrev Finishes : (Place → Type 0) → List Line → Type 0
-Finishes Takes lines = (q : Place) → Takes q → Ends q lines
+abbrev Finishes : (LinePlace → Type 0) → List Line → Type 0
+Finishes Takes lines = (q : LinePlace) → Takes q → LeadsToEnd q lines
 
 -- ---- behind the entries
 -- the kept data, and the totals
-kept_walk : (items : List KeptItem) (t : Totals) (p : Place) → TakesKept p → Ends p (lines_of_kept items ++ line_of_totals t ∷ [])
+kept_walk : (items : List KeptItem) (t : Totals) (p : LinePlace) → AdmitsKept p → LeadsToEnd p (lines_of_kept items ++ line_of_totals t ∷ [])
 unfolding behind_lines
 kept_walk [] t p h = one_step p (line_of_totals t) [] (Some place.Ended) (Some place.Ended) (h.total t.committed t.aborted t.faults t.remains) refl
 kept_walk (item ∷ items) t p h =
     one_step p (line.Kept item) (lines_of_kept items ++ line_of_totals t ∷ []) (Some place.Kept) (Some place.Ended) (h.kept item)
     (kept_walk items t place.Kept kept_takes)
 
-one_word : (at value : ℕ) (b : Bool) (p : Place) (more : List Line) → TakesWords p → Finishes TakesWords more
-    → Ends p (cond b [] (line.Word at value ∷ []) ++ more)
+one_word : (at value : ℕ) (b : Bool) (p : LinePlace) (more : List Line) → TakesWords p → Finishes TakesWords more
+    → LeadsToEnd p (cond b [] (line.Word at value ∷ []) ++ more)
 one_word at value true p more h on = on p h
 one_word at value false p more h on = one_step p (line.Word at value) more (Some place.Words) (Some place.Ended) (h.word at value) (on place.Words words_take)
 
-words_walk : (at : ℕ) (values : List ℕ) (p : Place) (rest : List Line) → TakesWords p → Finishes TakesKept rest
-    → Ends p (lines_of_words at values ++ rest)
+words_walk : (at : ℕ) (values : List ℕ) (p : LinePlace) (rest : List Line) → TakesWords p → Finishes AdmitsKept rest
+    → LeadsToEnd p (lines_of_words at values ++ rest)
 words_walk at [] p rest h on = on p h.next
 words_walk at (value ∷ values) p rest h on =
     ap (behind_lines (Some p)) (append_assoc (line_of_word at value) (lines_of_words (at + 1) values) rest)
     ∙ one_word at value (value == 0) p (lines_of_words (at + 1) values ++ rest) h (λ q takes. words_walk (at + 1) values q rest takes on)
 
-jobs_walk : (n : ℕ) (jobs : List JobLine) (p : Place) (rest : List Line) → TakesJobs p → Finishes TakesWords rest
-    → Ends p (lines_of_jobs n jobs ++ rest)
+jobs_walk : (n : ℕ) (jobs : List JobLine) (p : LinePlace) (rest : List Line) → TakesJobs p → Finishes TakesWords rest
+    → LeadsToEnd p (lines_of_jobs n jobs ++ rest)
 jobs_walk n [] p rest h on = on p h.next
 jobs_walk n (job ∷ jobs) p rest h on =
     one_step p (line.Job n job.block (job_end_shown job.end)) (lines_of_jobs (n + 1) jobs ++ rest) (Some place.Jobs) (Some place.Ended)
@@ -233,12 +233,12 @@ jobs_walk n (job ∷ jobs) p rest h on =
 
 -- ---- an entry
 -- where lines lead that end an entry but for what it held
-record LeadsOn (p : Place) (lines : List Line) : Type 0 where
-  to : Place
+record LeadsOn (p : LinePlace) (lines : List Line) : Type 0 where
+  to : LinePlace
   leads : behind_lines (Some p) lines ≡ Some to
   takes : TakesHeld to
 
-calls_stay : (p : Place) (calls : List Call) (replies : List Reply) → ((call : Call) (reply : Reply) → behind_line p (line.Call call reply) ≡ Some p)
+calls_stay : (p : LinePlace) (calls : List Call) (replies : List Reply) → ((call : Call) (reply : Reply) → behind_line p (line.Call call reply) ≡ Some p)
     → behind_lines (Some p) (lines_of_calls calls replies) ≡ Some p
 unfolding behind_lines
 calls_stay p [] replies h = refl
@@ -291,28 +291,28 @@ undos_walk n undo end ((older, older_end) ∷ records) some =
     (one_step (place.Undos n) (line.Undo n (kind_shown undo) end) [] (Some (place.Undos (n - 1))) (Some (place.Undos (n - 1)))
     (undo_step n undo end some) refl)
 
-effect_on : (from : Option ℕ) (undo : Undo) (p : Place) (more : List Line) → TakesEffects p
-    → Finishes TakesEffects more → Ends p (line_of_effect undo from ++ more)
+effect_on : (from : Option ℕ) (undo : Undo) (p : LinePlace) (more : List Line) → TakesEffects p
+    → Finishes TakesEffects more → LeadsToEnd p (line_of_effect undo from ++ more)
 effect_on None undo p more h on = on p h
 effect_on (Some k) undo p more h on =
     one_step p (line.Remains (effect_shown undo k)) more (Some place.Remaining) (Some place.Ended) (h.effect (effect_shown undo k))
     (on place.Remaining remaining_takes)
 
-effects_walk : (records : List (Undo × UndoEnd)) (p : Place) (rest : List Line) → TakesEffects p
-    → Finishes TakesHeld rest → Ends p (lines_of_effects records ++ rest)
+effects_walk : (records : List (Undo × UndoEnd)) (p : LinePlace) (rest : List Line) → TakesEffects p
+    → Finishes TakesHeld rest → LeadsToEnd p (lines_of_effects records ++ rest)
 effects_walk [] p rest h on = on p h.next
 effects_walk ((undo, end) ∷ records) p rest h on =
     ap (behind_lines (Some p)) (append_assoc (line_of_effect undo (remains_from undo end)) (lines_of_effects records) rest)
     ∙ effect_on (remains_from undo end) undo p (lines_of_effects records ++ rest) h (λ q takes. effects_walk records q rest takes on)
 
-held_walk : (claims : List Claim) (p : Place) (rest : List Line) → TakesHeld p → Finishes TakesEntry rest
-    → Ends p (line_of_held claims ++ rest)
+held_walk : (claims : List Claim) (p : LinePlace) (rest : List Line) → TakesHeld p → Finishes TakesEntry rest
+    → LeadsToEnd p (line_of_held claims ++ rest)
 held_walk [] p rest h on = on p h.next
 held_walk (claim ∷ claims) p rest h on =
     one_step p (line.Held (claim ∷ claims)) rest (Some place.Between) (Some place.Ended) (h.held (claim ∷ claims)) (on place.Between between_takes)
 
 -- the place behind an entry's first line
-start_of : Outcome → Place
+start_of : Outcome → LinePlace
 start_of o = if is_none (cause_shown o) then place.Commits else place.Aborts
 
 call_stays : (o : Outcome) (call : Call) (reply : Reply) → behind_line (start_of o) (line.Call call reply) ≡ Some (start_of o)
@@ -321,7 +321,7 @@ call_stays (Committed late) call reply = refl
 call_stays (Aborted report) call reply = refl
 
 aborted_walk : (records : List (Undo × UndoEnd)) (rest : List Line) → Finishes TakesHeld rest
-    → Ends place.Aborts (lines_of_undos 1 records ++ lines_of_effects records ++ rest)
+    → LeadsToEnd place.Aborts (lines_of_undos 1 records ++ lines_of_effects records ++ rest)
 aborted_walk [] rest on = on place.Aborts aborts_take
 aborted_walk ((undo, end) ∷ records) rest on =
     ap (behind_lines (Some place.Aborts)) (append_assoc (lines_of_undos 1 ((undo, end) ∷ records)) (lines_of_effects ((undo, end) ∷ records)) rest)
@@ -329,7 +329,7 @@ aborted_walk ((undo, end) ∷ records) rest on =
     (undos_walk 1 undo end records (omega arith)) (effects_walk ((undo, end) ∷ records) (place.Undos 0) rest undone_takes on)
 
 outcome_walk : (o : Outcome) (rest : List Line) → IsOutcomeInRange o → Finishes TakesHeld rest
-    → Ends (start_of o) (lines_of_outcome o ++ rest)
+    → LeadsToEnd (start_of o) (lines_of_outcome o ++ rest)
 unfolding start_of
 outcome_walk (Committed late) rest within on =
     let l = commits_walk late within.0 in
@@ -341,22 +341,22 @@ four a b c rest = simp append_assoc
 
 entry_on : (o : Outcome) (calls : List Call) (replies : List Reply) (claims : List Claim) (rest : List Line) → IsOutcomeInRange o
     → Finishes TakesEntry rest
-    → Ends (start_of o) (lines_of_calls calls replies ++ (lines_of_outcome o ++ line_of_held claims) ++ rest)
+    → LeadsToEnd (start_of o) (lines_of_calls calls replies ++ (lines_of_outcome o ++ line_of_held claims) ++ rest)
 entry_on o calls replies claims rest within on =
     ap (behind_lines (Some (start_of o))) (four (lines_of_calls calls replies) (lines_of_outcome o) (line_of_held claims) rest)
     ∙ then_lines (start_of o) (start_of o) (lines_of_calls calls replies) (lines_of_outcome o ++ (line_of_held claims ++ rest)) (Some place.Ended)
     (calls_stay (start_of o) calls replies (call_stays o))
     (outcome_walk o (line_of_held claims ++ rest) within (λ q takes. held_walk claims q rest takes on))
 
-entry_walk : (e : Entry) (p : Place) (rest : List Line) → TakesEntry p → IsEntryInRange e → Finishes TakesEntry rest
-    → Ends p (lines_of_entry e ++ rest)
+entry_walk : (e : Entry) (p : LinePlace) (rest : List Line) → TakesEntry p → IsEntryInRange e → Finishes TakesEntry rest
+    → LeadsToEnd p (lines_of_entry e ++ rest)
 unfolding start_of
 entry_walk e p rest h within on =
     one_step p (line.Head (head_shown e)) (lines_of_calls e.calls e.replies ++ (lines_of_outcome e.outcome ++ line_of_held e.held) ++ rest)
     (Some (start_of e.outcome)) (Some place.Ended) (h.head (head_shown e)) (entry_on e.outcome e.calls e.replies e.held rest within.outcome on)
 
-entries_walk : (journal : List Entry) (p : Place) (rest : List Line) → TakesEntry p → AllByRecursion IsEntryInRange journal
-    → Finishes TakesEntry rest → Ends p (lines_of_entries journal ++ rest)
+entries_walk : (journal : List Entry) (p : LinePlace) (rest : List Line) → TakesEntry p → AllByRecursion IsEntryInRange journal
+    → Finishes TakesEntry rest → LeadsToEnd p (lines_of_entries journal ++ rest)
 entries_walk [] p rest h all on = on p h
 entries_walk (e ∷ journal) p rest h all on =
     ap (behind_lines (Some p)) (append_assoc (lines_of_entry e) (lines_of_entries journal) rest)

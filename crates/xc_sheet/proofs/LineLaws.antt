@@ -28,7 +28,7 @@ use Rattle.xc_sheet.specs.Ranges.{IsLineInRange}
 use Rattle.xc_lines.specs.Tails.{kind_name, standing_text, job_end_name, kept_text}
 use Rattle.xc_lines.proofs.Laws.{call_again, head_again, claim_again, claims_again, further_end, further_other, reply_again, late_end_again, number_again}
 use Rattle.xc_lines.proofs.Laws.{ident_again, three_parts, four_parts, five_parts, six_parts, kind_again, undo_end_again, standing_again, job_end_again}
-use Rattle.xc_lines.proofs.Laws.{kept_again}
+use Rattle.xc_lines.proofs.Laws.{item_again}
 
 seven_parts : (a b c d e f g rest : List ℕ) → a ++ b ++ c ++ d ++ e ++ f ++ g ++ rest ≡ a ++ (b ++ (c ++ (d ++ (e ++ (f ++ (g ++ rest))))))
 seven_parts a b c d e f g rest = simp append_assoc
@@ -134,7 +134,7 @@ line_again (line.Job number block end) rest within =
 line_again (line.Word at value) rest within =
     ap line_at (five_parts (codes "word ") (decimal at) (codes " ") (decimal value) (codes "\n") rest)
     ∙ rw (number_again at (codes " " ++ (decimal value ++ 10 ∷ rest)) within.0 refl, number_again value (10 ∷ rest) within.1 refl) refl
-line_again (line.Kept kept) rest within = ap line_at (kept_is kept rest) ∙ rw (kept_again kept rest within) refl
+line_again (line.Kept kept) rest within = ap line_at (kept_is kept rest) ∙ rw (item_again kept rest within) refl
 line_again (line.Total committed aborted faults remains) rest within =
     ap line_at
     (nine_parts (codes "total ") (decimal committed) (codes " committed, ") (decimal aborted) (codes " aborted, ") (decimal faults) (codes " faults, ")

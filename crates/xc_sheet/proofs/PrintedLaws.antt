@@ -8,7 +8,7 @@ use Rattle.std.proofs.lemmas.List.{take_at, drop_at, take-append-drop}
 use Rattle.xc_data.specs.declared.entry.Cause.{Cause}
 use Rattle.xc_data.specs.declared.entry.KeptItem.TheVariants as item
 use Rattle.xc_lines.specs.declared.heads.Head.{Head}
-use Rattle.xc_lines.specs.declared.stop.Stop.{Stop}
+use Rattle.xc_lines.specs.declared.stop.ReadStop.{ReadStop}
 use Rattle.xc_lines.specs.Heads.{word_of, numbers_text, cause_of}
 use Rattle.xc_lines.specs.Parts.{◌>>=◌, Read, GivesRead, past}
 use Rattle.xc_sheet.specs.declared.lines.Line.{Line}
@@ -107,19 +107,19 @@ line_some (line.Kept (item.Message pair side bytes)) within = some_first (line_t
 line_some (line.Total committed aborted faults remains) within = some_first (line_text (line.Total committed aborted faults remains)) refl
 
 -- a line that was compared stands there
-pub line_found : (r : Result Line Stop) (new old : List ℕ) → GivesRead r new (printed line_at line_text old)
+pub line_found : (r : Result Line ReadStop) (new old : List ℕ) → GivesRead r new (printed line_at line_text old)
     → IfOk r (λ l. old ≡ line_text l ++ new)
 line_found (Ok l) new old h = (printed_is line_at line_text old l new h).0
 line_found (Err e) new old h = tt
 
 -- and has a text
-pub line_has : (r : Result Line Stop) (new old : List ℕ) → GivesRead r new (printed line_at line_text old)
+pub line_has : (r : Result Line ReadStop) (new old : List ℕ) → GivesRead r new (printed line_at line_text old)
     → IfOk r (λ l. 0 < length (line_text l))
 line_has (Ok l) new old h = (printed_is line_at line_text old l new h).1
 line_has (Err e) new old h = tt
 
 -- a line in its range that stands there is found
-pub line_only : (r : Result Line Stop) (new old : List ℕ) → GivesRead r new (printed line_at line_text old)
+pub line_only : (r : Result Line ReadStop) (new old : List ℕ) → GivesRead r new (printed line_at line_text old)
     → (l : Line) (rest : List ℕ) → IsLineInRange l → old ≡ line_text l ++ rest → GivesRead r new (Some (l, rest))
 line_only r new old h l rest is e =
     subst (GivesRead r new) (ap (printed line_at line_text) e ∙ printed_again line_at line_text l rest rest (line_some l is) (line_again l rest is)) h

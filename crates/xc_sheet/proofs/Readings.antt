@@ -8,8 +8,8 @@ use Rattle.std.proofs.lemmas.List.Elements.{All-nil, All-push, All-same}
 use Rattle.xc_sheet.specs.declared.ending.Ending.{Ending}
 use Rattle.xc_sheet.specs.declared.ending.Ending.TheVariants.{Whole, Broken}
 use Rattle.xc_sheet.specs.declared.lines.Line.{Line}
-use Rattle.xc_sheet.specs.declared.places.Place.{Place}
-use Rattle.xc_sheet.specs.declared.places.Place.TheVariants as place
+use Rattle.xc_sheet.specs.declared.places.LinePlace.{LinePlace}
+use Rattle.xc_sheet.specs.declared.places.LinePlace.TheVariants as place
 use Rattle.xc_sheet.specs.Lines.{line_text}
 use Rattle.xc_sheet.specs.Places.{behind_line, behind_lines, lines_text}
 use Rattle.xc_sheet.specs.Ranges.{IsLineInRange, AreLinesInRange}
@@ -36,7 +36,7 @@ unfolding read_pair
 pair_is p q e = cc
 
 -- a line that was read and may stand there
-pub one_line : (l : Line) (first next : Place) (old new : List ℕ) → old ≡ line_text l ++ new → 0 < length (line_text l) → behind_line first l ≡ Some next
+pub one_line : (l : Line) (first next : LinePlace) (old new : List ℕ) → old ≡ line_text l ++ new → 0 < length (line_text l) → behind_line first l ≡ Some next
     → ((other : Line) (rest : List ℕ) → IsLineInRange other → old ≡ line_text other ++ rest
     → ◌≡◌ {A = Option (Line × List ℕ)} (Some (l, new)) (Some (other, rest)))
     → IsLineRead l first next old new
@@ -62,10 +62,11 @@ text_on : (lines : List Line) (l : Line) (all old new : List ℕ) → all ≡ li
 text_on lines l all old new e step =
     e ∙ ap (λ t. lines_text lines ++ t) step ∙ sym (append_assoc (lines_text lines) (line_text l) new) ∙ sym (ap (λ t. t ++ new) (more_text lines l))
 
-same_place : (p q : Place) → ◌≡◌ {A = Option Place} (Some p) (Some q) → p ≡ q
-same_place p q e = ap (λ (o : Option Place). unwrap_or o p) e
+same_place : (p q : LinePlace) → ◌≡◌ {A = Option LinePlace} (Some p) (Some q) → p ≡ q
+same_place p q e = ap (λ (o : Option LinePlace). unwrap_or o p) e
 
-place_on : (start : Option Place) (lines : List Line) (l : Line) (last next : Place) → behind_lines start lines ≡ Some last → behind_line last l ≡ Some next
+place_on : (start : Option LinePlace) (lines : List Line) (l : Line) (last next : LinePlace) → behind_lines start lines ≡ Some last
+    → behind_line last l ≡ Some next
     → behind_lines start (lines ++ l ∷ []) ≡ Some next
 unfolding behind_lines
 place_on None lines l last next e step = absurd cc
@@ -73,28 +74,28 @@ place_on (Some p) [] l last next e step = ap (λ o. behind_lines o []) (ap (λ q
 place_on (Some p) (first ∷ lines) l last next e step = place_on (behind_line p first) lines l last next e step
 
 -- no place, no line behind it
-nowhere : (lines : List Line) (last : Place) → behind_lines None lines ≡ Some last → ⊥
+nowhere : (lines : List Line) (last : LinePlace) → behind_lines None lines ≡ Some last → ⊥
 unfolding behind_lines
 nowhere lines last e = cc
 
 -- ---- what was read goes on to whatever lines in their ranges are the whole text
-pub record GoesOn (lines : List Line) (last : Place) (rest : List ℕ) (all : List Line) : Type 0 where
+pub record ReadsRest (lines : List Line) (last : LinePlace) (rest : List ℕ) (all : List Line) : Type 0 where
   pub more : List Line
   pub joined : all ≡ lines ++ more
   pub within : AreLinesInRange more
   pub whole : AreWholeFrom last more rest
 
 -- lines that were read of a text, up to a place
-pub record IsReading (bytes : List ℕ) (lines : List Line) (last : Place) (rest : List ℕ) : Type 0 where
+pub record IsReading (bytes : List ℕ) (lines : List Line) (last : LinePlace) (rest : List ℕ) : Type 0 where
   pub read : AreReadUpTo lines bytes last rest
   pub few : length lines + length rest ≤ length bytes
   pub some : HaveText lines
-  pub onward : (all : List Line) → AreLinesInRange all → AreWholeFrom place.Between all bytes → GoesOn lines last rest all
+  pub onward : (all : List Line) → AreLinesInRange all → AreWholeFrom place.Between all bytes → ReadsRest lines last rest all
 
 -- nothing is read yet
-pub begins : (bytes : List ℕ) → IsReading bytes [] place.Between bytes
+pub reading_begins : (bytes : List ℕ) → IsReading bytes [] place.Between bytes
 unfolding behind_lines lines_text
-begins bytes =
+reading_begins bytes =
     record {
       read = record { written = refl; placed = refl };
       few = omega arith;
@@ -102,8 +103,9 @@ begins bytes =
       onward = λ all within whole. record { more = all; joined = refl; within = within; whole = whole };
     }
 
-goes_with : (lines : List Line) (l : Line) (last next : Place) (old new : List ℕ) (all more : List Line) → IsLineRead l last next old new → all ≡ lines ++ more
-    → AreLinesInRange more → AreWholeFrom last more old → GoesOn (lines ++ l ∷ []) next new all
+goes_with : (lines : List Line) (l : Line) (last next : LinePlace) (old new : List ℕ) (all more : List Line) → IsLineRead l last next old new
+    → all ≡ lines ++ more
+    → AreLinesInRange more → AreWholeFrom last more old → ReadsRest (lines ++ l ∷ []) next new all
 unfolding behind_lines lines_text
 goes_with lines l last next old new all [] h joined within whole =
     let ended : last ≡ place.Ended = same_place last place.Ended whole.ended in
@@ -121,7 +123,7 @@ goes_with lines l last next old new all (m ∷ ms) h joined within whole =
     }
 
 -- a line more
-pub reads_on : (bytes : List ℕ) (lines : List Line) (l : Line) (last next : Place) (old new : List ℕ) → IsReading bytes lines last old
+pub reads_on : (bytes : List ℕ) (lines : List Line) (l : Line) (last next : LinePlace) (old new : List ℕ) → IsReading bytes lines last old
     → IsLineRead l last next old new → IsReading bytes (lines ++ l ∷ []) next new
 reads_on bytes lines l last next old new r h =
     let counts : length (lines ++ l ∷ []) ≡ length lines + 1 = length-append lines (l ∷ []) in
@@ -138,12 +140,13 @@ reads_on bytes lines l last next old new r h =
     }
 
 -- the same, of a list that has one line more
-pub goes_on : (bytes : List ℕ) (before behind : List Line) (last next : Place) (old new : List ℕ) → IsReading bytes before last old
+pub reading_goes_on : (bytes : List ℕ) (before behind : List Line) (last next : LinePlace) (old new : List ℕ) → IsReading bytes before last old
     → ((l : Line) × (behind ≡ before ++ l ∷ []) × IsLineRead l last next old new) → IsReading bytes behind next new
-goes_on bytes before behind last next old new r h = subst (λ ls. IsReading bytes ls next new) (sym h.1) (reads_on bytes before h.0 last next old new r h.2)
+reading_goes_on bytes before behind last next old new r h =
+    subst (λ ls. IsReading bytes ls next new) (sym h.1) (reads_on bytes before h.0 last next old new r h.2)
 
 -- ---- reading stops
-stops_all : (lines : List Line) (last : Place) (rest : List ℕ) (all more : List Line) → StopsReading last rest → AreLinesInRange more
+stops_all : (lines : List Line) (last : LinePlace) (rest : List ℕ) (all more : List Line) → StopsReading last rest → AreLinesInRange more
     → AreWholeFrom last more rest → ⊥
 unfolding behind_lines lines_text
 stops_all lines last rest all [] s within whole = s.unfinished whole.written (same_place last place.Ended whole.ended)
@@ -151,33 +154,33 @@ stops_all lines last rest all (m ∷ ms) s within whole =
     nowhere ms place.Ended (ap (λ o. behind_lines o ms) (sym (s.nothing m (lines_text ms) within.0 whole.written)) ∙ whole.ended)
 
 -- what was read stops short
-pub stops : (bytes : List ℕ) (lines : List Line) (last : Place) (rest : List ℕ) → IsReading bytes lines last rest → StopsReading last rest
+pub stops : (bytes : List ℕ) (lines : List Line) (last : LinePlace) (rest : List ℕ) → IsReading bytes lines last rest → StopsReading last rest
     → IsReadSheet bytes lines (Broken (length lines + 1))
 stops bytes lines last rest r s = (refl, (last, rest, r.read, s))
 
 -- then no lines in their ranges are the whole text
-pub stops_whole : (bytes : List ℕ) (lines : List Line) (last : Place) (rest : List ℕ) → IsReading bytes lines last rest → StopsReading last rest
+pub stops_whole : (bytes : List ℕ) (lines : List Line) (last : LinePlace) (rest : List ℕ) → IsReading bytes lines last rest → StopsReading last rest
     → AreAllOf bytes lines (Broken (length lines + 1))
 stops_whole bytes lines last rest r s = λ all within whole.
     let g = r.onward all within whole in
     absurd (stops_all lines last rest all g.more s g.within g.whole)
 
 -- before a line that may not stand there
-pub breaks : (last : Place) (rest : List ℕ) → 0 < length rest → NoLineFits last rest → StopsReading last rest
+pub breaks : (last : LinePlace) (rest : List ℕ) → 0 < length rest → NoLineFits last rest → StopsReading last rest
 breaks last rest some nothing = record { nothing = nothing; unfinished = λ e ended. let sizes : length rest ≡ 0 = ap length e in omega (arith, sizes, some) }
 
 -- at the text's end
-nothing_fits : (last : Place) → NoLineFits last []
+nothing_fits : (last : LinePlace) → NoLineFits last []
 nothing_fits last l rest is e =
     let sizes : 0 ≡ length (line_text l) + length rest = ap length e ∙ length-append (line_text l) rest in
     let empty : length (line_text l) ≡ 0 = omega (arith, sizes) in
     absurd (both_ways (length (line_text l) == 0) (line_some l is) (rw empty refl))
 
-abbrev is_end : Place → Bool
+abbrev is_end : LinePlace → Bool
 is_end place.Ended = true
 is_end _ = false
 
-short : (last : Place) → is_end last ≡ false → StopsReading last []
+short : (last : LinePlace) → is_end last ≡ false → StopsReading last []
 short last other = record { nothing = nothing_fits last; unfinished = λ e ended. both_ways (is_end last) other (ap is_end ended) }
 
 ends_whole : (bytes : List ℕ) (lines : List Line) → IsReading bytes lines place.Ended [] → IsReadSheet bytes lines Whole
@@ -193,7 +196,7 @@ whole_only bytes lines r = λ all within whole.
     let g = r.onward all within whole in
     (none_more lines all g.more g.joined g.whole, refl)
 
-ends_in : (bytes : List ℕ) (lines : List Line) (last : Place) → IsReading bytes lines last [] → IsReadSheet bytes lines (ending_at last lines)
+ends_in : (bytes : List ℕ) (lines : List Line) (last : LinePlace) → IsReading bytes lines last [] → IsReadSheet bytes lines (ending_at last lines)
 ends_in bytes lines place.Ended r = ends_whole bytes lines r
 ends_in bytes lines place.Between r = stops bytes lines place.Between [] r (short place.Between refl)
 ends_in bytes lines place.Commits r = stops bytes lines place.Commits [] r (short place.Commits refl)
@@ -205,7 +208,7 @@ ends_in bytes lines place.Jobs r = stops bytes lines place.Jobs [] r (short plac
 ends_in bytes lines place.Words r = stops bytes lines place.Words [] r (short place.Words refl)
 ends_in bytes lines place.Kept r = stops bytes lines place.Kept [] r (short place.Kept refl)
 
-ends_all : (bytes : List ℕ) (lines : List Line) (last : Place) → IsReading bytes lines last [] → AreAllOf bytes lines (ending_at last lines)
+ends_all : (bytes : List ℕ) (lines : List Line) (last : LinePlace) → IsReading bytes lines last [] → AreAllOf bytes lines (ending_at last lines)
 ends_all bytes lines place.Ended r = whole_only bytes lines r
 ends_all bytes lines place.Between r = stops_whole bytes lines place.Between [] r (short place.Between refl)
 ends_all bytes lines place.Commits r = stops_whole bytes lines place.Commits [] r (short place.Commits refl)
@@ -222,22 +225,23 @@ nothing_left [] e = refl
 nothing_left (b ∷ bs) e = absurd (omega (arith, e))
 
 -- at the text's end
-pub ends : (bytes : List ℕ) (lines : List Line) (last : Place) (rest : List ℕ) → IsReading bytes lines last rest → length rest ≡ 0
+pub ends : (bytes : List ℕ) (lines : List Line) (last : LinePlace) (rest : List ℕ) → IsReading bytes lines last rest → length rest ≡ 0
     → IsReadSheet bytes lines (ending_at last lines)
 ends bytes lines last rest r e = ends_in bytes lines last (subst (IsReading bytes lines last) (nothing_left rest e) r)
 
 -- then lines in their ranges that are the whole text are those that were read
-pub ends_only : (bytes : List ℕ) (lines : List Line) (last : Place) (rest : List ℕ) → IsReading bytes lines last rest → length rest ≡ 0
+pub ends_only : (bytes : List ℕ) (lines : List Line) (last : LinePlace) (rest : List ℕ) → IsReading bytes lines last rest → length rest ≡ 0
     → AreAllOf bytes lines (ending_at last lines)
 ends_only bytes lines last rest r e = ends_all bytes lines last (subst (IsReading bytes lines last) (nothing_left rest e) r)
 
 -- the lines that were read aren't empty
-pub read_some : (bytes : List ℕ) (lines got : List Line) (last : Place) (rest : List ℕ) → got ≡ lines → IsReading bytes lines last rest → HaveText got
+pub read_some : (bytes : List ℕ) (lines got : List Line) (last : LinePlace) (rest : List ℕ) → got ≡ lines → IsReading bytes lines last rest → HaveText got
 read_some bytes lines got last rest same r = All-same (λ (l : Line). 0 < length (line_text l)) got lines same r.some
 
 -- ---- what is answered
 -- before a line that may not stand there
-pub broken_sheet : (bytes : List ℕ) (lines got : List Line) (ending : Ending) (last : Place) (rest : List ℕ) → got ≡ lines → ending ≡ Broken (length lines + 1)
+pub broken_sheet : (bytes : List ℕ) (lines got : List Line) (ending : Ending) (last : LinePlace) (rest : List ℕ) → got ≡ lines
+    → ending ≡ Broken (length lines + 1)
     → IsReading bytes lines last rest → 0 < length rest → NoLineFits last rest → IsReadSheet bytes got ending × AreAllOf bytes got ending
 broken_sheet bytes lines got ending last rest same ended r some nothing =
     let s = breaks last rest some nothing in
@@ -245,7 +249,7 @@ broken_sheet bytes lines got ending last rest same ended r some nothing =
     (subst (λ e. IsReadSheet bytes lines e × AreAllOf bytes lines e) (sym ended) (stops bytes lines last rest r s, stops_whole bytes lines last rest r s))
 
 -- at the text's end
-pub ended_sheet : (bytes : List ℕ) (lines got : List Line) (ending : Ending) (last : Place) (rest : List ℕ) → got ≡ lines → ending ≡ ending_at last lines
+pub ended_sheet : (bytes : List ℕ) (lines got : List Line) (ending : Ending) (last : LinePlace) (rest : List ℕ) → got ≡ lines → ending ≡ ending_at last lines
     → IsReading bytes lines last rest → length rest ≡ 0 → IsReadSheet bytes got ending × AreAllOf bytes got ending
 ended_sheet bytes lines got ending last rest same ended r empty =
     subst (λ ls. IsReadSheet bytes ls ending × AreAllOf bytes ls ending) (sym same)

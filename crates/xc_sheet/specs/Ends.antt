@@ -23,8 +23,8 @@ use Rattle.xc_print.specs.declared.totals.Totals.{Totals}
 use Rattle.xc_lines.specs.declared.heads.Head.{Head}
 use Rattle.xc_lines.specs.declared.shown.JobShown.{JobShown}
 use Rattle.xc_lines.specs.declared.shown.JobShown.TheVariants as ended
-use Rattle.xc_lines.specs.declared.shown.Standing.{Standing}
-use Rattle.xc_lines.specs.declared.shown.Standing.TheVariants as standing
+use Rattle.xc_lines.specs.declared.shown.EffectShown.{EffectShown}
+use Rattle.xc_lines.specs.declared.shown.EffectShown.TheVariants as standing
 use Rattle.xc_lines.specs.declared.shown.UndoKind.{UndoKind}
 use Rattle.xc_lines.specs.declared.shown.UndoKind.TheVariants as kind
 use Rattle.xc_sheet.specs.declared.lines.Line.{Line}
@@ -41,7 +41,7 @@ kind_shown (undoing.NewPipe num) = kind.Pipe
 kind_shown (undoing.NewPair num) = kind.Pair
 
 -- the effect of a record, from this place of its covered bytes on
-abbrev pub effect_shown : Undo → ℕ → Standing
+abbrev pub effect_shown : Undo → ℕ → EffectShown
 effect_shown (undoing.Bytes file at before after n) k = standing.Bytes file (at + k) (drop k (take n after))
 effect_shown (undoing.Tail file from after n) k = standing.Tail file from (take n after)
 effect_shown (undoing.Made name num) k = standing.Made name num

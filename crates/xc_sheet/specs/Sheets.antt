@@ -3,14 +3,14 @@ use Rattle.std.specs.Prelude.{◌≡◌, ℕ, ◌+◌, ◌<◌, ◌≤◌, All, 
 use Rattle.xc_sheet.specs.declared.ending.Ending.{Ending}
 use Rattle.xc_sheet.specs.declared.ending.Ending.TheVariants.{Whole, Broken}
 use Rattle.xc_sheet.specs.declared.lines.Line.{Line}
-use Rattle.xc_sheet.specs.declared.places.Place.{Place}
-use Rattle.xc_sheet.specs.declared.places.Place.TheVariants as place
+use Rattle.xc_sheet.specs.declared.places.LinePlace.{LinePlace}
+use Rattle.xc_sheet.specs.declared.places.LinePlace.TheVariants as place
 use Rattle.xc_sheet.specs.Lines.{line_text}
 use Rattle.xc_sheet.specs.Places.{behind_line, behind_lines, lines_text}
 use Rattle.xc_sheet.specs.Ranges.{IsLineInRange, AreLinesInRange}
 
 -- lines, each in its place from this one on, that are these bytes and end with the totals
-pub record AreWholeFrom (first : Place) (lines : List Line) (bytes : List ℕ) : Type 0 where
+pub record AreWholeFrom (first : LinePlace) (lines : List Line) (bytes : List ℕ) : Type 0 where
   pub written : bytes ≡ lines_text lines
   pub ended : behind_lines (Some first) lines ≡ Some place.Ended
 
@@ -19,22 +19,22 @@ abbrev pub HaveText : List Line → Type 0
 HaveText lines = All (λ (l : Line). 0 < length (line_text l)) lines
 
 -- no line that may stand in this place stands in front of these bytes
-abbrev pub NoLineFits : Place → List ℕ → Type 0
+abbrev pub NoLineFits : LinePlace → List ℕ → Type 0
 NoLineFits where_to bytes = (l : Line) (rest : List ℕ) → IsLineInRange l → bytes ≡ line_text l ++ rest → behind_line where_to l ≡ None
 
 -- reading stops here, and not at the text's end behind the totals
-pub record StopsReading (last : Place) (rest : List ℕ) : Type 0 where
+pub record StopsReading (last : LinePlace) (rest : List ℕ) : Type 0 where
   pub nothing : NoLineFits last rest
   pub unfinished : rest ≡ [] → last ≡ place.Ended → ⊥
 
 -- lines were read, each in its place, up to this place, with the rest behind it
-pub record AreReadUpTo (lines : List Line) (bytes : List ℕ) (last : Place) (rest : List ℕ) : Type 0 where
+pub record AreReadUpTo (lines : List Line) (bytes : List ℕ) (last : LinePlace) (rest : List ℕ) : Type 0 where
   pub written : bytes ≡ lines_text lines ++ rest
   pub placed : behind_lines (Some place.Between) lines ≡ Some last
 
 -- the lines stop short of the text's end or of its totals
 abbrev pub IsBrokenOff : List ℕ → List Line → Type 0
-IsBrokenOff bytes lines = (last : Place) × (rest : List ℕ) × AreReadUpTo lines bytes last rest × StopsReading last rest
+IsBrokenOff bytes lines = (last : LinePlace) × (rest : List ℕ) × AreReadUpTo lines bytes last rest × StopsReading last rest
 
 -- what was read of a text, and how that ended: at the end of the text, or at the line of this number, counted from 1
 abbrev pub IsReadSheet : List ℕ → List Line → Ending → Type 0
@@ -47,7 +47,7 @@ AreAllOf bytes lines ending =
     (all : List Line) → AreLinesInRange all → AreWholeFrom place.Between all bytes → (lines ≡ all) × (ending ≡ Whole)
 
 -- how reading ends at the end of a text, in this place
-abbrev pub ending_at : Place → List Line → Ending
+abbrev pub ending_at : LinePlace → List Line → Ending
 ending_at place.Ended lines = Whole
 ending_at place.Between lines = Broken (length lines + 1)
 ending_at place.Commits lines = Broken (length lines + 1)
@@ -60,7 +60,7 @@ ending_at place.Words lines = Broken (length lines + 1)
 ending_at place.Kept lines = Broken (length lines + 1)
 
 -- a line was read in this place, with the next place and the rest behind it; no other one in its range stands there
-pub record IsLineRead (l : Line) (first next : Place) (bytes rest : List ℕ) : Type 0 where
+pub record IsLineRead (l : Line) (first next : LinePlace) (bytes rest : List ℕ) : Type 0 where
   pub written : bytes ≡ line_text l ++ rest
   pub placed : behind_line first l ≡ Some next
   pub shorter : length rest + 1 ≤ length bytes

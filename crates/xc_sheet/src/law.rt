@@ -3,7 +3,7 @@ ghost use Rattle.xc_data.specs.declared.entry.Entry.{Entry};
 ghost use Rattle.xc_data.specs.declared.entry.JobLine.{JobLine};
 ghost use Rattle.xc_data.specs.declared.entry.KeptItem.{KeptItem};
 ghost use Rattle.xc_print.specs.Text.{rendered};
-ghost use Rattle.xc_sheet.specs.declared.places.Place.TheVariants as place;
+ghost use Rattle.xc_sheet.specs.declared.places.LinePlace.TheVariants as place;
 ghost use Rattle.xc_sheet.specs.EndRanges.{IsEndInRange};
 ghost use Rattle.xc_sheet.specs.Ends.{end_lines};
 ghost use Rattle.xc_sheet.specs.Ranges.{AreLinesInRange};

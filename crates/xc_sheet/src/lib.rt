@@ -17,7 +17,7 @@ mod tests;
 
 pub use ending::Ending;
 pub use lines::Line;
-pub use places::Place;
+pub use places::LinePlace;
 pub use printed::{printed_line, push_line};
 pub use sheet::{MOST_TEXT_BYTES, Sheet, Unreadable, read_sheet};
 pub use stepping::next_line;

@@ -8,7 +8,7 @@ ghost use Rattle.xc_sheet.specs.declared.lines.Line.TheVariants as line;
 use std::alloc::Global;
 use xc_data::{Boxed, Call, HeldList, Ident, KeptItem, LateEnd, Reply, UndoEnd};
 use xc_lines::{
-    Cursor, Head, JobShown, Standing, Stop, UndoKind, read_call, read_claim, read_further,
+    Cursor, EffectShown, Head, JobShown, ReadStop, UndoKind, read_call, read_claim, read_further,
     read_head, read_job_end, read_kept, read_kind, read_late_end, read_reply, read_standing,
     read_undo_end,
 };
@@ -27,7 +27,7 @@ pub enum Line {
         kind: UndoKind,
         end: UndoEnd,
     },
-    Remains(Standing),
+    Remains(EffectShown),
     Held(HeldList),
     Job {
         number: u64,
@@ -48,7 +48,7 @@ pub enum Line {
 }
 
 #[tactic(auto, unfolding(crate::specs::Lines::late_line_at))]
-fn late_line(text: &mut Cursor) -> Result<Line, Stop>
+fn late_line(text: &mut Cursor) -> Result<Line, ReadStop>
     ensures { GivesRead result text.new (late_line_at text.old) }
 {
     let number = text.number()?;
@@ -59,7 +59,7 @@ fn late_line(text: &mut Cursor) -> Result<Line, Stop>
 }
 
 #[tactic(auto, unfolding(crate::specs::Lines::undo_line_at))]
-fn undo_line(text: &mut Cursor) -> Result<Line, Stop>
+fn undo_line(text: &mut Cursor) -> Result<Line, ReadStop>
     ensures { GivesRead result text.new (undo_line_at text.old) }
 {
     let number = text.number()?;
@@ -72,7 +72,7 @@ fn undo_line(text: &mut Cursor) -> Result<Line, Stop>
 }
 
 #[tactic(auto, unfolding(crate::specs::Lines::remains_line_at))]
-fn remains_line(alloc: Global, text: &mut Cursor) -> Result<Line, Stop>
+fn remains_line(alloc: Global, text: &mut Cursor) -> Result<Line, ReadStop>
     ensures { GivesRead result text.new (remains_line_at text.old) }
 {
     let effect = read_standing(alloc, text)?;
@@ -81,7 +81,7 @@ fn remains_line(alloc: Global, text: &mut Cursor) -> Result<Line, Stop>
 }
 
 #[tactic(auto, unfolding(crate::specs::Lines::call_line_at))]
-fn call_line(alloc: Global, text: &mut Cursor) -> Result<Line, Stop>
+fn call_line(alloc: Global, text: &mut Cursor) -> Result<Line, ReadStop>
     ensures { GivesRead result text.new (call_line_at text.old) }
 {
     let call = read_call(alloc, text)?;
@@ -92,7 +92,7 @@ fn call_line(alloc: Global, text: &mut Cursor) -> Result<Line, Stop>
 }
 
 #[tactic(auto, unfolding(crate::specs::Lines::job_line_at))]
-fn job_line(alloc: Global, text: &mut Cursor) -> Result<Line, Stop>
+fn job_line(alloc: Global, text: &mut Cursor) -> Result<Line, ReadStop>
     ensures { GivesRead result text.new (job_line_at text.old) }
 {
     let number = text.number()?;
@@ -105,7 +105,7 @@ fn job_line(alloc: Global, text: &mut Cursor) -> Result<Line, Stop>
 }
 
 #[tactic(auto, unfolding(crate::specs::Lines::word_line_at))]
-fn word_line(text: &mut Cursor) -> Result<Line, Stop>
+fn word_line(text: &mut Cursor) -> Result<Line, ReadStop>
     ensures { GivesRead result text.new (word_line_at text.old) }
 {
     let at = text.number()?;
@@ -116,7 +116,7 @@ fn word_line(text: &mut Cursor) -> Result<Line, Stop>
 }
 
 #[tactic(auto, unfolding(crate::specs::Lines::kept_line_at))]
-fn kept_line(alloc: Global, text: &mut Cursor) -> Result<Line, Stop>
+fn kept_line(alloc: Global, text: &mut Cursor) -> Result<Line, ReadStop>
     ensures { GivesRead result text.new (kept_line_at text.old) }
 {
     let kept = read_kept(alloc, text)?;
@@ -125,7 +125,7 @@ fn kept_line(alloc: Global, text: &mut Cursor) -> Result<Line, Stop>
 }
 
 #[tactic(auto, unfolding(crate::specs::Lines::total_line_at))]
-fn total_line(text: &mut Cursor) -> Result<Line, Stop>
+fn total_line(text: &mut Cursor) -> Result<Line, ReadStop>
     ensures { GivesRead result text.new (total_line_at text.old) }
 {
     let committed = text.number()?;
@@ -145,7 +145,7 @@ fn total_line(text: &mut Cursor) -> Result<Line, Stop>
 }
 
 #[tactic(auto, unfolding(crate::specs::Lines::held_line_at))]
-fn held_line(alloc: Global, text: &mut Cursor) -> Result<Line, Stop>
+fn held_line(alloc: Global, text: &mut Cursor) -> Result<Line, ReadStop>
     ensures { GivesRead result text.new (held_line_at text.old) }
 {
     let first = read_claim(alloc, text)?;
@@ -156,7 +156,7 @@ fn held_line(alloc: Global, text: &mut Cursor) -> Result<Line, Stop>
     Ok(Line::Held(claims))
 }
 
-fn head_line(alloc: Global, text: &mut Cursor) -> Result<Line, Stop>
+fn head_line(alloc: Global, text: &mut Cursor) -> Result<Line, ReadStop>
     ensures { GivesRead result text.new (mapped (λ head. line.Head head) (head_at text.old)) }
 {
     let head = read_head(alloc, text)?;
@@ -164,7 +164,7 @@ fn head_line(alloc: Global, text: &mut Cursor) -> Result<Line, Stop>
 }
 
 #[tactic(auto, unfolding(crate::specs::Lines::inner_line_at))]
-fn inner_line(alloc: Global, text: &mut Cursor) -> Result<Line, Stop>
+fn inner_line(alloc: Global, text: &mut Cursor) -> Result<Line, ReadStop>
     ensures { GivesRead result text.new (inner_line_at text.old) }
 {
     if text.passes(b"late ") {
@@ -183,7 +183,7 @@ fn inner_line(alloc: Global, text: &mut Cursor) -> Result<Line, Stop>
 }
 
 #[tactic(auto, unfolding(crate::specs::Lines::line_at))]
-pub fn any_line(alloc: Global, text: &mut Cursor) -> Result<Line, Stop>
+pub fn any_line(alloc: Global, text: &mut Cursor) -> Result<Line, ReadStop>
     ensures { GivesRead result text.new (line_at text.old) }
 {
     if text.passes(b"  ") {

@@ -1,14 +1,14 @@
 ghost use Rattle.std.specs.Prelude.{◌≡◌, ◌+◌, ◌-◌, ◌<◌, ◌^◌, ◌==◌, ◌&&◌, is_none, nat_lt, if◌then◌else◌, Some, None};
 ghost use Rattle.xc_sheet.specs.Places.{closing, words_from, jobs_from, entry_from, held_from, lates_from};
-ghost use Rattle.xc_sheet.specs.Places.{effect_from, undos_from, undone_from, commit_from, abort_from, behind_line};
-ghost use Rattle.xc_sheet.specs.declared.places.Place.TheVariants as place;
+ghost use Rattle.xc_sheet.specs.Places.{effect_line_from, undos_from, undone_from, commit_from, abort_from, behind_line};
+ghost use Rattle.xc_sheet.specs.declared.places.LinePlace.TheVariants as place;
 
 use crate::lines::Line;
 use xc_lines::Head;
 
 /// A place among the lines of a text: what may stand next.
 #[derive(Clone, Copy, Debug)]
-pub enum Place {
+pub enum LinePlace {
     /// Behind an entry, or before the first.
     Between,
     /// Behind a call of a commit, or its first line.
@@ -28,73 +28,73 @@ pub enum Place {
     Ended,
 }
 
-fn late_place(next: u64, number: u64) -> Option<Place>
+fn late_place(next: u64, number: u64) -> Option<LinePlace>
     ensures { result ≡ (if number == next && nat_lt number (2 ^ 32) then Some (place.Lates (next + 1)) else None) }
 {
     if number == next && number < 4_294_967_296 {
-        return Some(Place::Lates(next + 1));
+        return Some(LinePlace::Lates(next + 1));
     }
     None
 }
 
-fn undo_place(left: u64, number: u64) -> Option<Place>
+fn undo_place(left: u64, number: u64) -> Option<LinePlace>
     requires { 0 < left }
     ensures { result ≡ (if number == left then Some (place.Undos (left - 1)) else None) }
 {
     if number == left {
-        return Some(Place::Undos(left - 1));
+        return Some(LinePlace::Undos(left - 1));
     }
     None
 }
 
-fn newest_place(number: u64) -> Option<Place>
+fn newest_place(number: u64) -> Option<LinePlace>
     ensures { result ≡ (if number == 0 then None else Some (place.Undos (number - 1))) }
 {
     if number == 0 {
         return None;
     }
-    Some(Place::Undos(number - 1))
+    Some(LinePlace::Undos(number - 1))
 }
 
-fn entry_place(head: &Head) -> Place
+fn entry_place(head: &Head) -> LinePlace
     ensures { result ≡ (if is_none head.now.cause then place.Commits else place.Aborts) }
 {
     match &head.cause {
-        None => Place::Commits,
-        Some(_) => Place::Aborts,
+        None => LinePlace::Commits,
+        Some(_) => LinePlace::Aborts,
     }
 }
 
-fn closing(line: &Line) -> Option<Place>
+fn closing(line: &Line) -> Option<LinePlace>
     ensures { result ≡ closing line.now }
 {
     match line {
-        Line::Kept(_) => Some(Place::Kept),
-        Line::Total { .. } => Some(Place::Ended),
+        Line::Kept(_) => Some(LinePlace::Kept),
+        Line::Total { .. } => Some(LinePlace::Ended),
         Line::Head(_) | Line::Call(..) | Line::Late { .. } | Line::Undo { .. } => None,
         Line::Remains(_) | Line::Held(_) | Line::Job { .. } | Line::Word { .. } => None,
     }
 }
 
-fn words_from(line: &Line) -> Option<Place>
+fn words_from(line: &Line) -> Option<LinePlace>
     ensures { result ≡ words_from line.now }
 {
     match line {
-        Line::Word { .. } => Some(Place::Words),
+        Line::Word { .. } => Some(LinePlace::Words),
         _ => closing(line),
     }
 }
 
-fn jobs_from(line: &Line) -> Option<Place>
+fn jobs_from(line: &Line) -> Option<LinePlace>
     ensures { result ≡ jobs_from line.now }
 {
     match line {
-        Line::Job { .. } => Some(Place::Jobs),
+        Line::Job { .. } => Some(LinePlace::Jobs),
         _ => words_from(line),
     }
 }
 
-fn entry_from(line: &Line) -> Option<Place>
+fn entry_from(line: &Line) -> Option<LinePlace>
     ensures { result ≡ entry_from line.now }
 {
     match line {
@@ -103,16 +103,16 @@ fn entry_from(line: &Line) -> Option<Place>
     }
 }
 
-fn held_from(line: &Line) -> Option<Place>
+fn held_from(line: &Line) -> Option<LinePlace>
     ensures { result ≡ held_from line.now }
 {
     match line {
-        Line::Held(_) => Some(Place::Between),
+        Line::Held(_) => Some(LinePlace::Between),
         _ => entry_from(line),
     }
 }
 
-fn lates_from(next: u64, line: &Line) -> Option<Place>
+fn lates_from(next: u64, line: &Line) -> Option<LinePlace>
     ensures { result ≡ lates_from next line.now }
 {
     match line {
@@ -121,16 +121,16 @@ fn lates_from(next: u64, line: &Line) -> Option<Place>
     }
 }
 
-fn effect_from(line: &Line) -> Option<Place>
-    ensures { result ≡ effect_from line.now }
+fn effect_from(line: &Line) -> Option<LinePlace>
+    ensures { result ≡ effect_line_from line.now }
 {
     match line {
-        Line::Remains(_) => Some(Place::Remaining),
+        Line::Remains(_) => Some(LinePlace::Remaining),
         _ => held_from(line),
     }
 }
 
-fn undos_from(left: u64, line: &Line) -> Option<Place>
+fn undos_from(left: u64, line: &Line) -> Option<LinePlace>
     requires { 0 < left }
     ensures { result ≡ undos_from left line.now }
 {
@@ -142,7 +142,7 @@ fn undos_from(left: u64, line: &Line) -> Option<Place>
     }
 }
 
-fn undone_from(left: u64, line: &Line) -> Option<Place>
+fn undone_from(left: u64, line: &Line) -> Option<LinePlace>
     ensures { result ≡ undone_from left line.now }
 {
     if left == 0 {
@@ -152,41 +152,41 @@ fn undone_from(left: u64, line: &Line) -> Option<Place>
     }
 }
 
-fn commit_from(line: &Line) -> Option<Place>
+fn commit_from(line: &Line) -> Option<LinePlace>
     ensures { result ≡ commit_from line.now }
 {
     match line {
-        Line::Call(..) => Some(Place::Commits),
+        Line::Call(..) => Some(LinePlace::Commits),
         _ => lates_from(1, line),
     }
 }
 
-fn abort_from(line: &Line) -> Option<Place>
+fn abort_from(line: &Line) -> Option<LinePlace>
     ensures { result ≡ abort_from line.now }
 {
     match line {
-        Line::Call(..) => Some(Place::Aborts),
+        Line::Call(..) => Some(LinePlace::Aborts),
         Line::Undo { number, .. } => newest_place(*number),
         _ => held_from(line),
     }
 }
 
-impl Place {
+impl LinePlace {
     /// The place behind a line, none where it may not stand.
-    pub fn behind(self, line: &Line) -> Option<Place>
+    pub fn behind(self, line: &Line) -> Option<LinePlace>
         ensures { result ≡ behind_line self line.now }
     {
         match self {
-            Place::Between => entry_from(line),
-            Place::Commits => commit_from(line),
-            Place::Aborts => abort_from(line),
-            Place::Lates(next) => lates_from(next, line),
-            Place::Undos(left) => undone_from(left, line),
-            Place::Remaining => effect_from(line),
-            Place::Jobs => jobs_from(line),
-            Place::Words => words_from(line),
-            Place::Kept => closing(line),
-            Place::Ended => None,
+            LinePlace::Between => entry_from(line),
+            LinePlace::Commits => commit_from(line),
+            LinePlace::Aborts => abort_from(line),
+            LinePlace::Lates(next) => lates_from(next, line),
+            LinePlace::Undos(left) => undone_from(left, line),
+            LinePlace::Remaining => effect_from(line),
+            LinePlace::Jobs => jobs_from(line),
+            LinePlace::Words => words_from(line),
+            LinePlace::Kept => closing(line),
+            LinePlace::Ended => None,
         }
     }
 }

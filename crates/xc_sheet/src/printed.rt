@@ -12,7 +12,7 @@ ghost use Rattle.xc_lines.specs.Tails.{kind_name, standing_text, job_end_name};
 use crate::lines::{Line, any_line};
 use std::alloc::Global;
 use xc_data::{Cause, Ident, KeptItem, LateEnd, NoMemory, Text, UndoEnd};
-use xc_lines::{Cursor, Head, JobShown, Standing, Stop, UndoKind};
+use xc_lines::{Cursor, EffectShown, Head, JobShown, ReadStop, UndoKind};
 use xc_print::{
     Page, Totals, push_bytes, push_call_line, push_cause, push_held, push_labelled, push_late_end,
     push_made, push_message, push_moved, push_overwrite, push_tail, push_totals, push_undo_end,
@@ -70,16 +70,16 @@ fn push_kind(out: &mut Page, kind: UndoKind) -> Result<(), NoMemory>
     }
 }
 
-fn push_standing(out: &mut Page, effect: &Standing) -> Result<(), NoMemory>
+fn push_standing(out: &mut Page, effect: &EffectShown) -> Result<(), NoMemory>
     ensures { OnOk result (out.new ≡ out.old ++ standing_text effect.now) }
 {
     match effect {
-        Standing::Bytes { file, at, bytes } => push_overwrite(out, *file, *at, bytes.as_slice()),
-        Standing::Tail { file, from, bytes } => push_tail(out, *file, *from, bytes.as_slice()),
-        Standing::Made { name, num } => push_made(out, name.value(), *num),
-        Standing::Moved { from, to } => push_moved(out, from.value(), to.value()),
-        Standing::Pipe(num) => push_labelled(out, "pipe ", *num),
-        Standing::Pair(num) => push_labelled(out, "pair ", *num),
+        EffectShown::Bytes { file, at, bytes } => push_overwrite(out, *file, *at, bytes.as_slice()),
+        EffectShown::Tail { file, from, bytes } => push_tail(out, *file, *from, bytes.as_slice()),
+        EffectShown::Made { name, num } => push_made(out, name.value(), *num),
+        EffectShown::Moved { from, to } => push_moved(out, from.value(), to.value()),
+        EffectShown::Pipe(num) => push_labelled(out, "pipe ", *num),
+        EffectShown::Pair(num) => push_labelled(out, "pair ", *num),
     }
 }
 
@@ -150,7 +150,7 @@ fn push_undo(out: &mut Page, number: u64, kind: UndoKind, end: &UndoEnd) -> Resu
     out.text("\n")
 }
 
-fn push_remains(out: &mut Page, effect: &Standing) -> Result<(), NoMemory>
+fn push_remains(out: &mut Page, effect: &EffectShown) -> Result<(), NoMemory>
     ensures { OnOk result (out.new ≡ out.old ++ line_text (line.Remains effect.now)) }
 {
     out.text("  remains ")?;
@@ -211,18 +211,18 @@ fn line_again(alloc: Global, line: &Line) -> Result<Text, NoMemory>
 
 // Goes behind these bytes, of which there must be one.
 #[tactic(auto, unfolding(crate::specs::Printed::past_some))]
-fn pass_some(text: &mut Cursor, front: &[u8]) -> Result<(), Stop>
+fn pass_some(text: &mut Cursor, front: &[u8]) -> Result<(), ReadStop>
     ensures { PassesFront result text.new (past_some front.now text.old) }
 {
     if front.is_empty() {
-        return Err(Stop::Unread);
+        return Err(ReadStop::Unread);
     }
     text.pass(front)
 }
 
 // A line that is printed as it stands here.
 #[tactic(auto, unfolding(crate::specs::Printed::printed))]
-fn compared<'a>(alloc: Global, text: &mut Cursor<'a>) -> Result<Line, Stop>
+fn compared<'a>(alloc: Global, text: &mut Cursor<'a>) -> Result<Line, ReadStop>
     ensures { GivesRead result text.new (printed line_at line_text text.old) }
 {
     let mut from = text.again();
@@ -234,7 +234,7 @@ fn compared<'a>(alloc: Global, text: &mut Cursor<'a>) -> Result<Line, Stop>
 }
 
 /// A line. What is read is printed so; what is printed so is read, unless memory runs out.
-pub fn printed_line<'a>(alloc: Global, text: &mut Cursor<'a>) -> Result<Line, Stop>
+pub fn printed_line<'a>(alloc: Global, text: &mut Cursor<'a>) -> Result<Line, ReadStop>
     ensures found { IfOk result (λ line. text.old ≡ line_text line ++ text.new) }
     ensures some { IfOk result (λ line. 0 < length (line_text line)) }
     ensures only { (line : Line) (rest : List ℕ) → IsLineInRange line

@@ -11,7 +11,7 @@ ghost use Rattle.xc_sheet.specs.Sheets.{IsReadSheet, AreAllOf, HaveText, ending_
 
 use crate::ending::Ending;
 use crate::lines::Line;
-use crate::places::Place;
+use crate::places::LinePlace;
 use crate::stepping::add_line;
 use std::alloc::Global;
 use xc_data::{Items, NoMemory};
@@ -49,19 +49,21 @@ fn broken(lines: Items<Line>) -> Sheet
 }
 
 // What was read up to the text's end.
-fn ended(place: Place, lines: Items<Line>) -> Sheet
+fn ended(place: LinePlace, lines: Items<Line>) -> Sheet
     requires { length lines ≤ 67108864 }
     ensures lines { result.lines ≡ lines }
     ensures ending { result.ending ≡ ending_at place lines }
 {
     match place {
-        Place::Ended => Sheet {
+        LinePlace::Ended => Sheet {
             lines,
             ending: Ending::Whole,
         },
-        Place::Between | Place::Commits | Place::Aborts | Place::Lates(_) => broken(lines),
-        Place::Undos(_) | Place::Remaining => broken(lines),
-        Place::Jobs | Place::Words | Place::Kept => broken(lines),
+        LinePlace::Between | LinePlace::Commits | LinePlace::Aborts | LinePlace::Lates(_) => broken(
+            lines,
+        ),
+        LinePlace::Undos(_) | LinePlace::Remaining => broken(lines),
+        LinePlace::Jobs | LinePlace::Words | LinePlace::Kept => broken(lines),
     }
 }
 
@@ -73,7 +75,7 @@ fn read_lines(alloc: Global, text: &[u8]) -> Result<Sheet, NoMemory>
     ensures some { IfOk result (λ sheet. HaveText sheet.lines) }
 {
     let mut lines = Items::new(alloc);
-    let mut place = Place::Between;
+    let mut place = LinePlace::Between;
     let mut rest = Cursor::new(text);
     while !rest.is_empty() {
         match add_line(alloc, &mut rest, place, &mut lines)? {

@@ -1,29 +1,29 @@
 ghost use Rattle.std.specs.Prelude.{◌≡◌, ◌++◌, ◌∷◌, [], IfOk, IfErr, IfSome, None};
-ghost use Rattle.xc_lines.specs.declared.stop.Stop.TheVariants as stop;
+ghost use Rattle.xc_lines.specs.declared.stop.ReadStop.TheVariants as stop;
 ghost use Rattle.xc_sheet.specs.declared.lines.Line.{Line};
 ghost use Rattle.xc_sheet.specs.Sheets.{NoLineFits, IsLineRead};
 
 use crate::lines::Line;
-use crate::places::Place;
+use crate::places::LinePlace;
 use crate::printed::printed_line;
 use std::alloc::Global;
 use xc_data::{Items, NoMemory};
-use xc_lines::{Cursor, Stop};
+use xc_lines::{Cursor, ReadStop};
 
 /// The line that stands here, where it may stand in this place, and the place behind it. `Unread` where no line that may
 /// stand in this place stands here; the cursor is then anywhere.
 pub fn next_line<'a>(
     alloc: Global,
     text: &mut Cursor<'a>,
-    place: Place,
-) -> Result<(Line, Place), Stop>
+    place: LinePlace,
+) -> Result<(Line, LinePlace), ReadStop>
     ensures read { IfOk result (λ p. IsLineRead p.0 place p.1 text.old text.new) }
     ensures none { IfErr result (λ e. e ≡ stop.Unread → NoLineFits place text.old) }
 {
     let line = printed_line(alloc, text)?;
     match place.behind(&line) {
         Some(next) => Ok((line, next)),
-        None => Err(Stop::Unread),
+        None => Err(ReadStop::Unread),
     }
 }
 
@@ -31,9 +31,9 @@ pub fn next_line<'a>(
 pub fn add_line<'a>(
     alloc: Global,
     text: &mut Cursor<'a>,
-    place: Place,
+    place: LinePlace,
     lines: &mut Items<Line>,
-) -> Result<Option<Place>, NoMemory>
+) -> Result<Option<LinePlace>, NoMemory>
     ensures read { IfOk result (λ next. IfSome next (λ next.
         (l : Line) × (lines.new ≡ lines.old ++ l ∷ []) × IsLineRead l place next text.old text.new)) }
     ensures none { IfOk result (λ next. next ≡ None → NoLineFits place text.old) }
@@ -44,7 +44,7 @@ pub fn add_line<'a>(
             lines.push(line)?;
             Ok(Some(next))
         }
-        Err(Stop::Unread) => Ok(None),
-        Err(Stop::NoMemory) => Err(NoMemory),
+        Err(ReadStop::Unread) => Ok(None),
+        Err(ReadStop::NoMemory) => Err(NoMemory),
     }
 }

@@ -12,7 +12,7 @@ use Rattle.xc_data.specs.declared.entry.Outcome.{Outcome}
 use Rattle.xc_data.specs.declared.entry.Outcome.TheVariants.{Committed, Aborted}
 use Rattle.xc_data.specs.declared.entry.Report.{Report}
 use Rattle.xc_data.specs.declared.undo.UndoEnd.{UndoEnd}
-use Rattle.xc_lines.specs.declared.shown.Standing.{Standing}
+use Rattle.xc_lines.specs.declared.shown.EffectShown.{EffectShown}
 use Rattle.xc_lines.specs.declared.shown.UndoKind.{UndoKind}
 use Rattle.xc_sheet.specs.Ends.{lines_of_calls, lines_of_lates, line_of_held}
 use Rattle.xc_sheet.specs.declared.lines.Line.TheVariants as line
@@ -39,7 +39,7 @@ records_count n ((kind, end) ∷ records) =
     omega (arith, both, records_count (n + 1) records)
 
 -- and an effect
-standing_count : (effects : List Standing) → length (lines_of_standing effects) ≡ length effects
+standing_count : (effects : List EffectShown) → length (lines_of_standing effects) ≡ length effects
 standing_count [] = refl
 standing_count (effect ∷ effects) = ap (λ k. suc k) (standing_count effects)
 

@@ -18,10 +18,10 @@ reads_on before rest l g new all parts step e =
     ap (with_lines rest) step ∙ sym (last_first rest l g) ∙ sym (ap (λ ls. with_lines ls g) parts) ∙ e
 
 -- where none was popped, none was there
-pub none_there : (popped : Option Line) (n m : ℕ) (More : Line → Type 0) → ((l : Line) → popped ≡ Some l → ⊥)
+pub none_popped : (popped : Option Line) (n m : ℕ) (More : Line → Type 0) → ((l : Line) → popped ≡ Some l → ⊥)
     → MatchOption popped ((n ≡ 0) × (m ≡ 0)) More → n ≡ 0
-none_there None n m More lacks cases = cases.0
-none_there (Some l) n m More lacks cases = absurd (lacks l refl)
+none_popped None n m More lacks cases = cases.0
+none_popped (Some l) n m More lacks cases = absurd (lacks l refl)
 
 -- none is left
 pub all_read : (rest : List Line) (g all : Gathered) → length rest ≡ 0 → with_lines rest g ≡ all → g ≡ all

@@ -12,22 +12,22 @@ use Rattle.xc_data.specs.declared.claim.Claim.{Claim}
 use Rattle.xc_data.specs.declared.entry.Cause.{Cause}
 use Rattle.xc_data.specs.declared.entry.Outcome.TheVariants.{Committed, Aborted}
 use Rattle.xc_data.specs.declared.undo.UndoEnd.{UndoEnd}
-use Rattle.xc_lines.specs.declared.shown.Standing.{Standing}
+use Rattle.xc_lines.specs.declared.shown.EffectShown.{EffectShown}
 use Rattle.xc_lines.specs.declared.shown.UndoKind.{UndoKind}
 use Rattle.xc_sheet.specs.Ends.{lines_of_calls, lines_of_lates, line_of_held}
 use Rattle.xc_sheet.specs.Lines.{line_text}
-use Rattle.xc_sheet.specs.Places.{closing, words_from, jobs_from, entry_from, held_from, lates_from, effect_from, undos_from, undone_from, commit_from}
+use Rattle.xc_sheet.specs.Places.{closing, words_from, jobs_from, entry_from, held_from, lates_from, effect_line_from, undos_from, undone_from, commit_from}
 use Rattle.xc_sheet.specs.Places.{abort_from, behind_line, behind_lines}
 use Rattle.xc_sheet.specs.declared.lines.Line.{Line}
 use Rattle.xc_sheet.specs.declared.lines.Line.TheVariants as line
-use Rattle.xc_sheet.specs.declared.places.Place.{Place}
-use Rattle.xc_sheet.specs.declared.places.Place.TheVariants as place
+use Rattle.xc_sheet.specs.declared.places.LinePlace.{LinePlace}
+use Rattle.xc_sheet.specs.declared.places.LinePlace.TheVariants as place
 use Rattle.xc_shown.specs.Shown.{bare, lines_of_records, lines_of_standing, shown_lines, is_of_entry, IsReplied, IsPlain}
 use Rattle.xc_shown.specs.declared.shown.Shown.{Shown}
 
 -- ---- what lines are, by the place from which on they stand
 -- the lines of an entry tell all that this shows
-pub record IsWhole (shown : Shown) : Type 0 where
+pub record IsToldWhole (shown : Shown) : Type 0 where
   pub without : bare shown.entry ≡ shown.entry
   pub each : IsReplied shown.entry
   pub plain : IsPlain shown.entry.outcome shown
@@ -40,7 +40,7 @@ AreTail lines = AllByRecursion (λ (l : Line). is_of_entry l ≡ false) lines
 pub record AtEntry (lines : List Line) : Type 0 where
   pub entries : List Shown
   pub tail : List Line
-  pub whole : AllByRecursion IsWhole entries
+  pub whole : AllByRecursion IsToldWhole entries
   pub behind : AreTail tail
   pub are : lines ≡ shown_lines entries ++ tail
 
@@ -53,7 +53,7 @@ record AtHeld (lines : List Line) : Type 0 where
 
 -- before that those of effects
 record AtEffects (lines : List Line) : Type 0 where
-  effects : List Standing
+  effects : List EffectShown
   rest : List Line
   next : AtHeld rest
   are : lines ≡ lines_of_standing effects ++ rest
@@ -93,7 +93,7 @@ record AtAbort (lines : List Line) : Type 0 where
   are : lines ≡ lines_of_calls calls replies ++ rest
 
 -- what lines are from a place on
-abbrev At : Place → List Line → Type 0
+abbrev At : LinePlace → List Line → Type 0
 At place.Between lines = AtEntry lines
 At place.Commits lines = AtCommit lines
 At place.Aborts lines = AtAbort lines
@@ -106,7 +106,7 @@ At place.Kept lines = AreTail lines
 At place.Ended lines = AreTail lines
 
 -- the same behind a line, if it may stand there
-abbrev On : Option Place → List Line → Type 0
+abbrev On : Option LinePlace → List Line → Type 0
 On None lines = ⊥
 On (Some p) lines = At p lines
 
@@ -233,7 +233,7 @@ held_in (line.Held (claim ∷ claims)) lines some h = record { claims = claim �
 held_in l lines some h = record { claims = []; rest = l ∷ lines; next = entry_in l lines h; are = refl }
 
 -- that of an effect, or what stands behind the effects
-effect_in : (l : Line) (lines : List Line) → HasText l → On (effect_from l) lines → AtEffects (l ∷ lines)
+effect_in : (l : Line) (lines : List Line) → HasText l → On (effect_line_from l) lines → AtEffects (l ∷ lines)
 effect_in (line.Remains effect) lines some h =
     record { effects = effect ∷ h.effects; rest = h.rest; next = h.next; are = ap (λ ls. line.Remains effect ∷ ls) h.are }
 effect_in l lines some h = record { effects = []; rest = l ∷ lines; next = held_in l lines some h; are = refl }
@@ -299,7 +299,7 @@ no_records : (l : Line) (lines : List Line) → AtEffects (l ∷ lines) → AtRe
 no_records l lines h = record { records = []; count = refl; rest = l ∷ lines; next = h; are = refl }
 
 -- a record is left, or none
-undone_by : (left : ℕ) (l : Line) (lines : List Line) (b : Bool) → (left == 0) ≡ b → HasText l → On (if b then effect_from l else undos_from left l) lines
+undone_by : (left : ℕ) (l : Line) (lines : List Line) (b : Bool) → (left == 0) ≡ b → HasText l → On (if b then effect_line_from l else undos_from left l) lines
     → AtRecords left (l ∷ lines)
 undone_by left l lines true e some h =
     let none : 0 ≡ left = grind (arith, nat_tests) in
@@ -365,7 +365,7 @@ abort_in l lines some h =
 
 -- ---- all lines
 -- a line in its place, in front of what the others are
-step : (p : Place) (l : Line) (lines : List Line) → HasText l → On (behind_line p l) lines → At p (l ∷ lines)
+step : (p : LinePlace) (l : Line) (lines : List Line) → HasText l → On (behind_line p l) lines → At p (l ∷ lines)
 step place.Between l lines some h = entry_in l lines h
 step place.Commits l lines some h = commit_in l lines some h
 step place.Aborts l lines some h = abort_in l lines some h
@@ -378,11 +378,11 @@ step place.Kept l lines some h = closing_in l lines h
 step place.Ended l lines some h = absurd h
 
 -- all lines from a place on
-placed : (o : Option Place) (lines : List Line) → AllByRecursion HasText lines → behind_lines o lines ≡ Some place.Ended → On o lines
+placed : (o : Option LinePlace) (lines : List Line) → AllByRecursion HasText lines → behind_lines o lines ≡ Some place.Ended → On o lines
 unfolding behind_lines
 placed None lines some e = absurd cc
 placed (Some p) [] some e =
-    let ended : place.Ended ≡ p = sym (ap (λ (o : Option Place). unwrap_or o p) e) in
+    let ended : place.Ended ≡ p = sym (ap (λ (o : Option LinePlace). unwrap_or o p) e) in
     subst (λ q. At q []) ended tt
 placed (Some p) (l ∷ lines) some e = step p l lines some.0 (placed (behind_line p l) lines some.1 e)
 

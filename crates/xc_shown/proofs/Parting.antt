@@ -12,20 +12,20 @@ use Rattle.xc_data.specs.declared.entry.Outcome.{Outcome}
 use Rattle.xc_data.specs.declared.entry.Outcome.TheVariants.{Committed, Aborted}
 use Rattle.xc_data.specs.declared.undo.Undo.{Undo}
 use Rattle.xc_data.specs.declared.undo.UndoEnd.{UndoEnd}
-use Rattle.xc_lines.specs.declared.shown.Standing.{Standing}
+use Rattle.xc_lines.specs.declared.shown.EffectShown.{EffectShown}
 use Rattle.xc_lines.specs.declared.shown.UndoKind.{UndoKind}
 use Rattle.xc_sheet.specs.Ends.{kind_shown, effect_shown, cause_shown, head_shown, lines_of_calls, lines_of_lates}
 use Rattle.xc_sheet.specs.Ends.{lines_of_undos, line_of_effect, lines_of_effects}
 use Rattle.xc_sheet.specs.Ends.{lines_of_outcome, line_of_held, lines_of_entry, lines_of_entries}
 use Rattle.xc_sheet.specs.declared.lines.Line.{Line}
 use Rattle.xc_sheet.specs.declared.lines.Line.TheVariants as line
-use Rattle.xc_shown.specs.Parting.{nothing, with_line, with_lines}
+use Rattle.xc_shown.specs.Parting.{nothing_gathered, with_line, with_lines}
 use Rattle.xc_shown.specs.Shown.{bare, bare_outcome, records_of, record_shown, effect_from, effects_shown, shown_of, lines_of_records, lines_of_standing}
 use Rattle.xc_shown.specs.Shown.{lines_of_outcome_shown, lines_of_shown, shown_lines, is_of_entry, IsReplied, IsPlain}
 use Rattle.xc_shown.specs.declared.gathered.Gathered.{Gathered}
 use Rattle.xc_shown.specs.declared.shown.Shown.{Shown}
 use Rattle.xc_shown.proofs.Gathering.{last_first}
-use Rattle.xc_shown.proofs.Grammar.{IsWhole, AreTail}
+use Rattle.xc_shown.proofs.Grammar.{IsToldWhole, AreTail}
 
 -- ---- parts of lines, read
 -- two parts, the second one first
@@ -55,7 +55,7 @@ held_read [] g none = ap (λ h. record g { held = h }) none
 held_read (claim ∷ claims) g none = refl
 
 -- those of effects
-effects_read : (effects : List Standing) (g : Gathered) → with_lines (lines_of_standing effects) g ≡ record g { effects = effects ++ g.effects }
+effects_read : (effects : List EffectShown) (g : Gathered) → with_lines (lines_of_standing effects) g ≡ record g { effects = effects ++ g.effects }
 unfolding with_lines
 effects_read [] g = refl
 effects_read (effect ∷ effects) g = ap (with_line (line.Remains effect)) (effects_read effects g)
@@ -89,8 +89,8 @@ calls_read (call ∷ calls) (reply ∷ replies) g each =
 
 -- ---- an entry
 -- what was read behind it
-abbrev behind : List Shown → List Line → Gathered
-behind entries tail = record nothing { entries = entries; tail = tail }
+abbrev gathered_behind : List Shown → List Line → Gathered
+gathered_behind entries tail = record nothing_gathered { entries = entries; tail = tail }
 
 -- a commit behind its first line
 commit_read : (calls : List Call) (replies : List Reply) (late : List LateEnd) (claims : List Claim) (g : Gathered)
@@ -105,7 +105,7 @@ commit_read calls replies late claims g each none =
     ∙ calls_read calls replies (record g { late = late ++ g.late; held = claims }) each
 
 -- an abort behind its first line
-abort_read : (calls : List Call) (replies : List Reply) (records : List (UndoKind × UndoEnd)) (effects : List Standing) (claims : List Claim) (g : Gathered)
+abort_read : (calls : List Call) (replies : List Reply) (records : List (UndoKind × UndoEnd)) (effects : List EffectShown) (claims : List Claim) (g : Gathered)
     → length calls ≡ length replies → g.held ≡ []
     → with_lines (lines_of_calls calls replies ++ ((lines_of_records 1 records ++ lines_of_standing effects) ++ line_of_held claims)) g
     ≡ record g {
@@ -128,8 +128,8 @@ abort_read calls replies records effects claims g each none =
 -- the lines of an entry with this outcome are read as what they show, where this has neither records in its report nor, of a commit,
 -- beside it
 outcome_read : (shown : Shown) (o : Outcome) (entries : List Shown) (tail : List Line) → IsReplied shown.entry → bare_outcome o ≡ o → IsPlain o shown
-    → with_lines (lines_of_shown (record shown { entry = record shown.entry { outcome = o } })) (behind entries tail)
-    ≡ behind (record shown { entry = record shown.entry { outcome = o } } ∷ entries) tail
+    → with_lines (lines_of_shown (record shown { entry = record shown.entry { outcome = o } })) (gathered_behind entries tail)
+    ≡ gathered_behind (record shown { entry = record shown.entry { outcome = o } } ∷ entries) tail
 unfolding with_lines
 outcome_read shown (Committed late) entries tail each without plain =
     let e = shown.entry in
@@ -139,8 +139,8 @@ outcome_read shown (Committed late) entries tail each without plain =
     let same_replies = append-nil e.replies in
     let same_late = append-nil late in
     ap (with_line (line.Head (head_shown (record e { outcome = Committed late }))))
-    (commit_read e.calls e.replies late e.held (behind entries tail) each refl)
-    ∙ (λ i. behind (record {
+    (commit_read e.calls e.replies late e.held (gathered_behind entries tail) each refl)
+    ∙ (λ i. gathered_behind (record {
       entry = record e { calls = same_calls i; replies = same_replies i; outcome = Committed (same_late i) };
       records = no_records i;
       effects = no_effects i;
@@ -151,34 +151,34 @@ outcome_read shown (Aborted report) entries tail each without plain =
     let same_replies = append-nil e.replies in
     let same_effects = append-nil shown.effects in
     ap (with_line (line.Head (head_shown (record e { outcome = Aborted report }))))
-    (abort_read e.calls e.replies shown.records shown.effects e.held (behind entries tail) each refl)
-    ∙ (λ i. behind (record {
+    (abort_read e.calls e.replies shown.records shown.effects e.held (gathered_behind entries tail) each refl)
+    ∙ (λ i. gathered_behind (record {
       entry = record e { calls = same_calls i; replies = same_replies i; outcome = without i };
       records = shown.records;
       effects = same_effects i;
     } ∷ entries) tail)
 
 -- the lines of an entry are read as what they show, where this is all that they tell
-shown_read : (shown : Shown) (entries : List Shown) (tail : List Line) → IsWhole shown
-    → with_lines (lines_of_shown shown) (behind entries tail) ≡ behind (shown ∷ entries) tail
+shown_read : (shown : Shown) (entries : List Shown) (tail : List Line) → IsToldWhole shown
+    → with_lines (lines_of_shown shown) (gathered_behind entries tail) ≡ gathered_behind (shown ∷ entries) tail
 shown_read shown entries tail whole =
     outcome_read shown shown.entry.outcome entries tail whole.each (ap (λ (e : Entry). e.outcome) whole.without) whole.plain
 
 -- lines of entries and a tail are read as these
-pub parts_read : (entries : List Shown) (tail : List Line) → AllByRecursion IsWhole entries → AreTail tail
-    → with_lines (shown_lines entries ++ tail) nothing ≡ behind entries tail
-parts_read [] tail whole all = tail_read tail nothing all ∙ ap (behind []) (append-nil tail)
+pub parts_read : (entries : List Shown) (tail : List Line) → AllByRecursion IsToldWhole entries → AreTail tail
+    → with_lines (shown_lines entries ++ tail) nothing_gathered ≡ gathered_behind entries tail
+parts_read [] tail whole all = tail_read tail nothing_gathered all ∙ ap (gathered_behind []) (append-nil tail)
 parts_read (shown ∷ entries) tail whole all =
-    ap (λ ls. with_lines ls nothing) (append_assoc (lines_of_shown shown) (shown_lines entries) tail)
-    ∙ after_both (lines_of_shown shown) (shown_lines entries ++ tail) nothing
+    ap (λ ls. with_lines ls nothing_gathered) (append_assoc (lines_of_shown shown) (shown_lines entries) tail)
+    ∙ after_both (lines_of_shown shown) (shown_lines entries ++ tail) nothing_gathered
     ∙ ap (with_lines (lines_of_shown shown)) (parts_read entries tail whole.1 all)
     ∙ shown_read shown entries tail whole.0
 
 -- so lines part in one way alone
-pub parted_alike : (a b : List Shown) (t u : List Line) → AllByRecursion IsWhole a → AllByRecursion IsWhole b → AreTail t → AreTail u
+pub parted_alike : (a b : List Shown) (t u : List Line) → AllByRecursion IsToldWhole a → AllByRecursion IsToldWhole b → AreTail t → AreTail u
     → shown_lines a ++ t ≡ shown_lines b ++ u → (a ≡ b) × (t ≡ u)
 parted_alike a b t u whole_a whole_b tail_t tail_u same =
-    let e = sym (parts_read a t whole_a tail_t) ∙ ap (λ ls. with_lines ls nothing) same ∙ parts_read b u whole_b tail_u in
+    let e = sym (parts_read a t whole_a tail_t) ∙ ap (λ ls. with_lines ls nothing_gathered) same ∙ parts_read b u whole_b tail_u in
     (ap (λ (g : Gathered). g.entries) e, ap (λ (g : Gathered). g.tail) e)
 
 -- ---- what the lines of a journal show
@@ -188,7 +188,7 @@ undos_shown n [] = refl
 undos_shown n ((undo, end) ∷ records) = ap (λ ls. ls ++ line.Undo n (kind_shown undo) end ∷ []) (undos_shown (n + 1) records)
 
 -- that of an effect, in front of others
-effect_shows : (undo : Undo) (from : Option ℕ) (effects : List Standing) (lines : List Line) → lines ≡ lines_of_standing effects
+effect_shows : (undo : Undo) (from : Option ℕ) (effects : List EffectShown) (lines : List Line) → lines ≡ lines_of_standing effects
     → line_of_effect undo from ++ lines ≡ lines_of_standing (effect_from undo from ++ effects)
 effect_shows undo None effects lines e = e
 effect_shows undo (Some k) effects lines e = ap (λ ls. line.Remains (effect_shown undo k) ∷ ls) e
@@ -238,11 +238,11 @@ plain_outcome (Committed late) e = (refl, refl)
 plain_outcome (Aborted report) e = tt
 
 -- what an entry's lines show is all that they tell
-pub shows_whole : (e : Entry) → IsReplied e → IsWhole (shown_of e)
+pub shows_whole : (e : Entry) → IsReplied e → IsToldWhole (shown_of e)
 shows_whole e each =
     record { without = ap (λ o. record e { outcome = o }) (bare_again e.outcome); each = each; plain = plain_outcome e.outcome (bare e) }
 
 -- the same of each
-pub all_whole : (journal : List Entry) → AllByRecursion IsReplied journal → AllByRecursion IsWhole (map shown_of journal)
+pub all_whole : (journal : List Entry) → AllByRecursion IsReplied journal → AllByRecursion IsToldWhole (map shown_of journal)
 all_whole [] each = tt
 all_whole (e ∷ journal) each = (shows_whole e each.0, all_whole journal each.1)

@@ -13,27 +13,27 @@ use Rattle.xc_sheet.specs.Places.{behind_lines}
 use Rattle.xc_sheet.specs.Sheets.{HaveText}
 use Rattle.xc_sheet.specs.declared.lines.Line.{Line}
 use Rattle.xc_sheet.specs.declared.lines.Line.TheVariants as line
-use Rattle.xc_sheet.specs.declared.places.Place.TheVariants as place
-use Rattle.xc_shown.specs.Parting.{nothing, with_lines}
+use Rattle.xc_sheet.specs.declared.places.LinePlace.TheVariants as place
+use Rattle.xc_shown.specs.Parting.{nothing_gathered, with_lines}
 use Rattle.xc_shown.specs.Shown.{bare, shown_of, shown_lines, tail_lines, is_of_entry, IsReplied, IsPlain}
 use Rattle.xc_shown.specs.declared.gathered.Gathered.{Gathered}
 use Rattle.xc_shown.specs.declared.shown.Shown.{Shown}
-use Rattle.xc_shown.proofs.Grammar.{IsWhole, AreTail, HasText, are_of_entries}
+use Rattle.xc_shown.proofs.Grammar.{IsToldWhole, AreTail, HasText, are_of_entries}
 use Rattle.xc_shown.proofs.Parting.{parts_read, entries_show, all_whole}
 
 -- lines in these parts, which show all that they tell
 pub record AreParts (lines : List Line) (entries : List Shown) (tail : List Line) : Type 0 where
   pub joined : lines ≡ shown_lines entries ++ tail
-  pub whole : AllByRecursion IsWhole entries
+  pub whole : AllByRecursion IsToldWhole entries
   pub behind : AreTail tail
 
 -- what was read of a whole text are its parts
 pub parts_of_all : (lines : List Line) (g : Gathered) (entries : List Shown) (tail : List Line)
-    → behind_lines (Some place.Between) lines ≡ Some place.Ended → HaveText lines → g ≡ with_lines lines nothing
+    → behind_lines (Some place.Between) lines ≡ Some place.Ended → HaveText lines → g ≡ with_lines lines nothing_gathered
     → entries ≡ g.entries → tail ≡ g.tail → AreParts lines entries tail
 parts_of_all lines g entries tail placed some read same_entries same_tail =
     let e = are_of_entries lines (recursion_from_All HasText lines some) placed in
-    let whole = read ∙ ap (λ ls. with_lines ls nothing) e.are ∙ parts_read e.entries e.tail e.whole e.behind in
+    let whole = read ∙ ap (λ ls. with_lines ls nothing_gathered) e.are ∙ parts_read e.entries e.tail e.whole e.behind in
     let to_entries = same_entries ∙ ap (λ (g : Gathered). g.entries) whole in
     let to_tail = same_tail ∙ ap (λ (g : Gathered). g.tail) whole in
     subst (λ es. AreParts lines es tail) (sym to_entries)
@@ -44,21 +44,21 @@ parts_of_all lines g entries tail placed some read same_entries same_tail =
 pub parts_bare : (lines : List Line) (entries : List Shown) (tail : List Line) → AreParts lines entries tail
     → All (λ (shown : Shown). bare shown.entry ≡ shown.entry) entries
 parts_bare lines entries tail are =
-    All-weaker IsWhole (λ (shown : Shown). bare shown.entry ≡ shown.entry) (λ shown whole. whole.without) entries
-    (All-from_recursion IsWhole entries are.whole)
+    All-weaker IsToldWhole (λ (shown : Shown). bare shown.entry ≡ shown.entry) (λ shown whole. whole.without) entries
+    (All-from_recursion IsToldWhole entries are.whole)
 
 -- a reply to each call
 pub parts_replied : (lines : List Line) (entries : List Shown) (tail : List Line) → AreParts lines entries tail
     → All (λ (shown : Shown). IsReplied shown.entry) entries
 parts_replied lines entries tail are =
-    All-weaker IsWhole (λ (shown : Shown). IsReplied shown.entry) (λ shown whole. whole.each) entries (All-from_recursion IsWhole entries are.whole)
+    All-weaker IsToldWhole (λ (shown : Shown). IsReplied shown.entry) (λ shown whole. whole.each) entries (All-from_recursion IsToldWhole entries are.whole)
 
 -- of a commit neither records nor effects
 pub parts_plain : (lines : List Line) (entries : List Shown) (tail : List Line) → AreParts lines entries tail
     → All (λ (shown : Shown). IsPlain shown.entry.outcome shown) entries
 parts_plain lines entries tail are =
-    All-weaker IsWhole (λ (shown : Shown). IsPlain shown.entry.outcome shown) (λ shown whole. whole.plain) entries
-    (All-from_recursion IsWhole entries are.whole)
+    All-weaker IsToldWhole (λ (shown : Shown). IsPlain shown.entry.outcome shown) (λ shown whole. whole.plain) entries
+    (All-from_recursion IsToldWhole entries are.whole)
 
 -- and no line of an entry behind them
 pub parts_tail : (lines : List Line) (entries : List Shown) (tail : List Line) → AreParts lines entries tail
@@ -96,11 +96,11 @@ tail_behind journal jobs words kept =
     (kept_behind (joined kept) (line_of_totals (totals_of journal) ∷ []) (refl, tt)))
 
 -- the lines of an end are parted as they are
-pub only_parts : (lines : List Line) (g : Gathered) (entries : List Shown) (tail : List Line) → g ≡ with_lines lines nothing → entries ≡ g.entries
+pub only_parts : (lines : List Line) (g : Gathered) (entries : List Shown) (tail : List Line) → g ≡ with_lines lines nothing_gathered → entries ≡ g.entries
     → tail ≡ g.tail → (journal : List Entry) (jobs : List JobLine) (words : List ℕ) (kept : List KeptItem) → lines ≡ end_lines journal jobs words kept
     → All IsReplied journal → (map shown_of journal ≡ entries) × (tail ≡ tail_lines journal jobs words kept)
 only_parts lines g entries tail read same_entries same_tail journal jobs words kept are each =
     let rest = tail_lines journal jobs words kept in
-    let whole = read ∙ ap (λ ls. with_lines ls nothing) (are ∙ ap (λ ls. ls ++ rest) (entries_show journal))
+    let whole = read ∙ ap (λ ls. with_lines ls nothing_gathered) (are ∙ ap (λ ls. ls ++ rest) (entries_show journal))
     ∙ parts_read (map shown_of journal) rest (all_whole journal (recursion_from_All IsReplied journal each)) (tail_behind journal jobs words kept) in
     (sym (same_entries ∙ ap (λ (g : Gathered). g.entries) whole), same_tail ∙ ap (λ (g : Gathered). g.tail) whole)

@@ -13,8 +13,8 @@ use Rattle.xc_shown.specs.declared.gathered.Gathered.{Gathered}
 use Rattle.xc_shown.specs.declared.shown.Shown.{Shown}
 
 -- nothing is read yet
-abbrev pub nothing : Gathered
-nothing = record { calls = []; replies = []; late = []; records = []; effects = []; held = []; entries = []; tail = [] }
+abbrev pub nothing_gathered : Gathered
+nothing_gathered = record { calls = []; replies = []; late = []; records = []; effects = []; held = []; entries = []; tail = [] }
 
 -- how an entry with this cause ended, or with none and these ends of late calls
 abbrev pub outcome_with : Option Cause → List LateEnd → Outcome
@@ -41,7 +41,7 @@ shown_with head g = record { entry = entry_with head g; records = g.records; eff
 
 -- a line more, before those that were read
 abbrev pub with_line : Line → Gathered → Gathered
-with_line (line.Head head) g = record nothing { entries = shown_with head g ∷ g.entries; tail = g.tail }
+with_line (line.Head head) g = record nothing_gathered { entries = shown_with head g ∷ g.entries; tail = g.tail }
 with_line (line.Call call reply) g = record g { calls = call ∷ g.calls; replies = reply ∷ g.replies }
 with_line (line.Late number end) g = record g { late = end ∷ g.late }
 with_line (line.Undo number kind end) g = record g { records = g.records ++ (kind, end) ∷ [] }

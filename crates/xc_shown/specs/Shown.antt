@@ -11,7 +11,7 @@ use Rattle.xc_data.specs.declared.undo.Undo.{Undo}
 use Rattle.xc_data.specs.declared.undo.UndoEnd.{UndoEnd}
 use Rattle.xc_print.specs.Kept.{joined}
 use Rattle.xc_print.specs.Totals.{totals_of}
-use Rattle.xc_lines.specs.declared.shown.Standing.{Standing}
+use Rattle.xc_lines.specs.declared.shown.EffectShown.{EffectShown}
 use Rattle.xc_lines.specs.declared.shown.UndoKind.{UndoKind}
 use Rattle.xc_sheet.specs.Ends.{kind_shown, effect_shown, head_shown}
 use Rattle.xc_sheet.specs.Ends.{lines_of_calls, lines_of_lates, line_of_held, lines_of_jobs, lines_of_words, lines_of_kept, line_of_totals}
@@ -39,12 +39,12 @@ abbrev pub record_shown : Undo × UndoEnd → UndoKind × UndoEnd
 record_shown (undo, end) = (kind_shown undo, end)
 
 -- its effect from a place on, none where it doesn't stand
-abbrev pub effect_from : Undo → Option ℕ → List Standing
+abbrev pub effect_from : Undo → Option ℕ → List EffectShown
 effect_from undo None = []
 effect_from undo (Some k) = effect_shown undo k ∷ []
 
 -- the effects that stand
-abbrev pub effects_shown : List (Undo × UndoEnd) → List Standing
+abbrev pub effects_shown : List (Undo × UndoEnd) → List EffectShown
 effects_shown [] = []
 effects_shown ((undo, end) ∷ records) = effect_from undo (remains_from undo end) ++ effects_shown records
 
@@ -77,7 +77,7 @@ lines_of_records number [] = []
 lines_of_records number ((kind, end) ∷ records) = lines_of_records (number + 1) records ++ line.Undo number kind end ∷ []
 
 -- those of effects
-abbrev pub lines_of_standing : List Standing → List Line
+abbrev pub lines_of_standing : List EffectShown → List Line
 lines_of_standing [] = []
 lines_of_standing (effect ∷ effects) = line.Remains effect ∷ lines_of_standing effects
 

@@ -6,12 +6,12 @@ use xc_data::{Items, NoMemory};
 
 /// A list that grows at its front, which contracts see as one.
 #[derive(Drop)]
-pub struct Front<T> {
+pub struct FrontList<T> {
     // from the last one on
     items: Vec<T>,
 }
 
-impl<T> Model for Front<T> {
+impl<T> Model for FrontList<T> {
     ghost use Rattle.std.specs.Prelude.{List, reverse};
 
     ghost Value = { List T };
@@ -19,18 +19,18 @@ impl<T> Model for Front<T> {
     ghost view = { λ a. reverse a.items.items };
 }
 
-impl<T> Front<T> {
+impl<T> FrontList<T> {
     /// An empty list. It takes no memory.
     pub fn new(alloc: Global) -> Self
         ensures { result ≡ [] }
     {
-        Front {
+        FrontList {
             items: Vec::new(alloc),
         }
     }
 }
 
-impl<T: Drop> Front<T> {
+impl<T: Drop> FrontList<T> {
     /// One item more, before the others.
     pub fn put(&mut self, item: T) -> Result<(), NoMemory>
         ensures { OnOk result (self.new ≡ item ∷ self.old) }

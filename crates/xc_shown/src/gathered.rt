@@ -1,7 +1,7 @@
 ghost use Rattle.std.specs.Prelude.{◌≡◌, OnOk, IfOk};
-ghost use Rattle.xc_shown.specs.Parting.{nothing, outcome_with, shown_with, with_line, with_lines};
+ghost use Rattle.xc_shown.specs.Parting.{nothing_gathered, outcome_with, shown_with, with_line, with_lines};
 
-use crate::front::Front;
+use crate::front::FrontList;
 use crate::shown::Shown;
 use std::alloc::Global;
 use std::mem;
@@ -9,22 +9,22 @@ use xc_data::{
     Call, Cause, Entry, HeldList, Items, LateEnd, LateList, NoMemory, Outcome, RecordList, Reply,
     Report, UndoEnd,
 };
-use xc_lines::{Head, Standing, UndoKind};
+use xc_lines::{EffectShown, Head, UndoKind};
 use xc_sheet::Line;
 
 /// What was read of a text from its end on: the lines of an entry up to its first line, the entries behind it, and the lines
 /// behind those.
 #[derive(Drop)]
 pub struct Gathered {
-    pub calls: Front<Call>,
-    pub replies: Front<Reply>,
-    pub late: Front<LateEnd>,
+    pub calls: FrontList<Call>,
+    pub replies: FrontList<Reply>,
+    pub late: FrontList<LateEnd>,
     /// From the oldest on, which is read first.
     pub records: Items<(UndoKind, UndoEnd)>,
-    pub effects: Front<Standing>,
+    pub effects: FrontList<EffectShown>,
     pub held: HeldList,
-    pub entries: Front<Shown>,
-    pub tail: Front<Line>,
+    pub entries: FrontList<Shown>,
+    pub tail: FrontList<Line>,
 }
 
 // How an entry with this cause ended, or with none and these ends of late calls.
@@ -43,24 +43,24 @@ fn outcome_with(alloc: Global, cause: Option<Cause>, late: LateList) -> Outcome
 impl Gathered {
     /// Nothing is read yet. It takes no memory.
     pub fn new(alloc: Global) -> Self
-        ensures { result ≡ nothing }
+        ensures { result ≡ nothing_gathered }
     {
         Gathered {
-            calls: Front::new(alloc),
-            replies: Front::new(alloc),
-            late: Front::new(alloc),
+            calls: FrontList::new(alloc),
+            replies: FrontList::new(alloc),
+            late: FrontList::new(alloc),
             records: Items::new(alloc),
-            effects: Front::new(alloc),
+            effects: FrontList::new(alloc),
             held: HeldList::new(alloc),
-            entries: Front::new(alloc),
-            tail: Front::new(alloc),
+            entries: FrontList::new(alloc),
+            tail: FrontList::new(alloc),
         }
     }
 
     // Takes the lines that were read of an entry behind its first line.
     fn take_shown(&mut self, alloc: Global, head: Head) -> Result<Shown, NoMemory>
         ensures shown { IfOk result (λ shown. shown ≡ shown_with head self.old) }
-        ensures left { OnOk result (self.new ≡ record nothing { entries = self.old.entries; tail = self.old.tail }) }
+        ensures left { OnOk result (self.new ≡ record nothing_gathered { entries = self.old.entries; tail = self.old.tail }) }
     {
         let late = self.late.take(alloc)?;
         Ok(Shown {
@@ -108,7 +108,7 @@ impl Gathered {
 
 /// All lines of a text, from the last one on.
 pub fn gather(alloc: Global, lines: Items<Line>) -> Result<Gathered, NoMemory>
-    ensures { IfOk result (λ all. all ≡ with_lines lines nothing) }
+    ensures { IfOk result (λ all. all ≡ with_lines lines nothing_gathered) }
 {
     let mut rest = lines.into_vec();
     let mut gathered = Gathered::new(alloc);

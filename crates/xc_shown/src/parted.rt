@@ -6,7 +6,7 @@ ghost use Rattle.xc_sheet.specs.Ends.{end_lines};
 ghost use Rattle.xc_sheet.specs.Places.{behind_lines};
 ghost use Rattle.xc_sheet.specs.Sheets.{HaveText};
 ghost use Rattle.xc_sheet.specs.declared.lines.Line.{Line};
-ghost use Rattle.xc_sheet.specs.declared.places.Place.TheVariants as place;
+ghost use Rattle.xc_sheet.specs.declared.places.LinePlace.TheVariants as place;
 ghost use Rattle.xc_shown.specs.Shown.{bare, shown_of, shown_lines, tail_lines, is_of_entry, IsReplied, IsPlain};
 ghost use Rattle.xc_shown.specs.declared.shown.Shown.{Shown};
 

@@ -1,5 +1,5 @@
 use xc_data::{Entry, Items, UndoEnd};
-use xc_lines::{Standing, UndoKind};
+use xc_lines::{EffectShown, UndoKind};
 
 /// An entry as its text shows it. Of a record that was undone a text has its kind and how it ended, and no bytes.
 #[derive(Drop)]
@@ -9,5 +9,5 @@ pub struct Shown {
     /// The records of the report, from the oldest on.
     pub records: Items<(UndoKind, UndoEnd)>,
     /// The effects that stand, from the oldest record on.
-    pub effects: Items<Standing>,
+    pub effects: Items<EffectShown>,
 }

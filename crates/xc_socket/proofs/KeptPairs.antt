@@ -7,7 +7,7 @@ use Rattle.xc_maps.proofs.Laws.{num_total}
 use Rattle.xc_maps.specs.Keys.{num_cmp}
 use Rattle.xc_data.specs.Step.{Step}
 use Rattle.xc_data.specs.declared.object.Num.{Num}
-use Rattle.xc_data.specs.declared.script.Kind.TheVariants as kind
+use Rattle.xc_data.specs.declared.script.HostCallKind.TheVariants as kind
 use Rattle.xc_host.specs.Contents.{Contents}
 use Rattle.xc_host.specs.Kept.{KeepsData}
 use Rattle.xc_host.specs.Model.{Answers, HostModel}

@@ -17,7 +17,7 @@ use Rattle.xc_data.specs.declared.private.Private.{Private}
 use Rattle.xc_data.specs.Private.{is_vacant, with_place}
 use Rattle.xc_world.specs.World.{World, with_pair, empty_pair}
 use Rattle.xc_world.specs.Act.{act, done}
-use Rattle.xc_world.specs.Act.Step.{step_to, counted}
+use Rattle.xc_world.specs.Act.Step.{step_to, bytes_counted}
 use Rattle.xc_world.specs.Act.Names.{next_num}
 use Rattle.xc_world.specs.Act.Pipes.{new_pair, pair_made}
 use Rattle.xc_world.specs.Checks.{is_too_much, refusal_of}
@@ -32,7 +32,7 @@ use Rattle.xc_host.specs.Kept.{with_kept}
 use Rattle.xc_host.specs.Pairs.{with_new_pair}
 use Rattle.xc_calls.specs.Calls.{ActsAsPlain, IsMePassed}
 use Rattle.xc_calls.proofs.Laws.{call_view_at, by_much}
-use Rattle.xc_socket.specs.Making.{AreVacant, IsMadeAt, Makes, with_made, made_record}
+use Rattle.xc_socket.specs.Making.{AreVacant, IsPairMadeAt, MakesPair, with_pair_made, pair_made_record}
 
 -- ---- the checks
 -- sixteen objects are made
@@ -50,8 +50,8 @@ room_for_pair me few two = ap (λ b. b || nat_lt (count_by is_vacant me.places) 
 
 -- a call that the checks let pass
 passes : (w : World) (me : Private) (number : ℕ) (answer : Answer) → is_too_much XPair me ≡ false
-    → act w me number XPair answer ≡ counted XPair (done w me number XPair answer)
-passes w me number answer free = ap (λ b. if b then step_to w me reply.TooMuch else counted XPair (done w me number XPair answer)) free
+    → act w me number XPair answer ≡ bytes_counted XPair (done w me number XPair answer)
+passes w me number answer free = ap (λ b. if b then step_to w me reply.TooMuch else bytes_counted XPair (done w me number XPair answer)) free
 
 -- ---- the step
 -- a new pair, in a world with kept items of others
@@ -64,10 +64,10 @@ new_there w c d num items none did =
 module _ (number : ℕ) (me : Private) (at : ℕ × ℕ) (vacant : AreVacant me (next_num me number) at) where
   -- the private state after it
   abbrev next : Reply → Private
-  next r = with_made me at (next_num me number) r
+  next r = with_pair_made me at (next_num me number) r
 
   pair_acts : (c d : Contents) (items : List KeptItem) (r : Reply) → is_too_much XPair me ≡ false → keeps_pair (next_num me number) items ≡ false
-      → Makes (record { old = c; new = d }) (next_num me number) at r
+      → MakesPair (record { old = c; new = d }) (next_num me number) at r
       → ActsAsPlain XPair (call_view_at (with_kept c items) number me) (call_view_at (with_kept d items) number (next r)) r
   pair_acts c d items (reply.MadePair h g) free none (same, did) =
       let num = next_num me number in
@@ -77,8 +77,8 @@ module _ (number : ℕ) (me : Private) (at : ℕ × ℕ) (vacant : AreVacant me 
       (record {
         step = λ w.
             let x = with_contents w (with_kept c items) in
-            passes x me number answer.Fine free ∙ ap (λ o. counted XPair (new_pair x me number o)) vacant.0
-            ∙ ap (λ o. counted XPair (pair_made x one number at.0 o)) vacant.1
+            passes x me number answer.Fine free ∙ ap (λ o. bytes_counted XPair (new_pair x me number o)) vacant.0
+            ∙ ap (λ o. bytes_counted XPair (pair_made x one number at.0 o)) vacant.1
             ∙ ap (λ y. step_to y (next (reply.MadePair h g)) (reply.MadePair at.0 at.1)) (new_there w c d num items none did);
         fits = λ w. refl;
       })
@@ -93,16 +93,16 @@ module _ (number : ℕ) (me : Private) (at : ℕ × ℕ) (vacant : AreVacant me 
   pair_acts c d items _ free none never = absurd never
 
   -- making a pair is the plain machine's step
-  pub made_acts : (c d : Contents) (items : List KeptItem) (new : Private) (result : Result Reply NoMemory) → is_too_much XPair me ≡ false
+  pub pair_made_acts : (c d : Contents) (items : List KeptItem) (new : Private) (result : Result Reply NoMemory) → is_too_much XPair me ≡ false
       → keeps_pair (next_num me number) items ≡ false → IfOk result (λ r. new ≡ next r)
-      → IfOk result (Makes (record { old = c; new = d }) (next_num me number) at)
+      → IfOk result (MakesPair (record { old = c; new = d }) (next_num me number) at)
       → IfOk result (ActsAsPlain XPair (call_view_at (with_kept c items) number me) (call_view_at (with_kept d items) number new))
-  made_acts c d items new (Ok r) free none same told =
+  pair_made_acts c d items new (Ok r) free none same told =
       subst (λ m. ActsAsPlain XPair (call_view_at (with_kept c items) number me) (call_view_at (with_kept d items) number m) r) (sym same)
       (pair_acts c d items r free none told)
-  made_acts c d items new (Err e) free none same told = tt
+  pair_made_acts c d items new (Err e) free none same told = tt
 
-  me_of : (r : Reply) → IsMadeAt at r → IsMePassed number XPair me (next r) r
+  me_of : (r : Reply) → IsPairMadeAt at r → IsMePassed number XPair me (next r) r
   me_of (reply.MadePair h g) same =
       subst (λ (p : ℕ × ℕ). IsMePassed number XPair me (next (reply.MadePair h g)) (reply.MadePair p.0 p.1)) (sym same)
       (record { places = (vacant.0, vacant.1, refl); made = refl; stored = omega arith })
@@ -110,29 +110,29 @@ module _ (number : ℕ) (me : Private) (at : ℕ × ℕ) (vacant : AreVacant me 
   me_of _ never = absurd never
 
   -- the private state has its sides at their handles
-  pub made_me : (new : Private) (result : Result Reply NoMemory) → IfOk result (IsMadeAt at) → IfOk result (λ r. new ≡ next r)
+  pub pair_made_me : (new : Private) (result : Result Reply NoMemory) → IfOk result (IsPairMadeAt at) → IfOk result (λ r. new ≡ next r)
       → IfOk result (IsMePassed number XPair me new)
-  made_me new (Ok r) made same = subst (λ m. IsMePassed number XPair me m r) (sym same) (me_of r made)
-  made_me new (Err e) made same = tt
+  pair_made_me new (Ok r) made same = subst (λ m. IsMePassed number XPair me m r) (sym same) (me_of r made)
+  pair_made_me new (Err e) made same = tt
 
 -- ---- its reply, and its record
 -- it is one that may come
-passed_reply : (at : ℕ × ℕ) (r : Reply) → IsMadeAt at r → may_reply XPair r ≡ true
+passed_reply : (at : ℕ × ℕ) (r : Reply) → IsPairMadeAt at r → may_reply XPair r ≡ true
 passed_reply at (reply.MadePair h g) same = refl
 passed_reply at (reply.Fault n) same = eq-eqb n 0 same
 passed_reply at _ never = absurd never
 
 -- so where memory doesn't run out
-pub made_reply : (at : ℕ × ℕ) (result : Result Reply NoMemory) → IfOk result (IsMadeAt at) → IfOk result (λ r. may_reply XPair r ≡ true)
-made_reply at (Ok r) made = passed_reply at r made
-made_reply at (Err e) made = tt
+pub pair_made_reply : (at : ℕ × ℕ) (result : Result Reply NoMemory) → IfOk result (IsPairMadeAt at) → IfOk result (λ r. may_reply XPair r ≡ true)
+pair_made_reply at (Ok r) made = passed_reply at r made
+pair_made_reply at (Err e) made = tt
 
 -- its record is one of it
-pub made_kind : (me : Private) (number : ℕ) (r : Reply) → AreRecordsOf (left_by XPair r) (made_record (next_num me number) r)
-made_kind me number (reply.MadePair h g) = (tt, refl)
-made_kind me number _ = refl
+pub pair_made_kind : (me : Private) (number : ℕ) (r : Reply) → AreRecordsOf (left_by XPair r) (pair_made_record (next_num me number) r)
+pair_made_kind me number (reply.MadePair h g) = (tt, refl)
+pair_made_kind me number _ = refl
 
 -- which is the plain machine's
-pub made_recorded : (me : Private) (number : ℕ) (r : Reply) → made_record (next_num me number) r ≡ pair_record me number r
-made_recorded me number (reply.MadePair h g) = refl
-made_recorded me number _ = refl
+pub pair_made_recorded : (me : Private) (number : ℕ) (r : Reply) → pair_made_record (next_num me number) r ≡ pair_record me number r
+pair_made_recorded me number (reply.MadePair h g) = refl
+pair_made_recorded me number _ = refl

@@ -27,7 +27,7 @@ use Rattle.xc_calls.specs.Passing.{Passes}
 use Rattle.xc_calls.proofs.Laws.{call_view_at, passed_checks, ReadState, logical, sides, uses_both}
 use Rattle.xc_calls.specs.Sides.{Sides, world_at}
 use Rattle.xc_socket.specs.Receiving.{IsReceiptReply, Receives, ReceivesBy}
-use Rattle.xc_socket.proofs.ReceiptSteps.{fault_step, got_step, none_step}
+use Rattle.xc_socket.proofs.ReceiptSteps.{pair_fault_step, pair_got_step, pair_none_step}
 
 module _ (h : ℕ) (pair : Num) (side : ℕ) (me : Private) (number : ℕ) (at : place_of me.places h ≡ place.Pair pair side)
     (free : refusal_of (XRecvmsg h) me ≡ None) (old new : Sides) where
@@ -43,21 +43,21 @@ module _ (h : ℕ) (pair : Num) (side : ℕ) (me : Private) (number : ℕ) (at :
   pub receipt_acts : (r : Reply) → IsReceiptReply r → Receives pair side (record { old = old; new = new }) r
       → ActsAsPlain (XRecvmsg h) (call_view_at (logical old) number me) (call_view_at (logical new) number (storing_reply r me)) r
   receipt_acts (reply.Got message) is leaves = record {
-    step = lifted answer.Fine (storing me (length message)) (reply.Got message) (got_step h pair side me number at free old new message leaves);
+    step = lifted answer.Fine (storing me (length message)) (reply.Got message) (pair_got_step h pair side me number at free old new message leaves);
     fits = λ w. refl;
   }
   receipt_acts reply.Empty is (same, none) = record {
-    step = lifted answer.Fine me reply.Empty (none_step h pair side me number at free old new reply.Empty false same none (λ x. refl));
+    step = lifted answer.Fine me reply.Empty (pair_none_step h pair side me number at free old new reply.Empty false same none (λ x. refl));
     fits = λ w. refl;
   }
   receipt_acts reply.End is (same, none) = record {
-    step = lifted answer.Fine me reply.End (none_step h pair side me number at free old new reply.End true same none (λ x. refl));
+    step = lifted answer.Fine me reply.End (pair_none_step h pair side me number at free old new reply.End true same none (λ x. refl));
     fits = λ w. refl;
   }
   receipt_acts (reply.Fault k) zero same =
       subst (λ m. ActsAsPlain (XRecvmsg h) (call_view_at (logical old) number me) (call_view_at (logical new) number me) (reply.Fault m)) (sym zero)
       (record {
-        step = lifted (answer.Fault 0) me (reply.Fault 0) (fault_step h pair side me number at free old new same);
+        step = lifted (answer.Fault 0) me (reply.Fault 0) (pair_fault_step h pair side me number at free old new same);
         fits = λ w. ap (λ b. not b && true) (passed_checks me (XRecvmsg h) (length w.words) free);
       })
   receipt_acts _ is never = absurd never

@@ -16,7 +16,7 @@ use Rattle.xc_host.specs.Pairs.{IsReceivedOf, after_receipt, has_pair, pair_in, 
 use Rattle.xc_host.specs.declared.errors.HostErr.{HostErr}
 use Rattle.xc_host.specs.declared.pipes.Took.{Took}
 use Rattle.xc_host.specs.declared.pipes.Took.TheVariants as took
-use Rattle.xc_socket.specs.Receiving.{Finds, HasNone, Leaves}
+use Rattle.xc_socket.specs.Receiving.{ReceiptFinds, HasNone, MessageLeaves}
 use Rattle.xc_calls.specs.Sides.{IsSame}
 
 -- ---- the sides of a pair
@@ -78,7 +78,7 @@ module _ (items : List KeptItem) (pair : Num) (side : ℕ) (fit : All (λ t. is_
   -- a message of the host's left it
   host_leaves : (c d : Contents) (message : List ℕ) (rest : List (List ℕ)) → has_pair c pair ≡ true → waiting (pair_in c pair) side ≡ message ∷ rest
       → d ≡ received_from c pair side
-      → Leaves pair side message (record { old = record { contents = c; items = items }; new = record { contents = d; items = items } })
+      → MessageLeaves pair side message (record { old = record { contents = c; items = items }; new = record { contents = d; items = items } })
   host_leaves c d message rest there is did = (
     (λ w.
         ap (λ x. given_back x items) (sym (host_back c pair side w message rest there is))
@@ -99,7 +99,7 @@ module _ (items : List KeptItem) (pair : Num) (side : ℕ) (fit : All (λ t. is_
   same_there c d same w = ap (λ x. given_back (with_contents w x) items) (sym same)
 
   host_found : (c d : Contents) (found : Took) → has_pair c pair ≡ true → IsReceivedOf (pair_in c pair) side found → d ≡ after_receipt pair side found c
-      → Finds pair side (record { old = record { contents = c; items = items }; new = record { contents = d; items = items } }) found
+      → ReceiptFinds pair side (record { old = record { contents = c; items = items }; new = record { contents = d; items = items } }) found
   host_found c d (took.Bytes message) there (rest, is) did = host_leaves c d message rest there is did
   host_found c d took.Empty there (empty, mark) same = (same_there c d same, host_none c d false empty mark same)
   host_found c d took.End there (empty, mark) same = (same_there c d same, host_none c d true empty mark same)
@@ -107,6 +107,6 @@ module _ (items : List KeptItem) (pair : Num) (side : ℕ) (fit : All (λ t. is_
   -- what the host found for it
   pub host_finds : (c d : Contents) (result : Result Took HostErr) → has_pair c pair ≡ true → IfOk result (IsReceivedOf (pair_in c pair) side)
       → IfOk result (λ found. d ≡ after_receipt pair side found c)
-      → IfOk result (Finds pair side (record { old = record { contents = c; items = items }; new = record { contents = d; items = items } }))
+      → IfOk result (ReceiptFinds pair side (record { old = record { contents = c; items = items }; new = record { contents = d; items = items } }))
   host_finds c d (Ok found) there is did = host_found c d found there is did
   host_finds c d (Err e) there is did = tt

@@ -19,8 +19,8 @@ IsPairIn c (File num at) = Unit {0}
 IsPairIn c Vacant = Unit {0}
 
 -- the reply of the first check that refuses a call of n bytes at a handle
-abbrev pub refusal_at : Private → ℕ → ℕ → Option Reply
-refusal_at me h n =
+abbrev pub pair_refusal_at : Private → ℕ → ℕ → Option Reply
+pair_refusal_at me h n =
     if not (is_pair (place_of me.places h)) then Some BadHandle
     else if nat_lt 1024 n then Some TooBig
     else if passes_store me n then Some TooMuch

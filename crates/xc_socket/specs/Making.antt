@@ -25,39 +25,39 @@ AreVacant me num at =
     (lowest_vacant me.places ≡ Some at.0) × (lowest_vacant (with_place me at.0 (Pair num 0)).places ≡ Some at.1)
 
 -- what the making of a pair of this number did with this reply: it is there, at these handles, or nothing changed
-abbrev pub Makes : Step Contents → Num → ℕ × ℕ → Reply → Type 0
-Makes c num at (MadePair h g) = ((h, g) ≡ at) × (c.new ≡ with_new_pair c.old num)
-Makes c num at (Fault n) = (n ≡ 0) × (c.new ≡ c.old)
+abbrev pub MakesPair : Step Contents → Num → ℕ × ℕ → Reply → Type 0
+MakesPair c num at (MadePair h g) = ((h, g) ≡ at) × (c.new ≡ with_new_pair c.old num)
+MakesPair c num at (Fault n) = (n ≡ 0) × (c.new ≡ c.old)
 -- it has no other reply
-Makes c num at _ = ⊥
+MakesPair c num at _ = ⊥
 
 -- it replies with these handles, or a fault of no byte
-abbrev pub IsMadeAt : ℕ × ℕ → Reply → Type 0
-IsMadeAt at (MadePair h g) = (h, g) ≡ at
-IsMadeAt at (Fault n) = n ≡ 0
+abbrev pub IsPairMadeAt : ℕ × ℕ → Reply → Type 0
+IsPairMadeAt at (MadePair h g) = (h, g) ≡ at
+IsPairMadeAt at (Fault n) = n ≡ 0
 -- it has no other reply
-IsMadeAt at _ = ⊥
+IsPairMadeAt at _ = ⊥
 
 -- the record of a pair that was made
-abbrev pub made_record : Num → Reply → List Undo
-made_record num (MadePair h g) = NewPair num ∷ []
+abbrev pub pair_made_record : Num → Reply → List Undo
+pair_made_record num (MadePair h g) = NewPair num ∷ []
 -- with any other reply nothing was made
-made_record num _ = []
+pair_made_record num _ = []
 
 -- where a pair was made, its sides stand at their handles, and one object more is made
-abbrev pub with_made : Private → ℕ × ℕ → Num → Reply → Private
-with_made me at num (MadePair h g) = making (with_place (with_place me at.0 (Pair num 0)) at.1 (Pair num 1))
+abbrev pub with_pair_made : Private → ℕ × ℕ → Num → Reply → Private
+with_pair_made me at num (MadePair h g) = making (with_place (with_place me at.0 (Pair num 0)) at.1 (Pair num 1))
 -- with any other reply nothing was made
-with_made me at num _ = me
+with_pair_made me at num _ = me
 
 -- a pair of this number is made for these handles: what it replies, does and records; where memory ran out, all is as before
-pub record IsMaking {H : Type 0} (model : HostModel H) (num : Num) (at : ℕ × ℕ) (step : Step (AtHost H))
+pub record IsMakingPair {H : Type 0} (model : HostModel H) (num : Num) (at : ℕ × ℕ) (step : Step (AtHost H))
     (result : Result Reply NoMemory) : Type 0 where
-  pub made : IfOk result (IsMadeAt at)
-  pub told : IsTrue model.tells → IfOk result (Makes (record {
+  pub made : IfOk result (IsPairMadeAt at)
+  pub told : IsTrue model.tells → IfOk result (MakesPair (record {
     old = model.contents step.old.host;
     new = model.contents step.new.host;
   }) num at)
-  pub records : IfOk result (λ reply. step.new.undo ≡ record { pending = step.old.undo.pending ++ made_record num reply; ended = [] })
+  pub records : IfOk result (λ reply. step.new.undo ≡ record { pending = step.old.undo.pending ++ pair_made_record num reply; ended = [] })
   pub err : OnErr result (IsAsBefore model step)
   pub cause : CountsFault (replies_fault result) (model.fault_count step.old.host) (model.fault_count step.new.host)

@@ -4,7 +4,7 @@ ghost use Rattle.xc_data.specs.Calls.{is_late};
 ghost use Rattle.xc_data.specs.Private.{place_of};
 ghost use Rattle.xc_data.specs.declared.private.Place.TheVariants.{Pair};
 ghost use Rattle.xc_world.specs.Checks.{is_pair};
-ghost use Rattle.xc_socket.specs.Checks.{refusal_at};
+ghost use Rattle.xc_socket.specs.Checks.{pair_refusal_at};
 
 use xc_data::{MOST_CALL_BYTES, MOST_STORED, Num, Place, Private, Reply};
 
@@ -32,7 +32,7 @@ pub(crate) fn open_side(me: &Private, h: u16, n: u64) -> Result<OpenSide, Reply>
     ensures open { IfOk result (λ at. place_of me.now.places h ≡ Pair at.pair at.side) }
     ensures few { OnOk result ((n ≤ 1024) × (me.now.stored + n ≤ 16384)) }
     ensures now { IfErr result (λ reply. is_late reply ≡ false) }
-    ensures checks { MatchResult result (λ at. refusal_at me.now h n ≡ None) (λ reply. refusal_at me.now h n ≡ Some reply) }
+    ensures checks { MatchResult result (λ at. pair_refusal_at me.now h n ≡ None) (λ reply. pair_refusal_at me.now h n ≡ Some reply) }
 {
     let Some(at) = side_at(me, h) else {
         return Err(Reply::BadHandle);

@@ -10,7 +10,7 @@ ghost use Rattle.xc_host.specs.Kept.{KeepsData};
 ghost use Rattle.xc_host.specs.Pairs.{has_pair};
 ghost use Rattle.xc_host.specs.Uses.{Uses};
 ghost use Rattle.xc_world.specs.Act.Names.{next_num};
-ghost use Rattle.xc_socket.specs.Making.{AreVacant, IsMaking, with_made};
+ghost use Rattle.xc_socket.specs.Making.{AreVacant, IsMakingPair, with_pair_made};
 
 use xc_compensate::Stack;
 use xc_data::{MOST_MADE, NoMemory, Num, Place, Private, Reply, Undo};
@@ -39,7 +39,7 @@ fn make_recorded<H: Host>(
 ) -> Result<Reply, NoMemory>
     requires new { IsTrue H.model.tells → has_pair (H.model.contents host.old) num ≡ false }
     requires none { undo.old.ended ≡ [] }
-    ensures making { IsMaking H.model num at (record {
+    ensures making { IsMakingPair H.model num at (record {
       old = record { host = host.old; undo = undo.old };
       new = record { host = host.new; undo = undo.new };
     }) result }
@@ -70,11 +70,11 @@ fn make_at<H: Host>(
     requires handles { (at.0 < 256) × (at.1 < 256) }
     requires new { IsTrue H.model.tells → has_pair (H.model.contents host.old) (next_num me.old tx) ≡ false }
     requires none { undo.old.ended ≡ [] }
-    ensures making { IsMaking H.model (next_num me.old tx) at (record {
+    ensures making { IsMakingPair H.model (next_num me.old tx) at (record {
       old = record { host = host.old; undo = undo.old };
       new = record { host = host.new; undo = undo.new };
     }) result }
-    ensures me { IfOk result (λ reply. me.new ≡ with_made me.old at (next_num me.old tx) reply) }
+    ensures me { IfOk result (λ reply. me.new ≡ with_pair_made me.old at (next_num me.old tx) reply) }
     ensures err { OnErr result (me.new ≡ me.old) }
     ensures uses { Uses H.model (record { old = host.old; new = host.new }) (PassedBy XPair result) }
     ensures keeps { IsTrue H.model.tells → KeepsData (H.model.contents host.old) (H.model.contents host.new) }

@@ -19,7 +19,7 @@ ghost use Rattle.xc_world.specs.After.{bytes_in};
 ghost use Rattle.xc_world.specs.Checks.{refusal_of};
 ghost use Rattle.xc_calls.specs.Taking.{Notes, HasTaken, ReceivesKeptOf};
 ghost use Rattle.xc_socket.specs.Checks.{IsPairIn};
-ghost use Rattle.xc_socket.specs.Receiving.{AskedBy, Finds, IsReceiptReply, NotesOf, Receives, ReceivesBy, TakesMessageKept};
+ghost use Rattle.xc_socket.specs.Receiving.{AskedBy, ReceiptFinds, IsReceiptReply, NotesReceipt, Receives, ReceivesBy, TakesMessageKept};
 ghost use Rattle.xc_calls.specs.Sides.{IsSame};
 
 use crate::checks::{OpenSide, open_side};
@@ -32,7 +32,7 @@ fn take_next<H: Host>(host: &mut H, kept: &mut Kept, at: OpenSide) -> Result<Too
     requires side { at.side < 2 }
     requires there { IsTrue H.model.tells → has_pair (H.model.contents host.old) at.pair ≡ true }
     ensures message { IfOk result IsMessage }
-    ensures finds { IsTrue H.model.tells → IfOk result (Finds at.pair at.side (record {
+    ensures finds { IsTrue H.model.tells → IfOk result (ReceiptFinds at.pair at.side (record {
       old = record { contents = H.model.contents host.old; items = kept.old.items };
       new = record { contents = H.model.contents host.new; items = kept.new.items };
     })) }
@@ -75,7 +75,7 @@ fn receive_next<H: Host>(
       new = record { contents = H.model.contents host.new; items = kept.new.items };
     })) }
     ensures reply { IfOk result IsReceiptReply }
-    ensures notes { NotesOf at.pair at.side (record { old = taken.old.items; new = taken.new.items }) result }
+    ensures notes { NotesReceipt at.pair at.side (record { old = taken.old.items; new = taken.new.items }) result }
     ensures kept { ReceivesKeptOf at.pair at.side (record { old = kept.old.items; new = kept.new.items }) result }
     ensures room { IfOk result (λ reply. kept.old.spare ≤ kept.new.spare) }
     ensures spare { kept.old.spare ≤ kept.new.spare + 1 }
@@ -142,7 +142,7 @@ fn receive_open<H: Host>(
       old = record { contents = H.model.contents host.old; items = kept.old.items };
       new = record { contents = H.model.contents host.new; items = kept.new.items };
     })) }
-    ensures notes { NotesOf at.pair at.side (record { old = taken.old.items; new = taken.new.items }) result }
+    ensures notes { NotesReceipt at.pair at.side (record { old = taken.old.items; new = taken.new.items }) result }
     ensures kept { ReceivesKeptOf at.pair at.side (record { old = kept.old.items; new = kept.new.items }) result }
     ensures room { IfOk result (λ reply. kept.old.spare ≤ kept.new.spare) }
     ensures spare { kept.old.spare ≤ kept.new.spare + 1 }

@@ -22,9 +22,9 @@ use Rattle.xc_data.specs.declared.undo.Undo.TheVariants as undo
 use Rattle.xc_data.specs.declared.undo.UndoEnd.{UndoEnd}
 use Rattle.xc_buffers.specs.Items.{is_of_pair, keeps_from, keeps_pair}
 use Rattle.xc_buffers.specs.Sources.{is_from}
-use Rattle.xc_buffers.specs.Worlds.{has_pair, has_pipe}
-use Rattle.xc_buffers.specs.declared.source.Source.TheVariants as source
-use Rattle.xc_buffers.proofs.Laws.{pair_is_there, pipe_is_there, one as source_one}
+use Rattle.xc_buffers.specs.Worlds.{world_has_pair, world_has_pipe}
+use Rattle.xc_buffers.specs.declared.source.Endpoint.TheVariants as source
+use Rattle.xc_buffers.proofs.Laws.{pair_is_there, pipe_is_there, one_source as source_one}
 use Rattle.xc_data.specs.declared.call.LateCall.{LateCall}
 use Rattle.xc_data.specs.declared.call.LateCall.TheVariants as late_call
 use Rattle.xc_deferred.specs.Does.{IsThereFor}
@@ -48,7 +48,7 @@ use Rattle.xc_model.specs.Movers.{IsActiveAt}
 use Rattle.xc_station.specs.declared.job.Job.{Job}
 use Rattle.xc_station.specs.Jobs.{job_view, job_views}
 use Rattle.xc_station.specs.Lent.{AreBacked, IsBacked}
-use Rattle.xc_station.proofs.Placed.{active_before, active_is}
+use Rattle.xc_turns.proofs.Laws.{active_before, active_is}
 use Rattle.xc_data.proofs.Laws.{get_map, map_set}
 use Rattle.xc_station.proofs.Lent.{kept_files, kept_names, world_kept}
 
@@ -192,10 +192,10 @@ pub there_below : (c : Contents) (items : List KeptItem) → All (IsBacked c) it
     → is_there (world_of c) o ≡ true
 there_below c items backed (object.File num) is = ap (λ (files : map.FinMap num_cmp (List ℕ)). is_some (map.get files num)) (sym (kept_files c items)) ∙ is
 there_below c items backed (object.Pipe num) is =
-    or_there (keeps_from (source.Pipe num) items) (has_pipe (world_of c) num) (kept_pipe c items num backed)
+    or_there (keeps_from (source.Pipe num) items) (world_has_pipe (world_of c) num) (kept_pipe c items num backed)
     (sym (pipe_is_there (world_of c) items num) ∙ is)
 there_below c items backed (object.Pair num) is =
-    or_there (keeps_pair num items) (has_pair (world_of c) num) (kept_pair c items num backed)
+    or_there (keeps_pair num items) (world_has_pair (world_of c) num) (kept_pair c items num backed)
     (sym (pair_is_there (world_of c) items num) ∙ is)
 there_below c items backed (object.Word n) is = is
 there_below c items backed (object.Name name) is = is

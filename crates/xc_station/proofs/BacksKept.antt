@@ -10,7 +10,7 @@ use Rattle.xc_data.specs.declared.entry.Turn.{Turn}
 use Rattle.xc_data.specs.declared.entry.Turn.TheVariants as turn
 use Rattle.xc_model.specs.declared.phase.Phase.TheVariants.{Running, Backing}
 use Rattle.xc_model.specs.IdleRows.{IdleTurn, beginning_job}
-use Rattle.xc_model.specs.Moment.{TxView, JobView, Idle, Active, Ended, Moment, active_in, waiting, with_job}
+use Rattle.xc_model.specs.Moment.{TxView, JobView, Idle, Active, Ended, Moment, active_in, asked_to_wait, with_job}
 use Rattle.xc_model.specs.Movers.{mover}
 use Rattle.xc_model.specs.Setting.{Setting}
 use Rattle.xc_station.specs.declared.job.Activity.{Activity}
@@ -80,7 +80,7 @@ module _ (s : Setting) (at : ℕ) (now : Moment) (was : JobView) (marks : ℕ �
       safe_without tries job (ap (λ (j : JobView). active_in j.doing) (seen_as (record was { doing = Ended end }) (ap (λ (n : Moment). n.jobs) row.1)))
   safe_idle (turn.Busy object number) row =
       safe_without tries job
-      (ap (λ (j : JobView). active_in j.doing) (seen_as (waiting was) (ap (λ (n : Moment). n.jobs) row.1)) ∙ ap active_in idle)
+      (ap (λ (j : JobView). active_in j.doing) (seen_as (asked_to_wait was) (ap (λ (n : Moment). n.jobs) row.1)) ∙ ap active_in idle)
   safe_idle turn.Went row =
       safe_begun tries job _ (ap (λ (j : JobView). j.doing) (seen_as (beginning_job now was) (ap (λ (n : Moment). n.jobs) row.1))) refl refl
   safe_idle turn.NoMemory row = absurd row

@@ -15,12 +15,12 @@ use Rattle.xc_data.specs.declared.entry.Turn.TheVariants as turn
 use Rattle.xc_data.specs.declared.private.Private.{Private}
 use Rattle.xc_script.specs.Position.{Position}
 use Rattle.xc_model.specs.Setting.{Setting}
-use Rattle.xc_model.specs.Moment.{TxView, JobView, Active, Ended, Moment, begun_count, failures, rank_of, waiting, with_job}
-use Rattle.xc_model.specs.IdleRows.{IdleTurn, IsEnding, IsFree, IsWaiting, NamesLast, beginning_job, new_tx}
+use Rattle.xc_model.specs.Moment.{TxView, JobView, Active, Ended, Moment, begun_count, failures, rank_of, asked_to_wait, with_job}
+use Rattle.xc_model.specs.IdleRows.{IdleTurn, IsEnding, WaitsForNobody, IsWaiting, NamesLast, beginning_job, new_tx}
 use Rattle.xc_model.specs.Movers.{body_at, mover}
-use Rattle.xc_station.specs.declared.begin.Halt.{Halt}
-use Rattle.xc_station.specs.declared.begin.Halt.TheVariants.{End, Wait}
-use Rattle.xc_station.specs.Beginning.{IsDone, IsHalted, IsSeatBehind, IsStopped}
+use Rattle.xc_station.specs.declared.begin_tx.Halt.{Halt}
+use Rattle.xc_station.specs.declared.begin_tx.Halt.TheVariants.{End, Wait}
+use Rattle.xc_station.specs.Beginning.{IsWaitOver, IsHalted, IsSeatBehind, IsStopped}
 use Rattle.xc_station.specs.Moments.{AreSeats, HasBegun, runs, seated_as}
 
 -- what an answer without an error tells
@@ -34,26 +34,26 @@ where_err (Ok x) is p = cc
 where_err (Err e) is p = p
 
 -- the job ends, and the marks stay
-pub ends : (s : Setting) (at : ℕ) (now : Moment) (job new : JobView) (answer : Turn) (end : JobEnd) (marks : ℕ → Option Mark) → now.marks ≡ marks
+pub job_ends : (s : Setting) (at : ℕ) (now : Moment) (job new : JobView) (answer : Turn) (end : JobEnd) (marks : ℕ → Option Mark) → now.marks ≡ marks
     → IsEnding s now job end → new ≡ record job { doing = Ended end } → answer ≡ turn.Ended end
     → IdleTurn (mover s at now job) answer (record (with_job now at new) { marks = marks })
-ends s at now job new answer end marks same ending is given =
+job_ends s at now job new answer end marks same ending is given =
     subst (λ t. IdleTurn (mover s at now job) t (record (with_job now at new) { marks = marks })) (sym given)
     (ending, λ i. record (with_job now at (is i)) { marks = sym same i })
 
 -- or waits
 pub waits_on : (s : Setting) (at : ℕ) (now : Moment) (job new : JobView) (answer : Turn) (object : Object) (number : ℕ) (marks : ℕ → Option Mark)
-    → now.marks ≡ marks → IsWaiting s now job object number → new ≡ waiting job → answer ≡ turn.Busy object number
+    → now.marks ≡ marks → IsWaiting s now job object number → new ≡ asked_to_wait job → answer ≡ turn.Busy object number
     → IdleTurn (mover s at now job) answer (record (with_job now at new) { marks = marks })
 waits_on s at now job new answer object number marks same waits is given =
     subst (λ t. IdleTurn (mover s at now job) t (record (with_job now at new) { marks = marks })) (sym given)
     (waits, λ i. record (with_job now at (is i)) { marks = sym same i })
 
 -- by what keeps it from its next transaction
-pub stopped : (s : Setting) (at : ℕ) (now : Moment) (job new : JobView) (halt : Halt) (answer : Turn) (marks : ℕ → Option Mark) → now.marks ≡ marks
+pub begin_stopped : (s : Setting) (at : ℕ) (now : Moment) (job new : JobView) (halt : Halt) (answer : Turn) (marks : ℕ → Option Mark) → now.marks ≡ marks
     → IsHalted s now job halt → IsStopped job new halt answer → IdleTurn (mover s at now job) answer (record (with_job now at new) { marks = marks })
-stopped s at now job new (End end) answer marks same halted is = ends s at now job new answer end marks same halted is.0 is.1
-stopped s at now job new (Wait object holder) answer marks same halted is = waits_on s at now job new answer object holder marks same halted is.0 is.1
+begin_stopped s at now job new (End end) answer marks same halted is = job_ends s at now job new answer end marks same halted is.0 is.1
+begin_stopped s at now job new (Wait object holder) answer marks same halted is = waits_on s at now job new answer object holder marks same halted is.0 is.1
 
 -- who stops or waits before a begin takes no seat
 pub stopped_seats : (number rank : ℕ) (seats : Seats) (job new : JobView) (halt : Halt) (answer : Turn) → IsStopped job new halt answer
@@ -76,11 +76,11 @@ pub all_begun : (now : Moment) (entered entries active : ℕ) → HasBegun now e
 all_begun now entered entries active k len = λ i. (k.entered ∙ sym len) i + k.active i
 
 -- its next transaction begins
-pub begins : (now : Moment) (job : JobView) (me : Private) (place : Position) (tx : TxView) (entered entries active rank : ℕ) → me ≡ job.me
+pub job_begins : (now : Moment) (job : JobView) (me : Private) (place : Position) (tx : TxView) (entered entries active rank : ℕ) → me ≡ job.me
     → HasBegun now entries active → entered ≡ entries
     → place ≡ record job.place { begun = job.place.variables } → rank ≡ rank_of job.attempts (entered + active + 1)
     → tx ≡ new_tx (entered + active + 1) rank entered job.me → record job { me = me; place = place; busy = 0; doing = Active tx } ≡ beginning_job now job
-begins now job me place tx entered entries active rank kept k len placed ranked begun =
+job_begins now job me place tx entered entries active rank kept k len placed ranked begun =
     let number : entered + active + 1 ≡ begun_count now + 1 = ap (λ n. n + 1) (sym (all_begun now entered entries active k len)) in
     let rank' : rank ≡ rank_of job.attempts (begun_count now + 1) = ranked ∙ ap (rank_of job.attempts) number in
     let began = len ∙ sym k.entered in
@@ -100,9 +100,10 @@ module _ (s : Setting) (now : Moment) (job : JobView) (seats : Seats) (sat : Are
   is_seated (Some seat) is = (seat, refl)
 
   -- it waits for the active transaction that ended its last attempt
-  pub waits : (object : Object) (number : ℕ) → NamesLast job.attempts object number → is_some (seat_in seats number) ≡ true → job.busy < s.rules.patience
+  pub waits_for_last : (object : Object) (number : ℕ) → NamesLast job.attempts object number → is_some (seat_in seats number) ≡ true
+      → job.busy < s.rules.patience
       → IsWaiting s now job object number
-  waits object number named active patient =
+  waits_for_last object number named active patient =
       let seat = is_seated (seat_in seats number) active in
       record {
         left = left;
@@ -113,13 +114,13 @@ module _ (s : Setting) (now : Moment) (job : JobView) (seats : Seats) (sat : Are
       }
 
   -- it waits for nobody
-  pub free : IsDone job.attempts s.rules.patience job.busy seats → IsFree s now job
+  pub free : IsWaitOver job.attempts s.rules.patience job.busy seats → WaitsForNobody s now job
   free done object number w =
       let a = w.active in
       done object number w.named w.patient (ap (λ n. is_some (seat_in seats n)) (sym a.3)
       ∙ seated (seat_in seats a.1.number) a.1.rank (runs a.1.phase) (sat.held a.0 a.1 a.2))
 
 -- what is said to be there is there
-pub some_there : {A : Type 0} (o : Option A) → true ≡ is_some o → IsSome o
-some_there None is = cc is
-some_there (Some x) is = refl
+pub is_some_there : {A : Type 0} (o : Option A) → true ≡ is_some o → IsSome o
+is_some_there None is = cc is
+is_some_there (Some x) is = refl

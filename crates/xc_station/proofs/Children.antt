@@ -5,7 +5,7 @@ use Rattle.xc_data.specs.declared.call.LateEnd.{LateEnd}
 use Rattle.xc_data.specs.Calls.{slot_of}
 use Rattle.xc_script.specs.Values.{Values, Variables}
 use Rattle.xc_script.specs.Ask.{handed_on, no_variables}
-use Rattle.xc_script.specs.Slots.{with_end, with_ends}
+use Rattle.xc_script.specs.Slots.{with_slot_end, with_ends}
 use Rattle.xc_text.specs.declared.script.Script.{Script}
 use Rattle.std.proofs.lemmas.Option.{get_or_from_slice_get}
 use Rattle.std.specs.Prelude.{get_or, slice_get, slice_set}
@@ -14,7 +14,7 @@ use Rattle.xc_station.specs.Jobs.{job_view}
 use Rattle.xc_station.specs.Starting.{StartsChild}
 use Rattle.xc_data.proofs.Laws.{get_set_same}
 
-end_values : (v : Variables) (slot : Option (List ℕ)) (end : LateEnd) → (with_end v slot end).values ≡ v.values
+end_values : (v : Variables) (slot : Option (List ℕ)) (end : LateEnd) → (with_slot_end v slot end).values ≡ v.values
 end_values v None end = refl
 end_values v (Some name) end = refl
 
@@ -22,7 +22,7 @@ end_values v (Some name) end = refl
 ends_values : (v : Variables) (calls : List Call) (ends : List LateEnd) → (with_ends v calls ends).values ≡ v.values
 ends_values v [] ends = refl
 ends_values v (c ∷ calls) [] = refl
-ends_values v (c ∷ calls) (end ∷ ends) = ends_values (with_end v (slot_of c) end) calls ends ∙ end_values v (slot_of c) end
+ends_values v (c ∷ calls) (end ∷ ends) = ends_values (with_slot_end v (slot_of c) end) calls ends ∙ end_values v (slot_of c) end
 
 -- so what a starter hands on is the same before and after them
 pub handed_same : (script : Script) (v : Variables) (calls : List Call) (ends : List LateEnd)

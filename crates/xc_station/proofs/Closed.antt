@@ -7,7 +7,7 @@ use Rattle.xc_data.specs.declared.entry.Cause.{Cause}
 use Rattle.xc_data.specs.declared.entry.Cause.TheVariants as cause
 use Rattle.xc_data.specs.declared.entry.Turn.{Turn}
 use Rattle.xc_data.specs.declared.entry.Turn.TheVariants as turn
-use Rattle.xc_station.specs.Moments.{counted}
+use Rattle.xc_station.specs.Moments.{busy_counted}
 use Rattle.xc_data.specs.declared.entry.Outcome.TheVariants.{Committed, Aborted}
 use Rattle.xc_data.specs.declared.private.Private.{Private}
 use Rattle.xc_compensate.specs.Records.{AtHost, IsTried, Records}
@@ -68,8 +68,8 @@ pub its_active : (job : Job) (tx : TxView) → doing_of job ≡ Active tx → tx
 its_active job tx is = its_tx job.tx job.activity tx is
 
 -- so the job is active with it
-pub is_active : (job : Job) (tx : TxView) → doing_of job ≡ Active tx → doing_of job ≡ Active (tx_view job.tx)
-is_active job tx is = active_again job.tx job.tx job.activity tx is
+pub active_with_job : (job : Job) (tx : TxView) → doing_of job ≡ Active tx → doing_of job ≡ Active (tx_view job.tx)
+active_with_job job tx is = active_again job.tx job.tx job.activity tx is
 
 -- a job that stands elsewhere, with its transaction further on
 pub moves_on : (job : Job) (tx : TxView) (place : Position) (now : Tx) → doing_of job ≡ Active tx → begun_of now ≡ begun_of job.tx
@@ -79,7 +79,7 @@ moves_on job tx place now is kept =
     λ i. record (job_view job) { me = sym kept i; place = place; doing = doing i }
 
 -- a job that counts a wait does what it did
-pub counted_doing : (answer : Turn) (job : JobView) → (counted answer job).doing ≡ job.doing
+pub counted_doing : (answer : Turn) (job : JobView) → (busy_counted answer job).doing ≡ job.doing
 counted_doing (turn.Busy object holder) job = refl
 counted_doing turn.Went job = refl
 counted_doing turn.NoMemory job = refl

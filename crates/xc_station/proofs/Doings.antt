@@ -22,7 +22,7 @@ use Rattle.xc_host.specs.Fronted.{Fronted, before as in_front, fronted}
 use Rattle.xc_host.specs.Kept.{KeepsData, with_kept}
 use Rattle.xc_host.specs.Model.{HostModel}
 use Rattle.xc_host.specs.Uses.{CallsOf, Uses}
-use Rattle.xc_data.specs.declared.script.Kind.{Kind}
+use Rattle.xc_data.specs.declared.script.HostCallKind.{HostCallKind}
 use Rattle.xc_calls.specs.Taking.{HasTaken}
 use Rattle.xc_txmem.specs.Overlay.{overlaid}
 use Rattle.xc_world.specs.World.{World}
@@ -34,15 +34,14 @@ use Rattle.xc_world.specs.Late.{kept_call}
 use Rattle.xc_world.specs.Fits.{is_back}
 use Rattle.xc_world.specs.Run.{taken_by}
 use Rattle.xc_data.specs.Calls.{is_late, is_kept}
-use Rattle.xc_model.specs.PlainSteps.{Parts, LeavesAsPlainIn, IsReplyInTime, tx_parts, seen}
+use Rattle.xc_model.specs.PlainSteps.{Parts, LeavesAsPlainIn, IsReplyInTime, tx_parts, contents_seen}
 use Rattle.xc_model.specs.Moment.{TxView}
 use Rattle.xc_model.specs.WordCalls.{IsWordStep, is_word_call}
-use Rattle.xc_station.specs.Acting.{Acting, HasActedAsPlain, HasDoneAsPlain, LeavesOff, told_between, told_of}
-use Rattle.xc_station.specs.Acting.{with_parts}
+use Rattle.xc_station.specs.Acting.{Acting, HasActedAsPlain, HasDoneAsPlain, LeavesOff, told_between, told_of, with_parts}
 use Rattle.xc_station.specs.Lent.{IsBacked}
 use Rattle.xc_station.proofs.Backed.{keeps_called, keeps_part}
 use Rattle.xc_station.proofs.Lent.{acts_kept, part_kept, recorded_there}
-use Rattle.xc_station.proofs.Notes.{keeps_itself}
+use Rattle.xc_host.proofs.Laws.{data_keeps_itself}
 use Rattle.xc_station.proofs.TakenAgain.{still_kept}
 use Rattle.xc_station.proofs.WordActs.{append_nil, still_words, no_stores}
 
@@ -109,7 +108,8 @@ pub record IsToldCall {H : Type 0} (model : HostModel H) (c : Call) (step : Step
   pub keeps : KeepsData (model.contents step.old.host) (model.contents step.new.host)
 
 -- calls of a host with something in front are its own
-pub uses_below : {H : Type 0} {IsMade : List Kind → Type 0} (model : HostModel H) (a b : Fronted H) → Uses (fronted model) (record { old = a; new = b }) IsMade
+pub uses_below : {H : Type 0} {IsMade : List HostCallKind → Type 0} (model : HostModel H) (a b : Fronted H)
+    → Uses (fronted model) (record { old = a; new = b }) IsMade
     → Uses model (record { old = a.host; new = b.host }) IsMade
 uses_below model a b u = record { made = u.made; named = u.named; used = record { called = u.used.called; plan = u.used.plan } }
 
@@ -144,7 +144,7 @@ module _ {H K : Type 0} (model : HostModel H) (seen_as : HostModel K) (a b : K) 
         backed = λ tells. (told tells).backed;
         keeps = λ tells. (told tells).keeps;
         does = λ tells w at. record {
-          step = (told tells).acts.step (over w) ∙ ap (λ ws. step_to (seen w (told_of model new) ws) new.tx.me reply) (sym writes);
+          step = (told tells).acts.step (over w) ∙ ap (λ ws. step_to (contents_seen w (told_of model new) ws) new.tx.me reply) (sym writes);
           fits = (told tells).acts.fits (over w);
           records = ap (λ (u : Records). u.pending) k.undo ∙ ap (λ us. old.tx.undo.pending ++ us) ((told tells).records (over w));
         };
@@ -196,7 +196,7 @@ module _ {H : Type 0} (model : HostModel H) (c : Call) (old new : Acting H) (oth
 
   data_left : (left : List Undo) → ((left ≡ []) × (model.contents new.host ≡ model.contents old.host)) ⊎ DidPart c before (model.contents new.host) left
       → KeepsData (model.contents old.host) (model.contents new.host)
-  data_left left (inl same) = subst (KeepsData (model.contents old.host)) (sym same.1) (keeps_itself (model.contents old.host))
+  data_left left (inl same) = subst (KeepsData (model.contents old.host)) (sym same.1) (data_keeps_itself (model.contents old.host))
   data_left left (inr did) = keeps_part c before off (model.contents new.host) left did
 
   -- memory runs out

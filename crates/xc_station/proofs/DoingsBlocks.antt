@@ -9,7 +9,7 @@ use Rattle.xc_data.specs.declared.call.Reply.{Reply}
 use Rattle.xc_data.specs.declared.call.Reply.TheVariants as reply
 use Rattle.xc_data.specs.declared.memory.NoMemory.{NoMemory}
 use Rattle.xc_host.specs.Model.{HostModel}
-use Rattle.xc_host.proofs.Laws.{unused}
+use Rattle.xc_host.proofs.Laws.{unused, data_keeps_itself}
 use Rattle.xc_model.specs.PlainSteps.{saved_by, tx_parts}
 use Rattle.xc_model.specs.RunningRows.{opens_or_closes, is_way_back}
 use Rattle.xc_data.specs.declared.private.Private.{Private}
@@ -20,7 +20,6 @@ use Rattle.xc_station.specs.Acting.{Acting, HasActedAsPlain, HasDoneAsPlain}
 use Rattle.xc_station.specs.Lent.{IsBacked}
 use Rattle.xc_station.proofs.Doings.{framed_now, in_time_now}
 use Rattle.xc_station.proofs.DoingsWords.{nothing_left}
-use Rattle.xc_station.proofs.Notes.{keeps_itself}
 use Rattle.xc_station.proofs.WordActs.{append_nil}
 
 -- a call that opens and closes none leaves what a save kept
@@ -50,7 +49,7 @@ block_done model call.Save old is stored =
       lent = refl;
       spoken = record { words = refl; gives = λ word. cc word };
       backed = λ tells. All-nil (IsBacked (model.contents old.host));
-      keeps = λ tells. keeps_itself (model.contents old.host);
+      keeps = λ tells. data_keeps_itself (model.contents old.host);
       does = λ tells w at. record { step = refl; fits = refl; records = sym (append_nil old.tx.undo.pending) };
     }
 block_done model call.Keep old is stored =
@@ -70,7 +69,7 @@ block_done model call.Keep old is stored =
       lent = refl;
       spoken = record { words = refl; gives = λ word. cc word };
       backed = λ tells. All-nil (IsBacked (model.contents old.host));
-      keeps = λ tells. keeps_itself (model.contents old.host);
+      keeps = λ tells. data_keeps_itself (model.contents old.host);
       does = λ tells w at. record { step = refl; fits = refl; records = sym (append_nil old.tx.undo.pending) };
     }
 block_done model _ old is stored = cc is

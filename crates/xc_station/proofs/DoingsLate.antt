@@ -12,7 +12,7 @@ use Rattle.xc_calls.specs.Deferred.{IsDeferred, IsKeptWith}
 use Rattle.xc_calls.proofs.Laws.{alone_call}
 use Rattle.xc_host.specs.Contents.{with_contents}
 use Rattle.xc_host.specs.Model.{HostModel}
-use Rattle.xc_host.proofs.Laws.{unused}
+use Rattle.xc_host.proofs.Laws.{unused, data_keeps_itself}
 use Rattle.xc_world.specs.Act.Step.{Stepped}
 use Rattle.xc_world.specs.Effects.{takes_data}
 use Rattle.xc_data.specs.Calls.{is_kept}
@@ -20,7 +20,6 @@ use Rattle.xc_model.specs.Moment.{queue_of, with_queue}
 use Rattle.xc_model.specs.WordCalls.{is_word_call}
 use Rattle.xc_station.specs.Acting.{Acting, HasActedAsPlain, HasDoneAsPlain, told_of}
 use Rattle.xc_station.specs.Lent.{IsBacked}
-use Rattle.xc_station.proofs.Notes.{keeps_itself}
 use Rattle.xc_station.proofs.TakenAgain.{still_kept}
 use Rattle.xc_station.proofs.WordActs.{append_nil}
 use Rattle.xc_station.proofs.Doings.{call_done, calling, none_taken, none_noted, IsToldCall}
@@ -43,7 +42,7 @@ kept_told model d old me queue reply untaken alone tells =
           ∙ alone.unrecorded (with_contents w (model.contents old.host)) old.tx.number
           ∙ sym (alone.unrecorded (with_contents w (told_of model old)) old.tx.number);
       backed = subst (All (IsBacked (model.contents old.host))) (sym (none_taken d old.tx.me reply untaken)) (All-nil (IsBacked (model.contents old.host)));
-      keeps = keeps_itself (model.contents old.host);
+      keeps = data_keeps_itself (model.contents old.host);
     }
 
 -- it has acted: the host is as it was
@@ -75,7 +74,7 @@ stored_acted model c d old me queue (Err e) is other untaken waiting kept err st
       uses = record { made = []; named = inl refl; used = unused model old.host };
       faults = refl;
       lent = still_kept c old.tx.me (record { old = old.kept; new = old.kept }) (Err e) (ap takes_data is ∙ untaken) refl;
-      keeps = λ tells. keeps_itself (model.contents old.host);
+      keeps = λ tells. data_keeps_itself (model.contents old.host);
       contents = λ tells. inl (refl, refl);
     }
 

@@ -16,7 +16,7 @@ use Rattle.xc_compensate.specs.Records.{Records}
 use Rattle.xc_host.specs.Contents.{contents_of, world_of}
 use Rattle.xc_host.specs.Model.{HostModel}
 use Rattle.xc_host.specs.Uses.{CallsOf}
-use Rattle.xc_data.specs.declared.script.Kind.{Kind}
+use Rattle.xc_data.specs.declared.script.HostCallKind.{HostCallKind}
 use Rattle.xc_script.specs.declared.ask.Ask.TheVariants as ask
 use Rattle.xc_script.specs.Answers.{value_in}
 use Rattle.xc_txmem.specs.Overlay.{overlaid}
@@ -31,13 +31,13 @@ use Rattle.xc_data.specs.Calls.{is_late}
 use Rattle.xc_data.specs.declared.undo.Undo.{Undo}
 use Rattle.xc_world.specs.RecordOf.{AreRecordsOf, left_by}
 use Rattle.xc_world.specs.Trail.{recorded}
-use Rattle.xc_model.specs.PlainSteps.{StopsAt, tx_parts, seen}
+use Rattle.xc_model.specs.PlainSteps.{StopsAt, tx_parts, contents_seen}
 use Rattle.xc_model.specs.Moment.{TxView}
 use Rattle.xc_model.specs.WordCalls.{is_word_call}
 use Rattle.xc_station.specs.Acting.{Acting, HasActedAsPlain, HasDoneAsPlain, IsLentFor, IsSidedFor, LeavesOff, leaving, told_of}
 use Rattle.xc_station.proofs.Lent.{kept_again, kept_of}
 use Rattle.xc_station.proofs.TakenAgain.{same_kept, still_kept, taken_again}
-use Rattle.xc_station.proofs.Takings.{IsTakingStep, Taking, taking_returns}
+use Rattle.xc_station.proofs.Takings.{IsTakingStep, TakingCall, taking_returns}
 use Rattle.xc_station.proofs.WordActs.{append_nil, no_stores, no_value}
 use Rattle.xc_station.proofs.Doings.{none_behind, framed_now}
 
@@ -57,7 +57,7 @@ wants_value (Ok x) r failed lasting nothing = cc
 wants_value (Err e) r failed lasting nothing = let ok = lasting nothing in cc
 
 -- it made all its calls of the host
-stops_behind : (refused : Option Reply) (c : Call) (r : Reply) (made : List Kind) → CallsOf refused c r made → StopsAt (ask.Call c) made
+stops_behind : (refused : Option Reply) (c : Call) (r : Reply) (made : List HostCallKind) → CallsOf refused c r made → StopsAt (ask.Call c) made
 stops_behind None c r made calls = inr (inr (r, calls))
 stops_behind (Some refusal) c r made calls = inl calls
 
@@ -94,22 +94,22 @@ unanswered model c old new behind reply d untaken ahead is brings =
               untaken = untaken;
               ahead = ahead;
               fits = does.fits;
-              world = ap (λ (ws : List (ℕ × ℕ)). seen w (told_of model new) ws) (sym writes) ∙ ap (λ (s : Stepped). s.world) (sym does.step);
+              world = ap (λ (ws : List (ℕ × ℕ)). contents_seen w (told_of model new) ws) (sym writes) ∙ ap (λ (s : Stepped). s.world) (sym does.step);
               records = append_cancel_left old.tx.undo.pending d.made
-                  (recorded (seen w (told_of model old) old.tx.writes) old.tx.me old.tx.number c reply)
+                  (recorded (contents_seen w (told_of model old) old.tx.writes) old.tx.me old.tx.number c reply)
                   (sym (ap (λ (u : Records). u.pending) d.undo) ∙ does.records)
-                  ∙ ap (λ (s : Stepped). recorded (seen w (told_of model old) old.tx.writes) old.tx.me old.tx.number c s.reply) (sym does.step);
+                  ∙ ap (λ (s : Stepped). recorded (contents_seen w (told_of model old) old.tx.writes) old.tx.me old.tx.number c s.reply) (sym does.step);
             },
       );
     } in
     subst (λ a. LeavesOff model c old a) (sym is) now
 
 -- a call that takes at a moment, in one of the worlds that show it
-abbrev pub taking_at : {H : Type 0} → HostModel H → Call → Acting H → Acting H → Reply → Taking
+abbrev pub taking_at : {H : Type 0} → HostModel H → Call → Acting H → Acting H → Reply → TakingCall
 taking_at model d old new reply =
     let w = record (world_of (told_of model old)) { words = old.words } in
     record {
-      world = record { old = seen w (told_of model old) old.tx.writes; new = seen w (told_of model new) new.tx.writes };
+      world = record { old = contents_seen w (told_of model old) old.tx.writes; new = contents_seen w (told_of model new) new.tx.writes };
       me = record { old = old.tx.me; new = new.tx.me };
       number = old.tx.number;
       call = d;
@@ -175,7 +175,7 @@ taking_undone model d old new behind kept reply takes done lent sided fit given 
         refl,
         kept_again (model.contents new.host) new.kept kept (taken_by d old.tx.me reply) given
             ∙ (let w = record (world_of (told_of model old)) { words = old.words } in
-            sym (kept_of (seen w (told_of model new) new.tx.writes) (taken_by d old.tx.me reply))
+            sym (kept_of (contents_seen w (told_of model new) new.tx.writes) (taken_by d old.tx.me reply))
             ∙ ap contents_of (taking_returns _ _ _ (taking_step model d old new reply takes done lent sided tells))),
       );
     } in

@@ -100,13 +100,13 @@ made_acted {H = H} model c d old new me r same is other untaken ahead at_once st
     by_result (Err e) whole writes called now = pipe_left model d old new other e untaken ahead called keeps whole writes still
 
 -- a transaction that took something, and noted it
-abbrev pub reading : TxView → Private → List KeptItem → TxView
-reading tx me taken = record tx { me = me; taken = taken }
+abbrev pub noting_taken : TxView → Private → List KeptItem → TxView
+noting_taken tx me taken = record tx { me = me; taken = taken }
 
 -- something is taken, or memory ran out
 module _ {H : Type 0} (model : HostModel H) (d : Call) (old : Acting H) (host : H) (kept taken : List KeptItem) (me : Private) where
   abbrev pub read_to : Acting H
-  read_to = record old { host = host; kept = kept; tx = reading old.tx me taken }
+  read_to = record old { host = host; kept = kept; tx = noting_taken old.tx me taken }
 
   pub read_acted : (r : Result Reply NoMemory) → is_word_call d ≡ false → is_kept d ≡ false
       → IfOk r (λ reply. IsHostCall (fronted model) d (calling_front old) (calling_front read_to) (Ok reply))

@@ -11,7 +11,7 @@ use Rattle.xc_data.specs.declared.call.Call.TheVariants as call
 use Rattle.xc_data.specs.declared.call.Reply.{Reply}
 use Rattle.xc_data.specs.declared.memory.NoMemory.{NoMemory}
 use Rattle.xc_host.specs.Model.{HostModel}
-use Rattle.xc_host.proofs.Laws.{unused}
+use Rattle.xc_host.proofs.Laws.{unused, data_keeps_itself}
 use Rattle.xc_txmem.specs.Overlay.{overlaid}
 use Rattle.xc_world.specs.Act.{act}
 use Rattle.xc_world.specs.After.{IsMeAfter}
@@ -20,14 +20,12 @@ use Rattle.xc_world.specs.Act.Step.{step_to}
 use Rattle.xc_world.specs.Effects.{takes_data}
 use Rattle.xc_world.specs.Fits.{fits, answer_of}
 use Rattle.xc_data.specs.Calls.{is_late, is_kept}
-use Rattle.xc_model.specs.PlainSteps.{StepsAsPlainIn, tx_parts, seen, stored_by}
+use Rattle.xc_model.specs.PlainSteps.{StepsAsPlainIn, tx_parts, contents_seen, stored_by}
 use Rattle.xc_model.specs.WordCalls.{is_word_call, word_reply, words_after}
 use Rattle.xc_station.specs.Acting.{Acting, HasActedAsPlain, HasDoneAsPlain, LeavesOff, told_between, told_of}
 use Rattle.xc_station.specs.Lent.{IsBacked}
-use Rattle.xc_station.proofs.Notes.{keeps_itself}
-use Rattle.xc_station.proofs.WordActs.{append_nil, word-act, word-after, word-checked, word-fine, word-quiet}
+use Rattle.xc_station.proofs.WordActs.{append_nil, word-act, word-after, word-checked, word-fine, word-quiet, word-kinds, word-trail, word-uses}
 use Rattle.xc_station.proofs.TakenAgain.{none_given, still_kept}
-use Rattle.xc_station.proofs.WordActs.{word-kinds, word-trail, word-uses}
 use Rattle.xc_station.proofs.Doings.{in_time_now, none_taken, framed_now}
 
 -- ---- a call on words
@@ -44,20 +42,20 @@ word_untaken (call.Store at value) is = refl
 word_untaken _ is = cc
 
 -- a transaction that stored
-abbrev pub storing : {H : Type 0} → Acting H → List (ℕ × ℕ) → Acting H
-storing a writes = record a { tx = record a.tx { writes = writes } }
+abbrev pub storing_writes : {H : Type 0} → Acting H → List (ℕ × ℕ) → Acting H
+storing_writes a writes = record a { tx = record a.tx { writes = writes } }
 
 module _ {H : Type 0} (model : HostModel H) (c : Call) (old : Acting H) (writes : List (ℕ × ℕ)) (is : is_word_call c ≡ true) where
   -- the plain machine does it
   does_words : (reply : Reply) → reply ≡ word_reply (overlaid old.words old.tx.writes) c
       → overlaid old.words writes ≡ words_after (overlaid old.words old.tx.writes) c
-      → StepsAsPlainIn old.words (told_between model old old) (record { old = tx_parts old.tx; new = tx_parts (storing old writes).tx }) c reply
+      → StepsAsPlainIn old.words (told_between model old old) (record { old = tx_parts old.tx; new = tx_parts (storing_writes old writes).tx }) c reply
   does_words reply gives after w at =
       let was = told_of model old in
       let stores = old.tx.writes in
       let me = old.tx.me in
       let number = old.tx.number in
-      let v = seen w was stores in
+      let v = contents_seen w was stores in
       let gives' : reply ≡ word_reply v.words c = gives ∙ ap (λ ws. word_reply (overlaid ws stores) c) (sym at) in
       let after' : words_after v.words c ≡ overlaid w.words writes =
       ap (λ ws. words_after (overlaid ws stores) c) at ∙ sym after ∙ ap (λ ws. overlaid ws writes) (sym at) in
@@ -70,12 +68,12 @@ module _ {H : Type 0} (model : HostModel H) (c : Call) (old : Acting H) (writes 
 
   word_done : (reply : Reply) → reply ≡ word_reply (overlaid old.words old.tx.writes) c → writes ≡ old.tx.writes ++ stored_by (length old.words) c
       → overlaid old.words writes ≡ words_after (overlaid old.words old.tx.writes) c → is_late reply ≡ false → old.tx.me.stored ≤ 16384
-      → HasDoneAsPlain model c old (storing old writes) reply
+      → HasDoneAsPlain model c old (storing_writes old writes) reply
   word_done reply gives stores after now stored =
       let at_once = word_at_once c is in
       let quiet = ap is_fault_reply gives ∙ word-quiet (overlaid old.words old.tx.writes) c is in
       record {
-        tx = framed_now old.tx (tx_parts (storing old writes).tx) c reply (word_untaken c is) now;
+        tx = framed_now old.tx (tx_parts (storing_writes old writes).tx) c reply (word_untaken c is) now;
         checked = subst (IsChecked (refusal_of c old.tx.me) c) (sym gives) (word-checked (overlaid old.words old.tx.writes) old.tx.me c is);
         after = subst (λ r. IsMeAfter old.tx.number c r old.tx.me old.tx.me) (sym gives)
             (word-after (overlaid old.words old.tx.writes) old.tx.me old.tx.number c is);
@@ -92,7 +90,7 @@ module _ {H : Type 0} (model : HostModel H) (c : Call) (old : Acting H) (writes 
         spoken = record { words = after; gives = λ _. gives };
         backed = λ tells. subst (All (IsBacked (model.contents old.host))) (sym (none_taken c old.tx.me reply (word_untaken c is)))
             (All-nil (IsBacked (model.contents old.host)));
-        keeps = λ tells. keeps_itself (model.contents old.host);
+        keeps = λ tells. data_keeps_itself (model.contents old.host);
         does = λ tells. does_words reply gives after;
       }
 
@@ -106,7 +104,7 @@ nothing_left model c old =
       uses = record { made = []; named = inl refl; used = unused model old.host };
       faults = refl;
       lent = none_given c old.tx.me old.kept (record {});
-      keeps = λ tells. keeps_itself (model.contents old.host);
+      keeps = λ tells. data_keeps_itself (model.contents old.host);
       contents = λ tells. inl (refl, refl);
     }
 
@@ -125,9 +123,9 @@ pub store_acted : {H : Type 0} (model : HostModel H) (c : Call) (at value : ℕ)
     → OnOk r (writes ≡ old.tx.writes ++ stored_by (length old.words) (call.Store at value))
     → OnOk r (overlaid old.words writes ≡ words_after (overlaid old.words old.tx.writes) (call.Store at value))
     → OnErr r (writes ≡ old.tx.writes) → IfOk r (λ reply. is_late reply ≡ false) → old.tx.me.stored ≤ 16384
-    → HasActedAsPlain model c old (storing old writes) r
+    → HasActedAsPlain model c old (storing_writes old writes) r
 store_acted model c at value old writes (Ok reply) is gives stores after err now stored =
-    subst (λ d. HasDoneAsPlain model d old (storing old writes) reply) (sym is)
+    subst (λ d. HasDoneAsPlain model d old (storing_writes old writes) reply) (sym is)
     (word_done model (call.Store at value) old writes refl reply gives stores after now stored)
 store_acted model c at value old writes (Err e) is gives stores after err now stored =
-    subst (λ ws. LeavesOff model c old (storing old ws)) (sym err) (nothing_left model c old)
+    subst (λ ws. LeavesOff model c old (storing_writes old ws)) (sym err) (nothing_left model c old)

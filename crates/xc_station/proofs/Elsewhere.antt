@@ -4,9 +4,9 @@ use Rattle.std.specs.Prelude.{All, Contains}
 use Rattle.std.proofs.lemmas.List.Elements.{All-nil, All-cons, All-head, All-tail, All-contains, All-weaker}
 use Rattle.xc_buffers.specs.Items.{is_fit, keeps_from, kept_bytes, kept_messages}
 use Rattle.xc_buffers.specs.Sources.{is_from}
-use Rattle.xc_buffers.specs.declared.source.Source.{Source}
-use Rattle.xc_buffers.specs.declared.source.Source.TheVariants as source
-use Rattle.xc_buffers.proofs.Laws.{fit_side, no_items, no_message_items, pipe_front, side_front, own}
+use Rattle.xc_buffers.specs.declared.source.Endpoint.{Endpoint}
+use Rattle.xc_buffers.specs.declared.source.Endpoint.TheVariants as source
+use Rattle.xc_buffers.proofs.Laws.{fit_side, no_items, no_message_items, pipe_front, side_front, own_source}
 use Rattle.xc_data.specs.Remaining.{objects_of}
 use Rattle.xc_data.specs.declared.entry.KeptItem.{KeptItem}
 use Rattle.xc_data.specs.declared.entry.KeptItem.TheVariants.{Bytes, Message}
@@ -21,7 +21,7 @@ use Rattle.xc_refines.specs.InFlight.{IsEmptyNew}
 use Rattle.xc_world.specs.Beside.{AreElsewhere}
 use Rattle.xc_world.specs.Run.{given_back, item_object}
 use Rattle.xc_world.specs.World.{Pipe, World, pair_of, pipe_of, waiting}
-use Rattle.xc_world.proofs.Laws.{HasNoData, file_has_none, name_has_none, no_data_elsewhere, one}
+use Rattle.xc_world.proofs.Laws.{HasNoData, file_has_none, name_has_none, no_data_elsewhere, one_object}
 use Rattle.xc_station.specs.Lent.{IsBacked}
 use Rattle.xc_station.proofs.Lent.{world_kept}
 
@@ -38,7 +38,7 @@ rest_false false b is = is
 rest_false true b is = cc is
 
 -- no item is of a source of which none is kept
-none_from : (s : Source) (items : List KeptItem) → keeps_from s items ≡ false → All (λ item. is_from s item ≡ false) items
+none_from : (s : Endpoint) (items : List KeptItem) → keeps_from s items ≡ false → All (λ item. is_from s item ≡ false) items
 none_from s [] none = All-nil (λ item. is_from s item ≡ false)
 none_from s (item ∷ items) none =
     All-cons (λ item. is_from s item ≡ false) item items (first_false (is_from s item) (keeps_from s items) none)
@@ -55,7 +55,8 @@ not_both b is not = let both : true ≡ false = sym is ∙ not in cc both
 not_pipe : (num : Num) (item : KeptItem) → is_from (source.Pipe num) item ≡ false → item_object item ≢ object.Pipe num
 not_pipe num (Bytes n bytes) lacks same =
     let is : n ≡ num = cc same in
-    not_both (is_from (source.Pipe num) (Bytes n bytes)) (subst (λ k. is_from (source.Pipe num) (Bytes k bytes) ≡ true) (sym is) (own (source.Pipe num))) lacks
+    not_both (is_from (source.Pipe num) (Bytes n bytes))
+    (subst (λ k. is_from (source.Pipe num) (Bytes k bytes) ≡ true) (sym is) (own_source (source.Pipe num))) lacks
 not_pipe num (Message n side bytes) lacks same = cc same
 
 one_of_two : (side : ℕ) → side < 2 → (side ≡ 0) ⊎ (side ≡ 1)
@@ -65,7 +66,7 @@ one_of_two (suc (suc n)) less = absurd (omega (arith, less))
 
 not_side : (num : Num) (side : ℕ) (item : KeptItem) → is_from (source.Side num side) item ≡ false → (bytes : List ℕ) → item ≡ Message num side bytes → ⊥
 not_side num side item lacks bytes is =
-    not_both (is_from (source.Side num side) item) (subst (λ x. is_from (source.Side num side) x ≡ true) (sym is) (own (source.Side num side))) lacks
+    not_both (is_from (source.Side num side) item) (subst (λ x. is_from (source.Side num side) x ≡ true) (sym is) (own_source (source.Side num side))) lacks
 
 not_pair : (num : Num) (item : KeptItem) → is_fit item ≡ true → is_from (source.Side num 0) item ≡ false → is_from (source.Side num 1) item ≡ false
     → item_object item ≢ object.Pair num
@@ -104,12 +105,13 @@ module _ (c : Contents) (items : List KeptItem) (backed : All (IsBacked c) items
 
   -- nothing is kept of what it made
   pub nothing_kept_of : (u : Undo) → IsEmptyNew (world_of (with_kept c items)) u → AreElsewhere (objects_of u) items
-  nothing_kept_of (undo.Bytes file at before after n) empty = no_data_elsewhere (object.File file ∷ []) items (one (object.File file) (file_has_none file))
-  nothing_kept_of (undo.Tail file from after n) empty = no_data_elsewhere (object.File file ∷ []) items (one (object.File file) (file_has_none file))
+  nothing_kept_of (undo.Bytes file at before after n) empty =
+      no_data_elsewhere (object.File file ∷ []) items (one_object (object.File file) (file_has_none file))
+  nothing_kept_of (undo.Tail file from after n) empty = no_data_elsewhere (object.File file ∷ []) items (one_object (object.File file) (file_has_none file))
   nothing_kept_of (undo.Made name num) empty = no_data_elsewhere (object.Name name ∷ object.File num ∷ []) items
-      (All-cons HasNoData (object.Name name) (object.File num ∷ []) (name_has_none name) (one (object.File num) (file_has_none num)))
+      (All-cons HasNoData (object.Name name) (object.File num ∷ []) (name_has_none name) (one_object (object.File num) (file_has_none num)))
   nothing_kept_of (undo.Moved from to) empty = no_data_elsewhere (object.Name from ∷ object.Name to ∷ []) items
-      (All-cons HasNoData (object.Name from) (object.Name to ∷ []) (name_has_none from) (one (object.Name to) (name_has_none to)))
+      (All-cons HasNoData (object.Name from) (object.Name to ∷ []) (name_has_none from) (one_object (object.Name to) (name_has_none to)))
   nothing_kept_of (undo.NewPipe num) empty =
       let none : (pipe_of (given_back below items) num).held ≡ [] = subst (λ w. (pipe_of w num).held ≡ []) (world_kept c items) empty in
       let bytes = nil_front (kept_bytes num items) (pipe_of below num).held (sym (ap (λ (p : Pipe). p.held) (pipe_front below items num)) ∙ none) in

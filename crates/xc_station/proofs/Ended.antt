@@ -12,7 +12,7 @@ use Rattle.xc_model.specs.Consistent.{AreLinesOf, IsLineOf}
 use Rattle.xc_model.specs.Counted.{tx_faults}
 use Rattle.xc_model.specs.Ending.{IsTrueEnd}
 use Rattle.xc_model.specs.Handles.{AreCalled}
-use Rattle.xc_turns.proofs.Laws.{calls_true, ends_told, journal_true, words_left, complete}
+use Rattle.xc_turns.proofs.Laws.{calls_true, ends_told, journal_true, words_are_left, complete}
 use Rattle.xc_refines.proofs.Laws.{at_rest}
 use Rattle.xc_station.specs.declared.job.Job.{Job}
 use Rattle.xc_station.specs.Jobs.{is_live, job_view}
@@ -58,7 +58,7 @@ true_end s faults now lines steady over =
       few = let most = told.few in omega arith;
       attempts = steady.kept.attempts;
       patience = λ zero. (steady.kept.patience zero).entries;
-      words = words_left _ now.words now.jobs lines steady.kept.spoken over;
+      words = words_are_left _ now.words now.jobs lines steady.kept.spoken over;
       state = λ tells. at_rest s now lines (steady.flying tells) over;
       ends = ends;
       complete = λ done. complete s now.journal lines told.entries ends done;

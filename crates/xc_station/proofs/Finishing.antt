@@ -22,7 +22,7 @@ use Rattle.xc_model.specs.CommittingRows.{CommittingTurn, LateTurn}
 use Rattle.xc_model.specs.UndoingRows.{UndoingTurn, BackTurn}
 use Rattle.xc_turns.proofs.Laws.{left_some, next_ends, get_inside}
 use Rattle.std.proofs.lemmas.Bool.{eqb-false, ne_eqb}
-use Rattle.xc_station.specs.Finishing.{Enters, IsEntryOf, OthersStay, left_at, left_in, left_of, phase_at, phase_in, told_at}
+use Rattle.xc_station.specs.Finishing.{AddsEntry, IsEntryOf, OthersStay, job_left_at, left_in, left_of, phase_at, phase_in, told_at}
 use Rattle.xc_station.specs.declared.job.Job.{Job}
 use Rattle.xc_station.specs.Jobs.{goes_on, job_views, stage_of}
 use Rattle.xc_station.proofs.Runs.{live_there, phase_goes}
@@ -31,7 +31,7 @@ use Rattle.xc_station.specs.Stations.{IsStepOf, KeepsOpening, StationView, TakeT
 -- ---- one turn of such a transaction, by what a job does
 -- after a turn: the entry is there if nothing was left, and otherwise one thing less is left
 abbrev pub ComesNearer : ℕ → Phase → Moment → Moment → ℕ → Type 0
-ComesNearer at phase old new zero = Enters (at + 1) phase old.journal new.journal
+ComesNearer at phase old new zero = AddsEntry (at + 1) phase old.journal new.journal
 ComesNearer at phase old new (suc n) =
     (new.journal ≡ old.journal)
     × (job : JobView) × (slice_get new.jobs at ≡ Some job) × (left_of job.doing ≡ Some n) × (phase_in job.doing ≡ Some phase)
@@ -149,7 +149,7 @@ told_there f jobs number a job some there is =
 
 -- an undoing transaction has so many turns
 pub undo_left : (jobs : List JobView) (number : ℕ) (c : Cause) → phase_at jobs number ≡ Some (Undoing c)
-    → (phase : Phase) × (left : ℕ) × (left_at jobs number ≡ Some left) × (phase_at jobs number ≡ Some phase)
+    → (phase : Phase) × (left : ℕ) × (job_left_at jobs number ≡ Some left) × (phase_at jobs number ≡ Some phase)
 undo_left jobs number c is =
     let found = there_of phase_in jobs number (Undoing c) is in
     let left = of_doing found.1.doing found.3 in
@@ -163,7 +163,7 @@ undo_left jobs number c is =
 
 -- and so has a committing one
 pub commit_left : (jobs : List JobView) (number : ℕ) → phase_at jobs number ≡ Some Committing
-    → (phase : Phase) × (left : ℕ) × (left_at jobs number ≡ Some left) × (phase_at jobs number ≡ Some phase)
+    → (phase : Phase) × (left : ℕ) × (job_left_at jobs number ≡ Some left) × (phase_at jobs number ≡ Some phase)
 commit_left jobs number is =
     let found = there_of phase_in jobs number Committing is in
     let left = of_doing found.1.doing found.3 in
@@ -180,7 +180,7 @@ module _ {H : Type 0} (model : HostModel H) (job : ℕ) where
   -- before the entry: so much is left, and turns for it lead to the end
   pub record IsBefore (phase : Phase) (left : ℕ) (old now : StationView H) : Type 0 where
     pub more : ℕ
-    pub is_left : left_at (job_views now.jobs) job ≡ Some more
+    pub is_left : job_left_at (job_views now.jobs) job ≡ Some more
     pub is_phase : phase_at (job_views now.jobs) job ≡ Some phase
     pub same : now.journal ≡ old.journal
     pub rest : (end : StationView H) → TakeTurns model (replicate (more + 1) job) now end
@@ -190,11 +190,11 @@ module _ {H : Type 0} (model : HostModel H) (job : ℕ) where
   abbrev pub IsOnWay : Phase → ℕ → StationView H → StationView H → Type 0
   IsOnWay phase left old now =
       IsBefore phase left old now
-      ⊎ (Enters job phase old.journal now.journal × TakeTurns model (replicate (left + 1) job) old now)
+      ⊎ (AddsEntry job phase old.journal now.journal × TakeTurns model (replicate (left + 1) job) old now)
 
 -- it begins so
 pub on_way : {H : Type 0} (model : HostModel H) (job : ℕ) (phase : Phase) (left : ℕ) (old : StationView H)
-    → left_at (job_views old.jobs) job ≡ Some left → phase_at (job_views old.jobs) job ≡ Some phase → IsOnWay model job phase left old old
+    → job_left_at (job_views old.jobs) job ≡ Some left → phase_at (job_views old.jobs) job ≡ Some phase → IsOnWay model job phase left old old
 on_way model job phase left old is does =
     inl (record { more = left; is_left = is; is_phase = does; same = refl; rest = λ end turns. turns })
 
@@ -225,7 +225,7 @@ lives_on_way model job phase left old now (inr ((e, grown, is), turns)) count = 
 -- once the journal is longer, the entry is there
 pub arrived : {H : Type 0} (model : HostModel H) (job : ℕ) (phase : Phase) (left : ℕ) (old now : StationView H)
     → IsOnWay model job phase left old now → length now.journal ≢ length old.journal
-    → Enters job phase old.journal now.journal × TakeTurns model (replicate (left + 1) job) old now
+    → AddsEntry job phase old.journal now.journal × TakeTurns model (replicate (left + 1) job) old now
 arrived model job phase left old now (inl before) longer = absurd (longer (ap length before.same))
 arrived model job phase left old now (inr there) longer = there
 

@@ -5,8 +5,8 @@ use Rattle.std.specs.List.{filter}
 use Rattle.std.proofs.lemmas.List.Elements.{All-nil, All-cons, All-head, All-tail, All-append, All-filter, All-weaker, All-contains, All-contains_itself}
 use Rattle.xc_buffers.specs.Items.{items_apart, items_from}
 use Rattle.xc_buffers.specs.Sources.{is_from, source_of}
-use Rattle.xc_buffers.specs.declared.source.Source.{Source}
-use Rattle.xc_buffers.proofs.Laws.{own}
+use Rattle.xc_buffers.specs.declared.source.Endpoint.{Endpoint}
+use Rattle.xc_buffers.proofs.Laws.{own_source}
 use Rattle.xc_data.specs.declared.entry.KeptItem.{KeptItem}
 
 -- what holds of all that pass a test holds of each that does
@@ -23,7 +23,7 @@ unfiltered {A = A} p P (x ∷ xs) all = by_test (p x) refl (unfiltered p P xs)
         All-cons (λ y. p y ≡ true → P y) x xs (λ passes. let both : true ≡ false = sym passes ∙ is in cc both) (rest others)
 
 -- it is among one of the two
-pub given_among : (items old new : List KeptItem) → ((s : Source) → items_from s new ≡ items_from s items ++ items_from s old)
+pub given_among : (items old new : List KeptItem) → ((s : Endpoint) → items_from s new ≡ items_from s items ++ items_from s old)
     → (item : KeptItem) → Contains new item → Contains items item ⊎ Contains old item
 given_among items old new each item at =
     let s = source_of item in
@@ -32,7 +32,7 @@ given_among items old new each item at =
     let kept : All P old = All-weaker (Contains old) P (λ x there. inr there) old (All-contains_itself old) in
     let all : All P (items_from s new) = subst (All P) (sym (each s))
     (All-append P (items_from s items) (items_from s old) (All-filter (is_from s) P items taken) (All-filter (is_from s) P old kept)) in
-    All-contains (λ y. is_from s y ≡ true → P y) new item (unfiltered (is_from s) P new all) at (own s)
+    All-contains (λ y. is_from s y ≡ true → P y) new item (unfiltered (is_from s) P new all) at (own_source s)
 
 -- so what holds of both lists holds of the new one
 pub given_all : (P : KeptItem → Type 0) (items old new : List KeptItem) → ((item : KeptItem) → Contains new item → Contains items item ⊎ Contains old item)

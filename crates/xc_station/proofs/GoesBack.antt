@@ -50,10 +50,11 @@ use Rattle.xc_station.proofs.Backed.{backed_undone, covered_below}
 use Rattle.xc_station.proofs.Closed.{its_active}
 use Rattle.xc_station.proofs.Elsewhere.{nothing_kept_of}
 use Rattle.xc_station.proofs.Giving.{given_all}
-use Rattle.xc_station.proofs.Notes.{backed_jobs, keeps_itself, notes_within}
-use Rattle.xc_station.proofs.Ready.{telling}
+use Rattle.xc_station.proofs.Notes.{backed_jobs, notes_within}
+use Rattle.xc_host.proofs.Laws.{data_keeps_itself}
+use Rattle.xc_station.proofs.Ready.{tells_story}
 use Rattle.xc_station.proofs.Rooms.{rooms_set}
-use Rattle.xc_station.proofs.Stages.{IsInPhase as InPhase, IsThere}
+use Rattle.xc_station.proofs.Stages.{HasPhase as InPhase, IsThere}
 use Rattle.xc_station.proofs.TurnRows.{moment_set, phase_turned}
 use Rattle.xc_station.proofs.Waiting.{none_without}
 
@@ -135,7 +136,7 @@ module _ {H : Type 0} (model : HostModel H) (shared : Shared H) (journal : List 
   -- its story
   pub goes_back : (f : Following) × IsBacking s f was.place mine.tx × (is_some was.place.saved ≡ is_some mine.tx.saved)
   goes_back =
-      let t = telling s faults now steady at (job_view was) mine.tx there mine.doing in
+      let t = tells_story s faults now steady at (job_view was) mine.tx there mine.doing in
       (t.following, subst (IsInPhase s t.following was.place mine.tx) mine.phase t.underway.phase, t.underway.together)
 
   -- it has started no job
@@ -273,7 +274,7 @@ module _ {H : Type 0} (model : HostModel H) (shared shared' : Shared H) (jobs : 
   then_backed : (kept : List KeptItem) → ((item : KeptItem) → Contains tx'.taken item → Contains tx.taken item) → All (IsBacked c) kept
       → AreBacked c kept (job_views (slice_set jobs at job))
   then_backed kept among backed =
-      backed_jobs c c shared.buffers.kept kept jobs at was job stands (keeps_itself c) backed
+      backed_jobs c c shared.buffers.kept kept jobs at was job stands (data_keeps_itself c) backed
       (λ t active. subst (λ (x : TxView). All (IsBacked c) x.taken) (its_taken t active) (taken_backed among)) are
 
   -- so it is after the turn

@@ -13,7 +13,7 @@ use Rattle.xc_roomy.specs.Room.{Roomy}
 use Rattle.xc_text.specs.declared.script.Script.{Script}
 use Rattle.xc_model.specs.Moment.{TxView, JobView, Idle, Ended, Moment}
 use Rattle.xc_model.specs.Setting.{Setting}
-use Rattle.xc_model.specs.Started.{starting}
+use Rattle.xc_model.specs.Started.{start_count}
 use Rattle.xc_locks.specs.Table.{mode_in, held_mode}
 use Rattle.xc_sentinel.specs.Seating.{seat_in}
 use Rattle.xc_turns.proofs.Laws.{sum_set, AreIdle, grown_active, grown_actives, grown_still, started_count}
@@ -25,7 +25,7 @@ use Rattle.xc_station.specs.Lent.{AreBacked, notes_in, notes_in_all, notes_of}
 use Rattle.xc_station.specs.Moments.{AreTracked, runs, seated_as}
 use Rattle.xc_station.specs.Stations.{HasRooms, HasStarts, IsSteady, Room}
 use Rattle.xc_data.proofs.Laws.{get_map}
-use Rattle.xc_station.proofs.Waiting.{as_many}
+use Rattle.xc_station.proofs.Waiting.{started_as_many}
 
 -- ---- beside them all is as before
 tracked_joined : {X : Type 0} (found : ℕ → Option X) (has : TxView → Option X) (jobs more : List JobView) → AreIdle more
@@ -81,9 +81,9 @@ pub children_within : (s : Setting) (faults : ℕ) (now : Moment) (jobs : List J
 children_within s faults now jobs at was room steady are stands has =
     let rests : JobView = record (job_view was) { doing = Ended job_end.Done } in
     let there : slice_get now.jobs at ≡ Some (job_view was) = ap (λ js. slice_get js at) are ∙ get_map job_view jobs at was stands in
-    let sums = sum_set starting now.jobs at (job_view was) rests there in
+    let sums = sum_set start_count now.jobs at (job_view was) rests there in
     let count = started_count now steady.kept.started in
-    let wait = ap length (has.children at was stands) ∙ as_many s.script (job_view was) (doing_of was) in
+    let wait = ap length (has.children at was stands) ∙ started_as_many s.script (job_view was) (doing_of was) in
     let children = length-map was.children.items child_view in
     let live = ap length are ∙ length-map jobs job_view in
     omega (arith, sums, count, wait, children, live)

@@ -20,7 +20,7 @@ use Rattle.xc_script.specs.declared.ask.Ask.TheVariants as ask
 use Rattle.xc_model.specs.declared.phase.Phase.{Phase}
 use Rattle.xc_model.specs.declared.phase.Phase.TheVariants.{Running, Committing, Undoing, Backing}
 use Rattle.xc_model.specs.Setting.{Setting}
-use Rattle.xc_model.specs.Moment.{TxView, SavedView, JobView, Doing, Idle, Active, Starved, Ended, Moment, late_left, waiting}
+use Rattle.xc_model.specs.Moment.{TxView, SavedView, JobView, Doing, Idle, Active, Starved, Ended, Moment, late_left, asked_to_wait}
 use Rattle.xc_model.specs.Rows.{IsTurn, TurnOf, ActiveTurn}
 use Rattle.xc_model.specs.IdleRows.{IdleTurn}
 use Rattle.xc_model.specs.RunningRows.{MarkedTurn, RunningTurn, AskedTurn, CalledTurn}
@@ -54,7 +54,7 @@ module _ (s : Setting) (at : ℕ) (old : Moment) (job : JobView) (new : Moment) 
 
   idle_leaves : (answer : Turn) → IdleTurn (mover s at old job) answer new → ChangesOne at old new
   idle_leaves (turn.Ended end) row = alone (record job { doing = Ended end }) _ row.1 refl refl
-  idle_leaves (turn.Busy object number) row = alone (waiting job) _ row.1 refl refl
+  idle_leaves (turn.Busy object number) row = alone (asked_to_wait job) _ row.1 refl refl
   idle_leaves turn.Went row = alone (beginning_job old job) _ row.1 refl refl
   idle_leaves turn.NoMemory row = absurd row
 

@@ -18,7 +18,7 @@ use Rattle.xc_station.specs.Acting.{Acting, HasDoneAsPlain, LeavesOff}
 use Rattle.xc_station.specs.Jobs.{tx_view}
 use Rattle.xc_station.specs.Lent.{IsBacked, Lent}
 use Rattle.xc_station.specs.Moments.{Front, HasClaimed, Lends}
-use Rattle.xc_station.proofs.Notes.{keeps_itself}
+use Rattle.xc_host.proofs.Laws.{data_keeps_itself}
 
 -- the host and what is kept is as before, and so is what the transaction took
 pub lends_still : {H : Type 0} (model : HostModel H) (front : Step (Front H)) (tx : Step TxView) → front.new ≡ front.old → tx.new.taken ≡ tx.old.taken
@@ -32,7 +32,7 @@ lends_still {H = H} model front tx same taken =
       noted = omega (arith, noted, many);
       kept = λ tells backed. subst (All (IsBacked (model.contents front.old.host))) (sym (ap (λ (l : Lent). l.kept) lent)) backed;
       taken = λ tells kept backed. subst (All (IsBacked (model.contents front.old.host))) (sym taken) backed;
-      keeps = λ tells. subst (λ h. KeepsData (model.contents front.old.host) (model.contents h)) (sym host) (keeps_itself (model.contents front.old.host));
+      keeps = λ tells. subst (λ h. KeepsData (model.contents front.old.host) (model.contents h)) (sym host) (data_keeps_itself (model.contents front.old.host));
     }
 
 -- a claim that isn't granted takes nothing

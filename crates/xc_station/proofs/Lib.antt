@@ -22,7 +22,6 @@ pub mod Lent
 pub mod Lines
 pub mod Named
 pub mod Notes
-pub mod Placed
 pub mod PutBack
 pub mod Reaching
 pub mod Ready

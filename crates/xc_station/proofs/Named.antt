@@ -13,7 +13,7 @@ use Rattle.xc_model.specs.Setting.{Setting}
 use Rattle.xc_model.specs.Started.{AreStarted, blocks, started_by}
 use Rattle.xc_model.specs.Stories.{StoriesHold}
 use Rattle.xc_turns.proofs.Laws.{get_inside}
-use Rattle.xc_station.specs.Names.{IsNameOf, name_at, told_blocks}
+use Rattle.xc_station.specs.Names.{IsNameOf, block_name_at, told_blocks}
 
 -- the started jobs have the blocks that the journal tells
 told_each : (told : List Following) (jobs : List JobView) → length told ≡ length jobs
@@ -36,12 +36,12 @@ second false x e = refl
 second true x e = let bad : ⊥ = cc in absurd bad
 
 -- the name in a place
-name_there : (names : List (List ℕ)) (job : ℕ) → 1 ≤ job → name_at names job ≡ slice_get names (job - 1)
+name_there : (names : List (List ℕ)) (job : ℕ) → 1 ≤ job → block_name_at names job ≡ slice_get names (job - 1)
 name_there names job some = second (job == 0) (slice_get names (job - 1)) (not_zero job some)
 
 -- a job that is live or has ended has the block that the journal tells
 pub told_name : (s : Setting) (words : ℕ) (marks : ℕ → Option Mark) (now : Moment) → StoriesHold s words marks now.journal now.jobs
-    → AreStarted s.script now → (job : ℕ) → 1 ≤ job → job ≤ length now.jobs → IsNameOf s.script now.journal job (name_at now.started job)
+    → AreStarted s.script now → (job : ℕ) → 1 ≤ job → job ≤ length now.jobs → IsNameOf s.script now.journal job (block_name_at now.started job)
 told_name s words marks now told started job some few =
     let same : told_blocks s.script now.journal ≡ blocks now.jobs =
     told_each (progress_of s.script now.journal).jobs now.jobs told.count (λ i f k got there. (told.jobs_told i f k got there).block) in

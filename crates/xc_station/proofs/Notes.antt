@@ -15,8 +15,9 @@ use Rattle.xc_host.specs.Kept.{KeepsData}
 use Rattle.xc_station.specs.Lent.{AreBacked, IsBacked, notes_in, notes_in_all, notes_of}
 use Rattle.xc_station.specs.declared.job.Job.{Job}
 use Rattle.xc_station.specs.Jobs.{job_view, job_views}
-use Rattle.xc_station.proofs.Placed.{active_before, active_is}
+use Rattle.xc_turns.proofs.Laws.{active_before, active_is}
 use Rattle.xc_data.proofs.Laws.{get_map, map_set}
+use Rattle.xc_host.proofs.Laws.{data_keeps_itself}
 
 -- ---- how much is noted
 -- the notes of one job go, and those of another come
@@ -59,10 +60,6 @@ still_backed c d items keeps backed = All-weaker (IsBacked c) (IsBacked d) each 
     each (Bytes num bytes) is = record { fit = is.fit; there = keeps.pipes num is.there }
     each (Message num side bytes) is = record { fit = is.fit; there = keeps.pairs num is.there }
 
--- nothing changed there
-pub keeps_itself : (c : Contents) → KeepsData c c
-keeps_itself c = record { pipes = λ num is. is; pairs = λ num is. is }
-
 -- with another job in one place, whose active transaction took what the host has
 pub backed_set : (c d : Contents) (kept kept' : List KeptItem) (jobs : List JobView) (at : ℕ) (job job' : JobView) → slice_get jobs at ≡ Some job
     → KeepsData c d → All (IsBacked d) kept' → ((tx : TxView) → active_of job' ≡ Some tx → All (IsBacked d) tx.taken) → AreBacked c kept jobs
@@ -87,4 +84,4 @@ backed_jobs c d kept kept' jobs at was job stands keeps backed mine are =
 pub backed_without : (c : Contents) (kept kept' : List KeptItem) (jobs : List Job) (at : ℕ) (was job : Job) → slice_get jobs at ≡ Some was
     → All (IsBacked c) kept' → active_of (job_view job) ≡ None → AreBacked c kept (job_views jobs) → AreBacked c kept' (job_views (slice_set jobs at job))
 backed_without c kept kept' jobs at was job stands backed none are =
-    backed_jobs c c kept kept' jobs at was job stands (keeps_itself c) backed (λ tx is. let lacks : None ≡ Some tx = sym none ∙ is in cc lacks) are
+    backed_jobs c c kept kept' jobs at was job stands (data_keeps_itself c) backed (λ tx is. let lacks : None ≡ Some tx = sym none ∙ is in cc lacks) are

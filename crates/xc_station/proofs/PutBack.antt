@@ -15,7 +15,7 @@ use Rattle.xc_data.specs.declared.private.Private.{Private}
 use Rattle.xc_script.specs.Answers.{value_in}
 use Rattle.xc_world.specs.After.{ArePlaces, IsAppendedAt, IsMeAfter, further}
 use Rattle.xc_world.specs.Trail.{done_of}
-use Rattle.xc_station.specs.PutBack.{changed_at, place_before, put_at}
+use Rattle.xc_station.specs.PutBack.{changed_at, place_before, place_put_at}
 
 put_again : (xs : List Place) (h : ℕ) (p : Place) → slice_set (slice_set xs h p) h (place_of xs h) ≡ xs
 put_again [] h p = refl
@@ -57,7 +57,7 @@ given xs is h p lowest set =
 
 -- the places after a call, with the one before it where it may have changed one, are those before it
 pub places_back : (tx : ℕ) (c : Call) (me : Private) (r : Reply) (is : List Place) → ArePlaces tx c me r is → (value_in r ≡ None → ⊥)
-    → put_at (changed_at c r) (place_before c me.places) is ≡ me.places
+    → place_put_at (changed_at c r) (place_before c me.places) is ≡ me.places
 places_back tx (call.XOpen name) me (reply.Made h) is (lowest, num, set) brings = given me.places is h (File num 0) lowest set
 places_back tx (call.XOpen name) me r is same brings = same
 places_back tx (call.XCreate name) me (reply.Made h) is (lowest, set) brings = given me.places is h _ lowest set
@@ -84,6 +84,6 @@ set_past (x ∷ xs) (suc h) p past = ap (λ ys. x ∷ ys) (set_past xs h p (omeg
 
 -- so are those that were put back
 pub put_back_is : (tx : ℕ) (c : Call) (r : Reply) (was is : Private) (at : Option ℕ) (p : Place) (places : List Place) → IsMeAfter tx c r was is
-    → (value_in r ≡ None → ⊥) → at ≡ changed_at c r → p ≡ place_before c was.places → places ≡ put_at at p is.places → places ≡ was.places
+    → (value_in r ≡ None → ⊥) → at ≡ changed_at c r → p ≡ place_before c was.places → places ≡ place_put_at at p is.places → places ≡ was.places
 put_back_is tx c r was is at p places after brings there stood put =
-    put ∙ (λ i. put_at (there i) (stood i) is.places) ∙ places_back tx c was r is.places after.places brings
+    put ∙ (λ i. place_put_at (there i) (stood i) is.places) ∙ places_back tx c was r is.places after.places brings

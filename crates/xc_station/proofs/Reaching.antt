@@ -6,8 +6,8 @@ use Rattle.std.specs.FinMap as map
 use Rattle.std.specs.List.{filter, flat_map, list_any}
 use Rattle.xc_buffers.specs.Items.{item_bytes, keeps_from, keeps_pair, kept_bytes}
 use Rattle.xc_buffers.specs.Sources.{is_from}
-use Rattle.xc_buffers.specs.Worlds.{has_pair, has_pipe}
-use Rattle.xc_buffers.specs.declared.source.Source.TheVariants as source
+use Rattle.xc_buffers.specs.Worlds.{world_has_pair, world_has_pipe}
+use Rattle.xc_buffers.specs.declared.source.Endpoint.TheVariants as source
 use Rattle.xc_buffers.proofs.Laws.{pair_is_there, pipe_is_there}
 use Rattle.xc_data.specs.Claims.{objects}
 use Rattle.xc_data.specs.Private.{place_of}
@@ -111,19 +111,19 @@ module _ (s : Setting) (now : Moment) (at : ℕ) (tx : TxView) (c : Contents) (k
       let num = next_num tx.me tx.number in
       let none : is_some (map.get now.contents.pipes num) ≡ false =
       lacks (map.get now.contents.pipes num) (free_now s now flying at active.0 tx active.1 active.2 runs tx.me.made (omega arith)).pipe in
-      let both : (keeps_from (source.Pipe num) kept || has_pipe (world_of c) num) ≡ false =
+      let both : (keeps_from (source.Pipe num) kept || world_has_pipe (world_of c) num) ≡ false =
       sym (pipe_is_there (world_of c) kept num) ∙ ap (λ (k : Contents). is_some (map.get k.pipes num)) (sym told) ∙ none in (
-        rest_false (keeps_from (source.Pipe num) kept) (has_pipe (world_of c) num) both,
-        none_kept num kept (first_false (keeps_from (source.Pipe num) kept) (has_pipe (world_of c) num) both),
+        rest_false (keeps_from (source.Pipe num) kept) (world_has_pipe (world_of c) num) both,
+        none_kept num kept (first_false (keeps_from (source.Pipe num) kept) (world_has_pipe (world_of c) num) both),
       )
   number_free call.XPair =
       let num = next_num tx.me tx.number in
       let none : is_some (map.get now.contents.pairs num) ≡ false =
       lacks (map.get now.contents.pairs num) (free_now s now flying at active.0 tx active.1 active.2 runs tx.me.made (omega arith)).pair in
-      let both : (keeps_pair num kept || has_pair (world_of c) num) ≡ false =
+      let both : (keeps_pair num kept || world_has_pair (world_of c) num) ≡ false =
       sym (pair_is_there (world_of c) kept num) ∙ ap (λ (k : Contents). is_some (map.get k.pairs num)) (sym told) ∙ none in (
-        rest_false (keeps_pair num kept) (has_pair (world_of c) num) both,
-        first_false (keeps_pair num kept) (has_pair (world_of c) num) both,
+        rest_false (keeps_pair num kept) (world_has_pair (world_of c) num) both,
+        first_false (keeps_pair num kept) (world_has_pair (world_of c) num) both,
       )
   number_free _ = tt
 

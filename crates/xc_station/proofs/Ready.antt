@@ -29,7 +29,7 @@ use Rattle.xc_model.specs.declared.rules.Rules.{Rules}
 use Rattle.xc_model.specs.Setting.{Setting, setting}
 use Rattle.xc_model.specs.Progress.{Following, Progress, after_entry, opening_progress, progress_of, words_left}
 use Rattle.xc_model.specs.Moment.{TxView, JobView, Active, Moment, active_in, actives, failures, late_left}
-use Rattle.xc_model.specs.Stories.{AreAttempts, IsAhead, IsDoing, IsInPhase, IsUnderway}
+use Rattle.xc_model.specs.Stories.{AreAttempts, StandsAfterReplies, IsDoing, IsInPhase, IsUnderway}
 use Rattle.xc_model.specs.Movers.{IsActiveAt}
 use Rattle.xc_turns.proofs.Laws.{given_by_now, given_once, behind_count}
 use Rattle.xc_sentinel.specs.declared.seat.Seat.{Seat}
@@ -59,7 +59,7 @@ use Rattle.xc_data.proofs.Laws.{get_map}
 use Rattle.xc_station.proofs.Notes.{notes_within}
 use Rattle.xc_station.proofs.Reaching.{lent_for}
 use Rattle.xc_station.proofs.Rivals.{none_met}
-use Rattle.xc_station.proofs.Rooms.{one_active}
+use Rattle.xc_station.proofs.Rooms.{active_counted}
 use Rattle.xc_station.proofs.Stages.{IsThere, committing_stage, running_stage, undoing_stage}
 
 -- ---- the job's story
@@ -79,8 +79,8 @@ pub record IsTelling (s : Setting) (job : JobView) (tx : TxView) : Type 0 where
 module _ (s : Setting) (faults : ℕ) (now : Moment) (steady : IsSteady s faults now) (at : ℕ) (job : JobView) (tx : TxView)
     (stands : slice_get now.jobs at ≡ Some job) (does : job.doing ≡ Active tx) where
   -- it has one
-  pub telling : IsTelling s job tx
-  telling =
+  pub tells_story : IsTelling s job tx
+  tells_story =
       let told = steady.kept.told in
       let beside = get_beside (progress_of s.script now.journal).jobs now.jobs at job told.count stands in
       let tells = told.jobs_told at beside.0 job beside.1 stands in
@@ -128,7 +128,7 @@ module _ (s : Setting) (faults : ℕ) (now : Moment) (steady : IsSteady s faults
   -- the place of its transaction among its block's
   pub few_next : job.place.next < 2 ^ 32
   few_next =
-      let t = telling s faults now steady at job tx stands does in
+      let t = tells_story s faults now steady at job tx stands does in
       let f = t.following in
       let less = some_within (transactions_at s.script f.job.block) f.job.next t.underway.left in
       let few = few_there s.script.blocks f.job.block steady.set.read.each_block in
@@ -138,14 +138,14 @@ module _ (s : Setting) (faults : ℕ) (now : Moment) (steady : IsSteady s faults
   -- the attempts that ended in a conflict
   pub few_failures : failures job.attempts < s.rules.attempts
   few_failures =
-      let t = telling s faults now steady at job tx stands does in
+      let t = tells_story s faults now steady at job tx stands does in
       let less = t.underway.attempts in
       let same = failed_so t.following job.attempts t.attempts in
       omega (arith, less, same)
 
 -- ---- what is asked
 -- it fits the block that is open
-fits_there : (s : Setting) (f : Following) (place : Position) (tx : TxView) → IsScript s.script → IsAhead s f place tx
+fits_there : (s : Setting) (f : Following) (place : Position) (tx : TxView) → IsScript s.script → StandsAfterReplies s f place tx
     → ask_fits (is_some place.saved) (asks (walk_of s.script place)) ≡ true
 fits_there s f place tx read ahead =
     let walk = walk_of s.script place in
@@ -175,7 +175,7 @@ module _ {H : Type 0} (model : HostModel H) (shared : Shared H) (journal : List 
       let now = moment model shared journal jobs in
       let there = get_map job_view jobs at was is.there in
       let runs = running_stage (doing_of was) is.stage in
-      let t = telling s faults now steady at (job_view was) runs.tx there runs.doing in
+      let t = tells_story s faults now steady at (job_view was) runs.tx there runs.doing in
       let active : IsActiveAt now.jobs at runs.tx = (job_view was, there, ap active_in runs.doing) in
       let spoken = steady.kept.spoken.each at runs.tx active in
       let block : t.following.job.block ≡ was.place.block = sym t.underway.standing.block in
@@ -314,6 +314,6 @@ module _ {H : Type 0} (model : HostModel H) (shared : Shared H) (journal : List 
       (get_map job_view jobs at was is.there) does in omega (arith, few, fits)
 
   -- each active one has its room
-  pub has_room : (s : Stage) (tx : TxView) → IsThere jobs at s was → doing_of was ≡ Active tx → (1 ≤ active) × (1 ≤ spare)
-  has_room s tx is does = one_active shared active spare (moment model shared journal jobs) lines at (job_view was) tx
+  pub active_has_room : (s : Stage) (tx : TxView) → IsThere jobs at s was → doing_of was ≡ Active tx → (1 ≤ active) × (1 ≤ spare)
+  active_has_room s tx is does = active_counted shared active spare (moment model shared journal jobs) lines at (job_view was) tx
       (get_map job_view jobs at was is.there) (ap active_in does) rooms

@@ -50,10 +50,10 @@ rooms_relined shared active spare now lines lines' none has =
     }
 
 -- a job with an active transaction is one of those that are counted
-pub one_active : {H : Type 0} (shared : Shared H) (active spare : ℕ) (now : Moment) (lines : Roomy JobLine) (at : ℕ) (job : JobView) (tx : TxView)
+pub active_counted : {H : Type 0} (shared : Shared H) (active spare : ℕ) (now : Moment) (lines : Roomy JobLine) (at : ℕ) (job : JobView) (tx : TxView)
     → slice_get now.jobs at ≡ Some job
     → active_of job ≡ Some tx → HasRooms shared active spare now lines → (1 ≤ active) × (1 ≤ spare)
-one_active shared active spare now lines at job tx there is has =
+active_counted shared active spare now lines at job tx there is has =
     let none : JobView = record job { doing = Idle } in
     let picked = picked_set active_of now.jobs at none job there in
     let one : ones (active_of job) ≡ 1 = ap ones is in

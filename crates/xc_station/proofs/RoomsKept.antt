@@ -20,7 +20,7 @@ use Rattle.xc_sentinel.specs.declared.sentinels.Sentinels.{Sentinels}
 use Rattle.xc_sentinel.specs.Seating.{KeepsSeats, SetsSeat, seat_in}
 use Rattle.xc_locks.specs.Table.{Table, mode_in, held_mode}
 use Rattle.xc_model.specs.Setting.{Setting}
-use Rattle.xc_model.specs.Moment.{TxView, JobView, Active, Ended, Moment, active_in, active_of, begun_count, rank_of, waiting, with_job}
+use Rattle.xc_model.specs.Moment.{TxView, JobView, Active, Ended, Moment, active_in, active_of, begun_count, rank_of, asked_to_wait, with_job}
 use Rattle.xc_model.specs.RunningRows.{AskedTurn, CalledTurn, MarkedTurn, RunningTurn}
 use Rattle.xc_model.specs.IdleRows.{IdleTurn, beginning_job, new_tx}
 use Rattle.xc_model.specs.Movers.{IsActiveAt, asked_at, mover}
@@ -42,7 +42,7 @@ use Rattle.xc_station.proofs.Tracked.{nobody, tracked_begun, tracked_ended, trac
 
 -- ---- a running transaction goes on
 -- the job that a row leaves in the place: its transaction has the same number and rank
-pub record GoesOn (old new : Moment) (at : ℕ) (job : JobView) (tx : TxView) : Type 0 where
+pub record KeepsNumber (old new : Moment) (at : ℕ) (job : JobView) (tx : TxView) : Type 0 where
   pub behind : JobView
   pub tx' : TxView
   pub doing : behind.doing ≡ Active tx'
@@ -51,7 +51,7 @@ pub record GoesOn (old new : Moment) (at : ℕ) (job : JobView) (tx : TxView) : 
   pub jobs : new.jobs ≡ slice_set old.jobs at behind
 
 called_on : (s : Setting) (at : ℕ) (old : Moment) (job : JobView) (tx : TxView) (c : Call) (new : Moment) → CalledTurn (mover s at old job) tx c new
-    → GoesOn old new at job tx
+    → KeepsNumber old new at job tx
 called_on s at old job tx call.Back new row =
     record { behind = _; tx' = _; doing = refl; number = refl; rank = refl; jobs = ap (λ (n : Moment). n.jobs) row.behind }
 called_on s at old job tx c new (inl row) =
@@ -60,7 +60,7 @@ called_on s at old job tx c new (inr row) =
     record { behind = _; tx' = _; doing = refl; number = refl; rank = refl; jobs = ap (λ (n : Moment). n.jobs) row.behind }
 
 asked_on : (s : Setting) (at : ℕ) (old : Moment) (job : JobView) (tx : TxView) (a : Ask) (new : Moment) → AskedTurn (mover s at old job) tx a new
-    → GoesOn old new at job tx
+    → KeepsNumber old new at job tx
 asked_on s at old job tx (ask.Call c) new row = called_on s at old job tx c new row
 asked_on s at old job tx ask.Commit new row =
     record { behind = _; tx' = _; doing = refl; number = refl; rank = refl; jobs = ap (λ (n : Moment). n.jobs) row.behind }
@@ -69,19 +69,19 @@ asked_on s at old job tx ask.Abort new row =
 asked_on s at old job tx ask.End new row = absurd row
 
 -- a running transaction's turn keeps its number and its rank
-pub goes_on : (s : Setting) (at : ℕ) (old : Moment) (job : JobView) (tx : TxView) (answer : Turn) (new : Moment)
+pub number_kept : (s : Setting) (at : ℕ) (old : Moment) (job : JobView) (tx : TxView) (answer : Turn) (new : Moment)
     → RunningTurn (mover s at old job) tx answer new
-    → GoesOn old new at job tx
-goes_on s at old job tx turn.Went new row = asked_on s at old job tx (asked_at s job.place) new row
-goes_on s at old job tx turn.NoMemory new row =
+    → KeepsNumber old new at job tx
+number_kept s at old job tx turn.Went new row = asked_on s at old job tx (asked_at s job.place) new row
+number_kept s at old job tx turn.NoMemory new row =
     record { behind = _; tx' = _; doing = refl; number = refl; rank = refl; jobs = ap (λ (n : Moment). n.jobs) row.behind }
-goes_on s at old job tx (turn.Busy object holder) new row =
+number_kept s at old job tx (turn.Busy object holder) new row =
     record { behind = _; tx' = _; doing = refl; number = refl; rank = refl; jobs = ap (λ (n : Moment). n.jobs) row.behind }
-goes_on s at old job tx (turn.Ended end) new row = absurd row
+number_kept s at old job tx (turn.Ended end) new row = absurd row
 
 marked_on : (s : Setting) (at : ℕ) (old : Moment) (job : JobView) (tx : TxView) (mark : Option Mark) (answer : Turn) (new : Moment)
-    → MarkedTurn (mover s at old job) tx mark answer new → GoesOn old new at job tx
-marked_on s at old job tx None answer new row = goes_on s at old job tx answer new row
+    → MarkedTurn (mover s at old job) tx mark answer new → KeepsNumber old new at job tx
+marked_on s at old job tx None answer new row = number_kept s at old job tx answer new row
 marked_on s at old job tx (Some m) turn.Went new row =
     record { behind = _; tx' = _; doing = refl; number = refl; rank = refl; jobs = ap (λ (n : Moment). n.jobs) row }
 marked_on s at old job tx (Some m) (turn.Busy object holder) new row = absurd row
@@ -270,7 +270,7 @@ module _ {H : Type 0} (model : HostModel H) (shared : Shared H) (journal : List 
               none_there (record (job_view was) { doing = Ended end })
               (idle_set (marks_of sentinels'.seats) _ (record (job_view was) { doing = Ended end }) row.1) refl
           by_answer (turn.Busy object number) row =
-              none_there (waiting (job_view was)) (idle_set (marks_of sentinels'.seats) _ (waiting (job_view was)) row.1) none
+              none_there (asked_to_wait (job_view was)) (idle_set (marks_of sentinels'.seats) _ (asked_to_wait (job_view was)) row.1) none
           by_answer turn.Went row =
               let old = moment model shared journal jobs in
               let same = idle_set (marks_of sentinels'.seats) _ (beginning_job old (job_view was)) row.1 in
@@ -298,7 +298,7 @@ module _ {H : Type 0} (model : HostModel H) (shared : Shared H) (journal : List 
               rooms_still sentinels' journal' spare' same kept none none' more
           by_answer (turn.Busy object number) is row kept =
               let none' : active_of (job_view job) ≡ None =
-              ap active_of (idle_set (marks_of sentinels'.seats) _ (waiting (job_view was)) row.1) ∙ none in
+              ap active_of (idle_set (marks_of sentinels'.seats) _ (asked_to_wait (job_view was)) row.1) ∙ none in
               rooms_still sentinels' journal' spare' same kept none none' more
           by_answer turn.Went is row kept = absurd (halted is)
           by_answer turn.NoMemory is row kept = absurd row

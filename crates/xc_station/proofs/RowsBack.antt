@@ -11,7 +11,7 @@ use Rattle.xc_data.specs.declared.claim.Claim.{Claim}
 use Rattle.xc_data.specs.declared.entry.KeptItem.{KeptItem}
 use Rattle.xc_data.specs.declared.entry.Mark.{Mark}
 use Rattle.xc_data.specs.declared.entry.Turn.TheVariants as turn
-use Rattle.xc_data.specs.declared.script.Kind.{Kind}
+use Rattle.xc_data.specs.declared.script.HostCallKind.{HostCallKind}
 use Rattle.xc_compensate.specs.Records.{IsTried, Records}
 use Rattle.xc_host.specs.Cause.{IsCalled}
 use Rattle.xc_host.specs.Contents.{Contents, contents_of, world_of}
@@ -94,7 +94,7 @@ module _ {H : Type 0} (model : HostModel H) (s : Setting) (shared : Shared H) (n
           uses = (
             t.uses.made,
             t.uses.named,
-            subst (λ (calls : Kind → ℕ). IsCalled t.uses.made calls new.calls) (sym here.calls) t.uses.used.called,
+            subst (λ (calls : HostCallKind → ℕ). IsCalled t.uses.made calls new.calls) (sym here.calls) t.uses.used.called,
           );
           effect = λ it.
               (λ i. with_kept (t.effect (tells it) i) ((lent i).kept))

@@ -13,7 +13,7 @@ use Rattle.xc_data.specs.declared.entry.Turn.{Turn}
 use Rattle.xc_data.specs.declared.entry.Turn.TheVariants as turn
 use Rattle.xc_data.specs.declared.memory.NoMemory.{NoMemory}
 use Rattle.xc_host.specs.Contents.{Contents}
-use Rattle.xc_data.specs.declared.script.Kind.{Kind}
+use Rattle.xc_data.specs.declared.script.HostCallKind.{HostCallKind}
 use Rattle.xc_host.specs.Cause.{IsCalled}
 use Rattle.xc_host.specs.Model.{HostModel}
 use Rattle.xc_host.specs.Uses.{CallsOf, Uses}
@@ -43,7 +43,7 @@ use Rattle.xc_station.specs.declared.calls.Shared.{Shared}
 use Rattle.xc_station.specs.declared.tx.Tx.{Tx}
 use Rattle.xc_station.specs.Acting.{HasDoneAsPlain, LeavesOff, acting, leaving, with_parts}
 use Rattle.xc_station.specs.Jobs.{tx_view}
-use Rattle.xc_station.specs.Moments.{HasTx, IsAt, IsGranted, IsRow, Front, counted, front_of, marks_of, moved, told_by, told_front}
+use Rattle.xc_station.specs.Moments.{HasTx, IsAt, IsGranted, IsRow, Front, busy_counted, front_of, marks_of, moved, told_by, told_front}
 use Rattle.xc_world.specs.Fits.{is_back}
 use Rattle.xc_station.proofs.DoingsBlocks.{no_way_back}
 use Rattle.xc_station.proofs.RowsRun.{asked_before, asked_row, called_turn}
@@ -52,7 +52,7 @@ use Rattle.xc_station.proofs.Seated.{marks_kept}
 use Rattle.xc_station.proofs.Tracked.{tracked_on}
 
 -- the job stands after the reply to a call, and a save keeps what the variables held there
-pub record IsBehind (s : Setting) (call : Call) (old new : Position) (reply : Reply) : Type 0 where
+pub record IsBehindCall (s : Setting) (call : Call) (old new : Position) (reply : Reply) : Type 0 where
   pub begin : IsSameBegin old new
   pub walk : walk_of s.script new ≡ answered (walk_of s.script old) reply
   pub nearer : old.at < new.at
@@ -118,12 +118,12 @@ module _ {H : Type 0} (model : HostModel H) (s : Setting) (shared : Shared H) (n
   }
 
   -- the host was called so
-  called_so : (IsMade : List Kind → Type 0) (from : Front H) (job' : JobView) → from ≡ front_of shared
+  called_so : (IsMade : List HostCallKind → Type 0) (from : Front H) (job' : JobView) → from ≡ front_of shared
       → Uses model (record { old = from.host; new = behind.host }) IsMade → HasCalled IsMade now (moved model behind job' now at)
   called_so IsMade from job' host uses = (
     uses.made,
     uses.named,
-    subst (λ (calls : Kind → ℕ). IsCalled uses.made calls (model.calls behind.host)) (ap (λ (f : Front H). model.calls f.host) host
+    subst (λ (calls : HostCallKind → ℕ). IsCalled uses.made calls (model.calls behind.host)) (ap (λ (f : Front H). model.calls f.host) host
         ∙ sym here.calls) uses.used.called,
   )
 
@@ -164,12 +164,13 @@ module _ {H : Type 0} (model : HostModel H) (s : Setting) (shared : Shared H) (n
         (subst (λ ws. Left ws (told_front model from) (tx_parts (tx_view mid))) words_now (l.contents (telling tells))))
 
     pub starved : (answer : Turn) → answer ≡ turn.NoMemory
-        → IsRow (mover s at now job) (moved model behind (counted answer (with_tx job place' (tx_view new))) now at) answer behind.sentinels.claims
+        → IsRow (mover s at now job) (moved model behind (busy_counted answer (with_tx job place' (tx_view new))) now at) answer behind.sentinels.claims
     starved answer gives =
         let next = asked_before s job place (tx_view old) (ask.Call call) has asked in
         let held = holding old.held.items (claims_of call old.me.value (length now.words)) in
         let moment = moved model behind (with_tx job place' (tx_view new)) now at in
-        subst (λ a. IsRow (mover s at now job) (moved model behind (counted a (with_tx job place' (tx_view new))) now at) a behind.sentinels.claims) (sym gives)
+        subst (λ a. IsRow (mover s at now job) (moved model behind (busy_counted a (with_tx job place' (tx_view new))) now at) a behind.sentinels.claims)
+        (sym gives)
         (row_granted (with_tx job place' (tx_view new)) (tx_view new) turn.NoMemory refl (ap (λ (t : TxView). t.number) left_as)
         (ap (λ (t : TxView). t.held) left_as ∙ ap (holding old.held.items) (sym claims_now))
         (record {
@@ -195,7 +196,7 @@ module _ {H : Type 0} (model : HostModel H) (s : Setting) (shared : Shared H) (n
 
   -- the call is done and noted
   module _ (telling : IsTrue s.tells → IsTrue model.tells) (place' : Position) (from : Front H) (done new : Tx) (reply : Reply)
-      (stands : IsBehind s call place place' reply) (host : from ≡ front_of shared)
+      (stands : IsBehindCall s call place place' reply) (host : from ≡ front_of shared)
       (d : HasDoneAsPlain model call (acting from.host from.lent.kept behind.words mid) (acting behind.host behind.buffers.kept behind.words done) reply)
       (b : DoesBlocks call (tx_view mid) (tx_view done) reply)
       (noted : tx_view new ≡ record (tx_view done) { calls = done.calls.items ++ call ∷ []; replies = done.replies.items ++ reply ∷ [] }) where
@@ -283,8 +284,8 @@ module _ {H : Type 0} (model : HostModel H) (s : Setting) (shared : Shared H) (n
         }
 
     -- so its turn is that of a call
-    pub called : IsRow (mover s at now job) (moved model behind (with_tx job place' (tx_view new)) now at) turn.Went behind.sentinels.claims
-    called = row_granted (with_tx job place' (tx_view new)) (tx_view new) turn.Went refl (ap (λ (t : TxView). t.number) noted_as)
+    pub call_turn_row : IsRow (mover s at now job) (moved model behind (with_tx job place' (tx_view new)) now at) turn.Went behind.sentinels.claims
+    call_turn_row = row_granted (with_tx job place' (tx_view new)) (tx_view new) turn.Went refl (ap (λ (t : TxView). t.number) noted_as)
         (ap (λ (t : TxView). t.held) noted_as ∙ ap (holding old.held.items) (sym claims_now))
         (asked_row s at now (moved model behind (with_tx job place' (tx_view new)) now at) job place (tx_view old) (ask.Call call) has asked
         (called_turn (mover s at now job) (tx_view old) call (moved model behind (with_tx job place' (tx_view new)) now at) b.ahead (inl calls_now)))

@@ -19,7 +19,7 @@ use Rattle.xc_station.specs.Moments.{Front, front_of, told_front}
 use Rattle.xc_station.specs.Moments.{AreSeats, KeepsSeated, IsAt, IsRow, IsRunningRow, IsTable, marks_of, moved, runs, seated_as}
 use Rattle.xc_station.proofs.Closed.{same_active}
 use Rattle.xc_data.proofs.Laws.{get_set_same}
-use Rattle.xc_station.proofs.RoomsKept.{goes_on}
+use Rattle.xc_station.proofs.RoomsKept.{number_kept}
 use Rattle.xc_station.proofs.Tracked.{tracked_on}
 
 module _ {H : Type 0} (model : HostModel H) (s : Setting) (shared : Shared H) (now : Moment) (at : ℕ) (job : JobView) (tx : TxView)
@@ -101,7 +101,7 @@ module _ {H : Type 0} (model : HostModel H) (s : Setting) (shared : Shared H) (n
       } in
       let row : RunningTurn (mover s at now job) tx answer (moved model mid job' now at) =
       subst (λ (t : TxView). RunningTurn (mover s at now job) t answer (moved model mid job' now at)) (same_active r.tx tx (sym r.doing ∙ doing)) r.row in
-      let on = goes_on s at now job tx answer (moved model mid job' now at) row in
+      let on = number_kept s at now job tx answer (moved model mid job' now at) row in
       let here' = get_set_same now.jobs at job job' here.there in
       let also = get_set_same now.jobs at job on.behind here.there in
       let both = ap (λ js. slice_get js at) on.jobs in

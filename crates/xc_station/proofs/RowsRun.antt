@@ -16,7 +16,7 @@ use Rattle.xc_data.specs.declared.entry.Turn.{Turn}
 use Rattle.xc_data.specs.declared.entry.Turn.TheVariants as turn
 use Rattle.xc_data.specs.declared.entry.KeptItem.{KeptItem}
 use Rattle.xc_data.specs.declared.object.Object.{Object}
-use Rattle.xc_data.specs.declared.script.Kind.{Kind}
+use Rattle.xc_data.specs.declared.script.HostCallKind.{HostCallKind}
 use Rattle.xc_host.specs.Model.{HostModel}
 use Rattle.xc_script.specs.declared.ask.Ask.{Ask}
 use Rattle.xc_script.specs.declared.ask.Ask.TheVariants as ask
@@ -36,19 +36,19 @@ use Rattle.xc_locks.specs.Table.{Table, mode_in, held_mode}
 use Rattle.xc_locks.specs.Met as met
 use Rattle.xc_model.specs.declared.phase.Phase.TheVariants.{Committing, Undoing, Backing}
 use Rattle.xc_model.specs.Setting.{Setting}
-use Rattle.xc_model.specs.Moment.{TxView, JobView, Moment, Active, active_in, waiting, with_job}
+use Rattle.xc_model.specs.Moment.{TxView, JobView, Moment, Active, active_in, asked_to_wait, with_job}
 use Rattle.xc_model.specs.RunningRows.{AskedTurn, CalledTurn, Calls, Conflicts, HoldsWanting, KeepsWanting}
 use Rattle.xc_model.specs.Movers.{IsActiveAt, IsSamePosition}
 use Rattle.xc_model.specs.Rivals.{IsFirstRival}
 use Rattle.xc_model.specs.Movers.{Mover, mover, with_tx}
-use Rattle.xc_model.specs.RunningRows.{RunningTurn, marked}
+use Rattle.xc_model.specs.RunningRows.{RunningTurn, marks_with}
 use Rattle.xc_model.specs.PlainSteps.{StopsAt, wanting}
 use Rattle.xc_station.specs.declared.calls.Shared.{Shared}
 use Rattle.xc_station.specs.declared.tx.Tx.{Tx}
 use Rattle.xc_station.specs.declared.tx.Saved.{Saved}
 use Rattle.xc_station.specs.Jobs.{saved_in, tx_view}
 use Rattle.xc_station.specs.Moments.{Front, front_of, told_by, told_front}
-use Rattle.xc_station.specs.Moments.{AreTerms, HasClaimed, HasTx, IsAt, IsRefused, IsRow, IsToldToWait, counted, marks_of, moved, runs, seated_as}
+use Rattle.xc_station.specs.Moments.{AreTerms, HasClaimed, HasTx, IsAt, IsRefused, IsRow, IsToldToWait, busy_counted, marks_of, moved, runs, seated_as}
 use Rattle.xc_station.proofs.Rivals.{first_rival}
 use Rattle.xc_station.proofs.Seated.{marks_kept, marks_marked}
 use Rattle.xc_station.proofs.TakenAgain.{none_taken_for}
@@ -212,16 +212,17 @@ module _ {H : Type 0} (model : HostModel H) (s : Setting) (shared : Shared H) (n
       → behind.words ≡ shared.words → asks (walk_of s.script place) ≡ ask.Call call → AreTerms s.rules now job patient entered
       → IsToldToWait (record { old = shared.sentinels; new = behind.sentinels }) (record { old = old; new = new })
       (record { claims = claims_of call old.me.value (length shared.words); patient = patient; at = entered }) object holder
-      → IsRow (mover s at now job) (moved model behind (waiting (with_tx job place (tx_view new))) now at) (turn.Busy object holder) behind.sentinels.claims
+      → IsRow (mover s at now job) (moved model behind (asked_to_wait (with_tx job place (tx_view new))) now at)
+      (turn.Busy object holder) behind.sentinels.claims
   told_to_wait behind new call patient entered object holder host words asked terms w =
       let met = rival_now call object holder w.busy.met in
       let rival = met.rival in
       let mark : ℕ → Mark = λ n. record { object = object; by = old.number; at = n } in
-      let marks' : marks_of behind.sentinels.seats ≡ marked now.marks rival.rival (mark (length now.journal)) =
+      let marks' : marks_of behind.sentinels.seats ≡ marks_with now.marks rival.rival (mark (length now.journal)) =
       marks_marked shared.sentinels.seats behind.sentinels.seats holder (mark entered) w.busy.mark rival.rival rival.numbered
       (ap (λ n. seated_as (seat_in shared.sentinels.seats n)) (sym rival.numbered) ∙ its_seat rival.place rival.rival rival.active)
-      ∙ ap (λ ms. marked ms rival.rival (mark entered)) (sym here.marks) ∙ ap (λ n. marked now.marks rival.rival (mark n)) (sym terms.entered) in
-      row_same behind (waiting (with_tx job place (tx_view new))) (tx_view new) (turn.Busy object holder) (ap (λ (t : Table). t) w.busy.table) refl
+      ∙ ap (λ ms. marks_with ms rival.rival (mark entered)) (sym here.marks) ∙ ap (λ n. marks_with now.marks rival.rival (mark n)) (sym terms.entered) in
+      row_same behind (asked_to_wait (with_tx job place (tx_view new))) (tx_view new) (turn.Busy object holder) (ap (λ (t : Table). t) w.busy.table) refl
       (ap (λ (t : TxView). t.number) w.still) (ap (λ (t : TxView). t.held) w.still)
       (record {
         call = call;
@@ -231,8 +232,10 @@ module _ {H : Type 0} (model : HostModel H) (s : Setting) (shared : Shared H) (n
         patient = ltb-true job.busy s.rules.patience (sym terms.patience ∙ w.busy.patience);
         place = place;
         same = has.same;
-        behind = same_moment behind (waiting (with_tx job place (tx_view new))) host words (marked now.marks rival.rival (mark (length now.journal))) marks'
-            ∙ ap (λ (t : TxView). record (with_job now at (waiting (with_tx job place t))) { marks = marked now.marks rival.rival (mark (length now.journal)) })
+        behind = same_moment behind (asked_to_wait (with_tx job place (tx_view new))) host words
+            (marks_with now.marks rival.rival (mark (length now.journal))) marks'
+            ∙ ap (λ (t : TxView). record (with_job now at (asked_to_wait (with_tx job place t)))
+            { marks = marks_with now.marks rival.rival (mark (length now.journal)) })
             w.still;
       })
 
@@ -243,13 +246,14 @@ module _ {H : Type 0} (model : HostModel H) (s : Setting) (shared : Shared H) (n
       (sym (append_nil old.undo.pending))
 
   -- memory runs out before the claims
-  pub wants : (behind : Shared H) (new : Tx) (answer : Turn) → front_of behind ≡ front_of shared → behind.words ≡ shared.words
+  pub starved_turn_row : (behind : Shared H) (new : Tx) (answer : Turn) → front_of behind ≡ front_of shared → behind.words ≡ shared.words
       → behind.sentinels ≡ shared.sentinels
       → tx_view new ≡ record (tx_view old) { phase = Undoing cause.NoMemory } → answer ≡ turn.NoMemory
-      → IsRow (mover s at now job) (moved model behind (counted answer (with_tx job place (tx_view new))) now at) answer behind.sentinels.claims
-  wants behind new answer host words same is gives =
+      → IsRow (mover s at now job) (moved model behind (busy_counted answer (with_tx job place (tx_view new))) now at) answer behind.sentinels.claims
+  starved_turn_row behind new answer host words same is gives =
       let kept : KeepsSeats shared.sentinels.seats behind.sentinels.seats = λ n. ap (λ (t : Sentinels). seat_in t.seats n) same in
-      subst (λ a. IsRow (mover s at now job) (moved model behind (counted a (with_tx job place (tx_view new))) now at) a behind.sentinels.claims) (sym gives)
+      subst (λ a. IsRow (mover s at now job) (moved model behind (busy_counted a (with_tx job place (tx_view new))) now at) a behind.sentinels.claims)
+      (sym gives)
       (row_same behind (with_tx job place (tx_view new)) (tx_view new) turn.NoMemory (ap (λ (t : Sentinels). t.claims) same) refl
       (ap (λ (t : TxView). t.number) is) (ap (λ (t : TxView). t.held) is)
       (record {
@@ -271,18 +275,18 @@ module _ {H : Type 0} (model : HostModel H) (s : Setting) (shared : Shared H) (n
         uses = (
           [],
           no_calls (asks (walk_of s.script job.place)),
-          λ kind. ap (λ (calls : Kind → ℕ). calls kind) (ap (λ (f : Front H). model.calls f.host) host ∙ sym here.calls),
+          λ kind. ap (λ (calls : HostCallKind → ℕ). calls kind) (ap (λ (f : Front H). model.calls f.host) host ∙ sym here.calls),
         );
         contents = λ _. inl (refl, ap (told_front model) host ∙ sym here.contents);
       }))
 
   -- ---- the commit, and the abort that is asked
   -- its stores are written
-  pub commits : (behind : Shared H) (new : Tx) → front_of behind ≡ front_of shared → behind.words ≡ overlaid shared.words old.writes.stores
+  pub commit_turn_row : (behind : Shared H) (new : Tx) → front_of behind ≡ front_of shared → behind.words ≡ overlaid shared.words old.writes.stores
       → behind.sentinels ≡ shared.sentinels
       → tx_view new ≡ record (tx_view old) { phase = Committing } → asks (walk_of s.script place) ≡ ask.Commit → IsPastSilent s.script place
       → IsRow (mover s at now job) (moved model behind (with_tx job place (tx_view new)) now at) turn.Went behind.sentinels.claims
-  commits behind new host words same is asked settled =
+  commit_turn_row behind new host words same is asked settled =
       row_same behind (with_tx job place (tx_view new)) (tx_view new) turn.Went (ap (λ (t : Sentinels). t.claims) same) refl
       (ap (λ (t : TxView). t.number) is) (ap (λ (t : TxView). t.held) is)
       (asked_row s at now (moved model behind (with_tx job place (tx_view new)) now at) job place (tx_view old) ask.Commit has asked (record {
@@ -301,10 +305,10 @@ module _ {H : Type 0} (model : HostModel H) (s : Setting) (shared : Shared H) (n
       }))
 
   -- the script asks its abort
-  pub turns_back : (behind : Shared H) (new : Tx) → front_of behind ≡ front_of shared → behind.words ≡ shared.words → behind.sentinels ≡ shared.sentinels
+  pub abort_turn_row : (behind : Shared H) (new : Tx) → front_of behind ≡ front_of shared → behind.words ≡ shared.words → behind.sentinels ≡ shared.sentinels
       → tx_view new ≡ record (tx_view old) { phase = Undoing cause.Asked } → asks (walk_of s.script place) ≡ ask.Abort
       → IsRow (mover s at now job) (moved model behind (with_tx job place (tx_view new)) now at) turn.Went behind.sentinels.claims
-  turns_back behind new host words same is asked =
+  abort_turn_row behind new host words same is asked =
       row_same behind (with_tx job place (tx_view new)) (tx_view new) turn.Went (ap (λ (t : Sentinels). t.claims) same) refl
       (ap (λ (t : TxView). t.number) is) (ap (λ (t : TxView). t.held) is)
       (asked_row s at now (moved model behind (with_tx job place (tx_view new)) now at) job place (tx_view old) ask.Abort has asked (record {
@@ -337,11 +341,12 @@ module _ {H : Type 0} (model : HostModel H) (s : Setting) (shared : Shared H) (n
       → behind.words ≡ shared.words → asks (walk_of s.script place) ≡ ask.Call call → AreTerms s.rules now job patient entered
       → HasClaimed (record { old = shared.sentinels; new = behind.sentinels }) (record { old = old; new = new })
       (record { claims = claims_of call old.me.value (length shared.words); patient = patient; at = entered }) (Err answer)
-      → IsRow (mover s at now job) (moved model behind (counted answer (with_tx job place (tx_view new))) now at) answer behind.sentinels.claims
+      → IsRow (mover s at now job) (moved model behind (busy_counted answer (with_tx job place (tx_view new))) now at) answer behind.sentinels.claims
   unclaimed behind new call patient entered turn.Went ahead host words asked terms r = refused behind new call patient entered ahead host words asked terms r
   unclaimed behind new call patient entered (turn.Busy object holder) ahead host words asked terms w =
       told_to_wait behind new call patient entered object holder host words asked terms w
-  unclaimed behind new call patient entered turn.NoMemory ahead host words asked terms w = wants behind new turn.NoMemory host words w.same w.undoes refl
+  unclaimed behind new call patient entered turn.NoMemory ahead host words asked terms w =
+      starved_turn_row behind new turn.NoMemory host words w.same w.undoes refl
   unclaimed behind new call patient entered (turn.Ended end) ahead host words asked terms r = absurd r
 
 -- ---- what is asked

@@ -25,10 +25,10 @@ use Rattle.xc_turns.proofs.Laws.{get_inside, alone_turned, alone_later}
 use Rattle.xc_station.specs.declared.job.Job.{Job}
 use Rattle.xc_station.specs.Jobs.{back_stage, goes_on, is_live, late_stage, phase_stage, job_view, job_views, stage_of}
 use Rattle.xc_station.specs.Stations.{ChangesOne, GoesOn, IsFrontOf, IsNextOf, IsStepOf, KeepsEvents, KeepsOpening, KeepsOrigin}
-use Rattle.xc_station.specs.Events.{IsEvent, IsTried}
+use Rattle.xc_station.specs.Events.{IsEvent, IsTurnTried}
 use Rattle.xc_data.proofs.Laws.{get_set_other}
 use Rattle.xc_station.specs.Stations.{StationView, TakeTurns, WorksOn, live_at, lives, now_of, numbers, setting_of, turns_of}
-use Rattle.xc_station.specs.Events.{noted}
+use Rattle.xc_station.specs.Events.{with_event}
 
 -- one run after another
 pub goes_further : {H : Type 0} (a b c : StationView H) → GoesOn a b → GoesOn b c → GoesOn a c
@@ -53,7 +53,8 @@ works_further model job a b c rises h k =
     }
 
 -- one event after what it tells of
-pub event_noted : {H : Type 0} (a b c : StationView H) (e : Event) → GoesOn a b → KeepsEvents a b → length b.journal ≤ 10000 → c ≡ noted b e → IsEvent a c e
+pub event_noted : {H : Type 0} (a b c : StationView H) (e : Event) → GoesOn a b → KeepsEvents a b → length b.journal ≤ 10000 → c ≡ with_event b e
+    → IsEvent a c e
 event_noted a b c e goes quiet few is =
     subst (λ s. IsEvent a s e) (sym is)
     (record {
@@ -85,9 +86,9 @@ unfolding seen_live
 live_there jobs at job there live = lives_as jobs at ∙ ap seen_live there ∙ live
 
 -- a live job has a number
-pub numbered : (jobs : List Job) (job : ℕ) → live_at jobs job ≡ true → 1 ≤ job
-numbered jobs zero live = cc
-numbered jobs (suc n) live = omega arith
+pub live_has_number : (jobs : List Job) (job : ℕ) → live_at jobs job ≡ true → 1 ≤ job
+live_has_number jobs zero live = cc
+live_has_number jobs (suc n) live = omega arith
 
 others_live : (old new : List Job) (at : ℕ) (behind : JobView) (more : List JobView) → job_views new ≡ slice_set (job_views old) at behind ++ more
     → (other : ℕ) → other ≢ at → other < length old → lives (slice_get new other) ≡ lives (slice_get old other)
@@ -254,7 +255,7 @@ taken_next model jobs k after now next end one low step rest =
 
 -- a turn that was tried is a step of its job
 pub tried_steps : {H : Type 0} (model : HostModel H) (job : ℕ) (old new : StationView H) (live : Bool) (answer : Option Turn)
-    → IsTried model job (record { old = old; new = new }) live answer → IsStepOf model job (record { old = old; new = new }) live
+    → IsTurnTried model job (record { old = old; new = new }) live answer → IsStepOf model job (record { old = old; new = new }) live
 tried_steps model job old new true (Some answer) tried = (answer, tried)
 tried_steps model job old new true None row = absurd row
 tried_steps model job old new false (Some answer) row = absurd row

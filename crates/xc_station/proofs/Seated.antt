@@ -13,7 +13,7 @@ use Rattle.xc_sentinel.specs.Asking as asking
 use Rattle.xc_model.specs.declared.phase.Phase.{Phase}
 use Rattle.xc_model.specs.declared.phase.Phase.TheVariants.{Running, Committing, Undoing, Backing}
 use Rattle.xc_model.specs.Moment.{TxView, unmarked}
-use Rattle.xc_model.specs.RunningRows.{mark_behind, marked}
+use Rattle.xc_model.specs.RunningRows.{mark_behind, marks_with}
 use Rattle.xc_station.specs.Moments.{marks_of, runs, seated_as}
 
 -- ---- one seat changes
@@ -44,10 +44,10 @@ marks_kept old new kept = λ i n. mark_of (kept n i)
 -- ---- a transaction that is marked
 
 same_rule : (phase : Phase) (running : Bool) → running ≡ runs phase → (kept : Option Mark) (m : Mark)
-    → asking.mark_behind running kept m ≡ mark_behind phase kept m
-same_rule phase running is kept m = ap (λ (b : Bool). asking.mark_behind b kept m) is ∙ by_phase phase kept
+    → asking.mark_taken running kept m ≡ mark_behind phase kept m
+same_rule phase running is kept m = ap (λ (b : Bool). asking.mark_taken b kept m) is ∙ by_phase phase kept
   where
-    by_phase : (phase : Phase) (kept : Option Mark) → asking.mark_behind (runs phase) kept m ≡ mark_behind phase kept m
+    by_phase : (phase : Phase) (kept : Option Mark) → asking.mark_taken (runs phase) kept m ≡ mark_behind phase kept m
     by_phase Running None = refl
     by_phase Running (Some k) = refl
     by_phase Backing None = refl
@@ -67,10 +67,10 @@ mark_there m (Some seat) tx is =
 module _ (old new : Seats) (holder : ℕ) (m : Mark) (sets : SetsSeat old new holder (changed (λ seat. marked_seat seat m) (seat_in old holder))) where
   -- the marks are as before but for the holder's, which takes this one if it runs and has none
   pub marks_marked : (tx : TxView) → tx.number ≡ holder → seated_as (seat_in old holder) ≡ Some (tx.rank, runs tx.phase)
-      → marks_of new ≡ marked (marks_of old) tx m
+      → marks_of new ≡ marks_with (marks_of old) tx m
   marks_marked tx number seated = λ i n. at_number n i
     where
-      at_number : (n : ℕ) → marks_of new n ≡ marked (marks_of old) tx m n
+      at_number : (n : ℕ) → marks_of new n ≡ marks_with (marks_of old) tx m n
       at_number n = dite (ℕ_discrete n tx.number)
           (λ (here : n ≡ tx.number). ap (marks_of new) (here ∙ number)
           ∙ ap mark_of (seat_there old new holder (changed (λ seat. marked_seat seat m) (seat_in old holder)) sets)

@@ -77,7 +77,7 @@ starved_stage Starved e = refl
 starved_stage (Ended end) e = cc e
 
 -- it has an active transaction in this phase
-pub record IsInPhase (d : Doing) (p : Phase) : Type 0 where
+pub record HasPhase (d : Doing) (p : Phase) : Type 0 where
   pub tx : TxView
   pub doing : d ≡ Active tx
   pub phase : tx.phase ≡ p
@@ -98,7 +98,7 @@ running_phase tx phase.Committing e = absurd (late_not (late_left tx) stage.Runn
 running_phase tx (phase.Undoing c) e = absurd (back_not tx.undo.pending stage.Running refl e)
 
 -- it runs
-pub running_stage : (d : Doing) → stage_of d ≡ stage.Running → IsInPhase d phase.Running
+pub running_stage : (d : Doing) → stage_of d ≡ stage.Running → HasPhase d phase.Running
 running_stage Idle e = cc e
 running_stage (Active tx) e = record { tx = tx; doing = refl; phase = running_phase tx tx.phase e }
 running_stage Starved e = cc e
@@ -157,7 +157,7 @@ committed_stage Starved e = cc e
 committed_stage (Ended end) e = cc e
 
 -- it undoes, and a record has no end
-pub record IsBack (d : Doing) : Type 0 where
+pub record IsUndoingRecord (d : Doing) : Type 0 where
   pub tx : TxView
   pub cause : Cause
   pub doing : d ≡ Active tx
@@ -167,18 +167,18 @@ pub record IsBack (d : Doing) : Type 0 where
   pub pending : tx.undo.pending ≡ newest ∷ older
 
 undoing_left : (tx : TxView) (c : Cause) (pending : List Undo) → tx.phase ≡ phase.Undoing c → tx.undo.pending ≡ pending
-    → back_stage pending ≡ stage.Undoing → IsBack (Active tx)
+    → back_stage pending ≡ stage.Undoing → IsUndoingRecord (Active tx)
 undoing_left tx c [] in' left e = cc e
 undoing_left tx c (u ∷ us) in' left e = record { tx = tx; cause = c; doing = refl; phase = in'; newest = u; older = us; pending = left }
 
-undoing_phase : (tx : TxView) (p : Phase) → tx.phase ≡ p → phase_stage tx p ≡ stage.Undoing → IsBack (Active tx)
+undoing_phase : (tx : TxView) (p : Phase) → tx.phase ≡ p → phase_stage tx p ≡ stage.Undoing → IsUndoingRecord (Active tx)
 undoing_phase tx phase.Running in' e = cc e
 undoing_phase tx phase.Backing in' e = cc e
 undoing_phase tx phase.Committing in' e = absurd (late_not (late_left tx) stage.Undoing refl e)
 undoing_phase tx (phase.Undoing c) in' e = undoing_left tx c tx.undo.pending in' refl e
 
 -- its next turn tries the newest
-pub undoing_stage : (d : Doing) → stage_of d ≡ stage.Undoing → IsBack d
+pub undoing_stage : (d : Doing) → stage_of d ≡ stage.Undoing → IsUndoingRecord d
 undoing_stage Idle e = cc e
 undoing_stage (Active tx) e = undoing_phase tx tx.phase refl e
 undoing_stage Starved e = cc e

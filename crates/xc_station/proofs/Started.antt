@@ -13,7 +13,7 @@ use Rattle.xc_host.specs.Contents.{Contents, opened}
 use Rattle.xc_roomy.specs.Room.{Roomy}
 use Rattle.xc_text.specs.declared.script.Script.{Script}
 use Rattle.xc_text.specs.Scripts.{IsScript}
-use Rattle.xc_text.proofs.Laws.{block_count}
+use Rattle.xc_text.proofs.Laws.{blocks_count}
 use Rattle.xc_sentinel.specs.Seating.{seat_in}
 use Rattle.xc_locks.specs.Table.{held_mode}
 use Rattle.xc_model.specs.Setting.{Setting}
@@ -59,9 +59,9 @@ each_opened script (b ∷ blocks) (x ∷ jobs) are none (suc at) job is =
     each_opened script blocks jobs rest (All-tail (λ (j : Job). j.children.items ≡ []) x jobs none) at job is
 
 -- what is true of it
-pub started : (s : Setting) (faults : ℕ) (now : Moment) → IsSet s → KeepsLimits s.script.outline → IsOpening s.script now → now.faults ≡ faults
+pub steady_at_start : (s : Setting) (faults : ℕ) (now : Moment) → IsSet s → KeepsLimits s.script.outline → IsOpening s.script now → now.faults ≡ faults
     → (IsTrue s.tells → now.contents ≡ opened s.script.outline.prologue.objects) → IsSteady s faults now
-started s faults now set limits opening counted told =
+steady_at_start s faults now set limits opening counted told =
     let blocks = limits.blocks in
     let few : length s.script.outline.jobs ≤ 1000 = omega (arith, blocks) in record {
       set = set;
@@ -83,7 +83,7 @@ pub roomy : {H : Type 0} (script : Script) (shared : Shared H) (spare : ℕ) (no
     → lines.items ≡ [] → shared.buffers.noted ≡ 0 → HasRooms shared 0 spare now lines
 roomy script shared spare now lines read opening empty nobody none unlent =
     let blocks = script.outline.jobs in
-    let few : length blocks ≤ 1000 = omega (arith, read.few_blocks, block_count script read.named) in
+    let few : length blocks ≤ 1000 = omega (arith, read.few_blocks, blocks_count script read.named) in
     record {
       claims = λ o. record {
         held = λ j tx active. absurd (none_there script blocks j tx active.0 (ap (λ jobs. slice_get jobs j) (sym opening.jobs) ∙ active.1) active.2);

@@ -10,7 +10,7 @@ use Rattle.xc_model.specs.Played.{IsPlayedSoFar}
 use Rattle.xc_model.specs.Moment.{TxView, Moment}
 use Rattle.xc_model.specs.Movers.{IsActiveAt}
 use Rattle.xc_model.specs.Rows.{IsTurn}
-use Rattle.xc_turns.proofs.Laws.{apart_kept, turn_leaves_attempts, turn_keeps_count, grounds_kept, turn_keeps_handles, measured, turn_revokes_none}
+use Rattle.xc_turns.proofs.Laws.{apart_kept, turn_leaves_attempts, turn_keeps_count, grounds_kept, turn_keeps_handles, leaves_fewer, turn_revokes_none}
 use Rattle.xc_turns.proofs.Laws.{turn_keeps_started, turn_keeps_words, a_turn_keeps_the_stories_but}
 use Rattle.xc_refines.proofs.Laws.{played_there, turn_flies}
 use Rattle.xc_station.specs.Stations.{IsSteady, KeepsOpening, StationView, now_of, setting_of}
@@ -47,4 +47,4 @@ fewer_left model old new at answer same row =
     let opening : old.opening ≡ new.opening = sym same.opening in
     let rules : old.rules ≡ new.rules = sym same.rules in
     subst (λ (s : Setting). turns_left s (now_of model new) < turns_left (setting_of model old) (now_of model old))
-    (λ i. setting ((opening i).script) (rules i) model.tells) (measured (setting_of model old) at (now_of model old) (now_of model new) answer row)
+    (λ i. setting ((opening i).script) (rules i) model.tells) (leaves_fewer (setting_of model old) at (now_of model old) (now_of model new) answer row)

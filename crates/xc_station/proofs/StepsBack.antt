@@ -34,7 +34,7 @@ use Rattle.xc_station.specs.declared.calls.Shared.{Shared}
 use Rattle.xc_station.specs.declared.job.Job.{Job}
 use Rattle.xc_station.specs.declared.tx.Saved.{Saved}
 use Rattle.xc_station.specs.declared.tx.Tx.{Tx}
-use Rattle.xc_station.proofs.Closed.{active_again, is_active, its_active, moves_on}
+use Rattle.xc_station.proofs.Closed.{active_again, active_with_job, its_active, moves_on}
 use Rattle.xc_station.proofs.RowsBack.{ended_row, tried_row}
 use Rattle.xc_station.proofs.WaysBack.{few_faults, given_part, left_among}
 
@@ -48,7 +48,7 @@ module _ {H : Type 0} (model : HostModel H) (script : Script) (rules : Rules) (s
   backing = ap (λ (t : TxView). t.phase) same ∙ can.backing
 
   doing : doing_of job ≡ Active (tx_view job.tx)
-  doing = is_active job can.tx can.doing
+  doing = active_with_job job can.tx can.doing
 
   -- all of its block is undone so far, with faults that can be counted
   pub few : sum_by undo_faults job.tx.undo.ended < 2 ^ 32

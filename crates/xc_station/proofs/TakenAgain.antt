@@ -18,7 +18,7 @@ use Rattle.xc_world.specs.Effects.{takes_data}
 use Rattle.xc_world.specs.Run.{bytes_taken, given_back, message_taken, taken_by}
 use Rattle.xc_world.specs.World.{World}
 use Rattle.xc_calls.specs.Taking.{HasTaken, HoldsMore, ReadsAt, ReadsKept, ReceivesAt, ReceivesKept}
-use Rattle.xc_pipe.proofs.Laws.{given_all}
+use Rattle.xc_pipe.proofs.Laws.{read_given_back}
 use Rattle.xc_socket.proofs.Laws.{given_message}
 use Rattle.xc_station.specs.Acting.{IsSidedFor}
 
@@ -74,15 +74,15 @@ abbrev read_of : Place → Reply → List KeptItem
 read_of p (reply.Got bytes) = bytes_taken p bytes
 read_of p _ = []
 
-abbrev received_of : Place → Reply → List KeptItem
-received_of p (reply.Got bytes) = message_taken p bytes
-received_of p _ = []
+abbrev received_at : Place → Reply → List KeptItem
+received_at p (reply.Got bytes) = message_taken p bytes
+received_at p _ = []
 
 is_read : (h n : ℕ) (me : Private) (r : Reply) → read_of (place_of me.places h) r ≡ taken_by (call.XReadPipe h n) me r
 is_read h n me (reply.Got bytes) = refl
 is_read h n me _ = refl
 
-is_received : (h : ℕ) (me : Private) (r : Reply) → received_of (place_of me.places h) r ≡ taken_by (call.XRecvmsg h) me r
+is_received : (h : ℕ) (me : Private) (r : Reply) → received_at (place_of me.places h) r ≡ taken_by (call.XRecvmsg h) me r
 is_received h me (reply.Got bytes) = refl
 is_received h me _ = refl
 
@@ -90,7 +90,7 @@ none_of_read : (p : Place) (r : Reply) → ((bytes : List ℕ) → bytes_taken p
 none_of_read p (reply.Got bytes) none = none bytes
 none_of_read p _ none = refl
 
-none_of_received : (p : Place) (r : Reply) → ((bytes : List ℕ) → message_taken p bytes ≡ []) → received_of p r ≡ []
+none_of_received : (p : Place) (r : Reply) → ((bytes : List ℕ) → message_taken p bytes ≡ []) → received_at p r ≡ []
 none_of_received p (reply.Got bytes) none = none bytes
 none_of_received p _ none = refl
 
@@ -99,7 +99,7 @@ module _ (old mid new : List KeptItem) where
   pipe_again : (pipe : Num) (n : ℕ) (r : Reply) → ReadsKept pipe n (record { old = old; new = mid }) r
       → ((w : World) → given_back w new ≡ given_back (given_back w mid) (read_of (place.Pipe pipe) r))
       → HoldsMore (place.Pipe pipe) (record { old = old; new = new })
-  pipe_again pipe n (reply.Got bytes) takes given = given_all old mid new pipe n bytes takes given
+  pipe_again pipe n (reply.Got bytes) takes given = read_given_back old mid new pipe n bytes takes given
   pipe_again pipe n reply.Empty takes given = ([], λ w. given w ∙ takes.0 w)
   pipe_again pipe n reply.End takes given = ([], λ w. given w ∙ takes.0 w)
   pipe_again pipe n (reply.Fault k) takes given = (takes.0, λ w. given w ∙ takes.1 w)
@@ -116,7 +116,7 @@ module _ (old mid new : List KeptItem) where
   -- to a side of a pair
   side_again : (num : Num) (side : ℕ) (r : Reply) → All (λ t. is_fit t ≡ true) old → side < 2
       → ReceivesKept num side (record { old = old; new = mid }) r
-      → ((w : World) → given_back w new ≡ given_back (given_back w mid) (received_of (place.Pair num side) r))
+      → ((w : World) → given_back w new ≡ given_back (given_back w mid) (received_at (place.Pair num side) r))
       → HoldsMore (place.Pair num side) (record { old = old; new = new })
   side_again num side (reply.Got bytes) fit lt takes given = given_message old mid new num side bytes fit lt takes given
   side_again num side reply.Empty fit lt takes given = inl (λ w. given w ∙ ap (given_back w) takes.0)
@@ -126,7 +126,7 @@ module _ (old mid new : List KeptItem) where
 
   received_again : (p : Place) (r : Reply) (e : NoMemory) → All (λ t. is_fit t ≡ true) old → IsSided p
       → ReceivesAt p (record { old = old; new = mid }) (Ok r)
-      → ((w : World) → given_back w new ≡ given_back (given_back w mid) (received_of p r)) → (received_of p r ≡ [] → new ≡ mid)
+      → ((w : World) → given_back w new ≡ given_back (given_back w mid) (received_at p r)) → (received_at p r ≡ [] → new ≡ mid)
       → ReceivesAt p (record { old = old; new = new }) (Err e)
   received_again (place.Pair num side) r e fit lt takes given none = side_again num side r fit lt takes given
   received_again (place.Pipe num) r e fit sided same given none = none (none_of_received (place.Pipe num) r (λ bytes. refl)) ∙ same

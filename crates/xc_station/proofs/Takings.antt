@@ -5,9 +5,9 @@ use Rattle.std.specs.Prelude.{All, IfOk, OnErr, IsTrue, ◌≤◌, Result, Ok, E
 use Rattle.std.specs.FinMap as map
 use Rattle.xc_buffers.specs.Items.{is_fit, is_of_pair}
 use Rattle.xc_buffers.specs.Sources.{is_from}
-use Rattle.xc_buffers.specs.declared.source.Source.TheVariants as source
-use Rattle.xc_buffers.proofs.Laws.{own, All-both, pair_is_there, pipe_is_there}
-use Rattle.xc_buffers.specs.Worlds.{has_pair, has_pipe}
+use Rattle.xc_buffers.specs.declared.source.Endpoint.TheVariants as source
+use Rattle.xc_buffers.proofs.Laws.{own_source, All-both, pair_is_there, pipe_is_there}
+use Rattle.xc_buffers.specs.Worlds.{world_has_pair, world_has_pipe}
 use Rattle.xc_data.specs.Private.{IsSided, place_of}
 use Rattle.xc_data.specs.declared.call.Call.{Call}
 use Rattle.xc_data.specs.declared.call.Call.TheVariants as call
@@ -42,7 +42,7 @@ use Rattle.xc_world.specs.Sound.{IsKnown}
 use Rattle.xc_world.specs.World.{World}
 use Rattle.xc_world.proofs.Laws.{KnowsHandle, act_takes}
 use Rattle.xc_station.specs.Acting.{IsSidedFor, IsSourceIn, StopsTaking}
-use Rattle.xc_station.specs.Lent.{IsBacked, has_place}
+use Rattle.xc_station.specs.Lent.{IsBacked, is_source_there}
 use Rattle.xc_station.proofs.Backed.{there_below}
 
 -- ---- what it took
@@ -159,15 +159,15 @@ or_right false b is = is
 -- a pipe of the host's is there with what is kept in front
 there_above : (c : Contents) (items : List KeptItem) (num : Num) → is_some (map.get c.pipes num) ≡ true
     → is_some (map.get (with_kept c items).pipes num) ≡ true
-there_above c items num is = pipe_is_there (world_of c) items num ∙ or_right _ (has_pipe (world_of c) num) is
+there_above c items num is = pipe_is_there (world_of c) items num ∙ or_right _ (world_has_pipe (world_of c) num) is
 
 -- so is a pair
 pair_above : (c : Contents) (items : List KeptItem) (num : Num) → is_some (map.get c.pairs num) ≡ true
     → is_some (map.get (with_kept c items).pairs num) ≡ true
-pair_above c items num is = pair_is_there (world_of c) items num ∙ or_right _ (has_pair (world_of c) num) is
+pair_above c items num is = pair_is_there (world_of c) items num ∙ or_right _ (world_has_pair (world_of c) num) is
 
 -- a call of a transaction that takes, with its reply: the worlds and the private states before and after it
-pub record Taking : Type 0 where
+pub record TakingCall : Type 0 where
   pub world : Step World
   pub me : Step Private
   pub number : ℕ
@@ -175,11 +175,11 @@ pub record Taking : Type 0 where
   pub reply : Reply
 
 -- what it took
-abbrev pub taking_took : Taking → List KeptItem
+abbrev pub taking_took : TakingCall → List KeptItem
 taking_took taking = taken_by taking.call taking.me.old taking.reply
 
 -- it is the plain machine's, from a world of these contents with these items in front
-pub record IsTakingStep (taking : Taking) (c : Contents) (items : List KeptItem) : Type 0 where
+pub record IsTakingStep (taking : TakingCall) (c : Contents) (items : List KeptItem) : Type 0 where
   pub takes : takes_data taking.call ≡ true
   pub told : contents_of taking.world.old ≡ with_kept c items
   pub step : act taking.world.old taking.me.old taking.number taking.call (answer_of taking.reply) ≡ step_to taking.world.new taking.me.new taking.reply
@@ -192,7 +192,7 @@ no_taken : (d : Call) (me : Private) (r : Reply) → (bad big much : Bool)
     → taken_by d me r ≡ []
 no_taken d me r bad big much is = only_got d me r (λ bytes got. never_got bad big much bytes (is ∙ ap Some got))
 
-module _ (taking : Taking) (c : Contents) (items : List KeptItem) (is : IsTakingStep taking c items) where
+module _ (taking : TakingCall) (c : Contents) (items : List KeptItem) (is : IsTakingStep taking c items) where
   -- what it took, given back, leads to what was there
   taking_back : refusal_of taking.call taking.me.old ≡ None → given_back taking.world.new (taking_took taking) ≡ taking.world.old
   taking_back free =
@@ -222,47 +222,48 @@ or_left : (a b : Bool) → a ≡ true → (a || b) ≡ true
 or_left true b is = refl
 or_left false b is = cc is
 
-placed_more : (w : World) (items : List KeptItem) (u : KeptItem) → has_place (contents_of w) u ≡ true → has_place (contents_of (given_back w items)) u ≡ true
-placed_more w items (Bytes num bytes) is = pipe_is_there w items num ∙ or_right _ (has_pipe w num) is
-placed_more w items (Message num side bytes) is = pair_is_there w items num ∙ or_right _ (has_pair w num) is
+placed_more : (w : World) (items : List KeptItem) (u : KeptItem) → is_source_there (contents_of w) u ≡ true
+    → is_source_there (contents_of (given_back w items)) u ≡ true
+placed_more w items (Bytes num bytes) is = pipe_is_there w items num ∙ or_right _ (world_has_pipe w num) is
+placed_more w items (Message num side bytes) is = pair_is_there w items num ∙ or_right _ (world_has_pair w num) is
 
-placed_first : (w : World) (t : KeptItem) → has_place (contents_of (gives w t)) t ≡ true
+placed_first : (w : World) (t : KeptItem) → is_source_there (contents_of (gives w t)) t ≡ true
 placed_first w (Bytes num bytes) =
     pipe_is_there w (Bytes num bytes ∷ []) num
-    ∙ or_left _ (has_pipe w num) (or_left (is_from (source.Pipe num) (Bytes num bytes)) false (own (source.Pipe num)))
+    ∙ or_left _ (world_has_pipe w num) (or_left (is_from (source.Pipe num) (Bytes num bytes)) false (own_source (source.Pipe num)))
 placed_first w (Message num side bytes) =
-    pair_is_there w (Message num side bytes ∷ []) num ∙ or_left _ (has_pair w num) (or_left _ false (of_pair num))
+    pair_is_there w (Message num side bytes ∷ []) num ∙ or_left _ (world_has_pair w num) (or_left _ false (of_pair num))
   where
     of_pair : (k : Num) → is_of_pair k (Message k side bytes) ≡ true
     of_pair k = alike num_total num_exact k
 
 -- each item's pipe or pair is there with it in front
-kept_placed : (w : World) (items : List KeptItem) → All (λ t. has_place (contents_of (given_back w items)) t ≡ true) items
-kept_placed w [] = All-nil (λ t. has_place (contents_of w) t ≡ true)
+kept_placed : (w : World) (items : List KeptItem) → All (λ t. is_source_there (contents_of (given_back w items)) t ≡ true) items
+kept_placed w [] = All-nil (λ t. is_source_there (contents_of w) t ≡ true)
 kept_placed w (t ∷ ts) =
     let x = given_back w ts in
-    let P : KeptItem → Type 0 = λ u. has_place (contents_of x) u ≡ true in
-    let Q : KeptItem → Type 0 = λ u. has_place (contents_of (gives x t)) u ≡ true in
+    let P : KeptItem → Type 0 = λ u. is_source_there (contents_of x) u ≡ true in
+    let Q : KeptItem → Type 0 = λ u. is_source_there (contents_of (gives x t)) u ≡ true in
     All-cons Q t ts (placed_first x t) (All-weaker P Q (λ u is. placed_more x (t ∷ []) u is) ts (kept_placed w ts))
 
-placed_below : (c : Contents) (items : List KeptItem) → All (IsBacked c) items → (t : KeptItem) → has_place (with_kept c items) t ≡ true
-    → has_place c t ≡ true
+placed_below : (c : Contents) (items : List KeptItem) → All (IsBacked c) items → (t : KeptItem) → is_source_there (with_kept c items) t ≡ true
+    → is_source_there c t ≡ true
 placed_below c items backed (Bytes num bytes) is = there_below c items backed (object.Pipe num) is
 placed_below c items backed (Message num side bytes) is = there_below c items backed (object.Pair num) is
 
 -- what is kept then is of pipes and pairs that the host had before
-pub kept_backed : (taking : Taking) (c d : Contents) (kept kept' : List KeptItem) → IsTakingStep taking c kept
+pub kept_backed : (taking : TakingCall) (c d : Contents) (kept kept' : List KeptItem) → IsTakingStep taking c kept
     → contents_of taking.world.new ≡ with_kept d kept' → All (λ t. is_fit t ≡ true) kept' → All (IsBacked c) kept → All (IsBacked c) kept'
 kept_backed taking c d kept kept' is told fit backed =
     let x = taking.world.new in
     let taken = taking_took taking in
-    let placed : All (λ t. has_place (contents_of x) t ≡ true) kept' =
-    subst (λ (k : Contents). All (λ t. has_place k t ≡ true) kept') (sym told) (kept_placed (world_of d) kept') in
-    All-both (λ t. is_fit t ≡ true) (λ t. has_place (contents_of x) t ≡ true) (IsBacked c)
+    let placed : All (λ t. is_source_there (contents_of x) t ≡ true) kept' =
+    subst (λ (k : Contents). All (λ t. is_source_there k t ≡ true) kept') (sym told) (kept_placed (world_of d) kept') in
+    All-both (λ t. is_fit t ≡ true) (λ t. is_source_there (contents_of x) t ≡ true) (IsBacked c)
     (λ t is_fit_item at. record {
       fit = is_fit_item;
       there = placed_below c kept backed t
-          (subst (λ (k : Contents). has_place k t ≡ true) (ap contents_of (taking_returns taking c kept is) ∙ is.told) (placed_more x taken t at));
+          (subst (λ (k : Contents). is_source_there k t ≡ true) (ap contents_of (taking_returns taking c kept is) ∙ is.told) (placed_more x taken t at));
     })
     kept' fit placed
 
@@ -270,9 +271,9 @@ kept_backed taking c d kept kept' is told fit backed =
 pub kept_still : (c d : Contents) (kept kept' : List KeptItem) → with_kept d kept' ≡ with_kept c kept → All (λ t. is_fit t ≡ true) kept'
     → All (IsBacked c) kept → All (IsBacked c) kept'
 kept_still c d kept kept' same fit backed =
-    let placed : All (λ t. has_place (with_kept c kept) t ≡ true) kept' =
-    subst (λ (k : Contents). All (λ t. has_place k t ≡ true) kept') same (kept_placed (world_of d) kept') in
-    All-both (λ t. is_fit t ≡ true) (λ t. has_place (with_kept c kept) t ≡ true) (IsBacked c)
+    let placed : All (λ t. is_source_there (with_kept c kept) t ≡ true) kept' =
+    subst (λ (k : Contents). All (λ t. is_source_there k t ≡ true) kept') same (kept_placed (world_of d) kept') in
+    All-both (λ t. is_fit t ≡ true) (λ t. is_source_there (with_kept c kept) t ≡ true) (IsBacked c)
     (λ t is_fit_item at. record { fit = is_fit_item; there = placed_below c kept backed t at }) kept' fit placed
 
 -- whatever it came to
@@ -286,7 +287,7 @@ pub taking_keeps : {H : Type 0} (model : HostModel H) (d : Call) (old new : Call
 taking_keeps model d old new (Ok reply) takes k tells err there sided fit backed =
     let c = model.contents old.host.host in
     let v = world_of (with_kept c old.host.items) in
-    let taking : Taking = record {
+    let taking : TakingCall = record {
       world = record { old = v; new = with_contents v (with_kept (model.contents new.host.host) new.host.items) };
       me = record { old = old.me; new = new.me };
       number = old.number;

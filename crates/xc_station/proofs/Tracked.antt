@@ -7,11 +7,11 @@ use native.Mathlib.Decide.{ℕ_discrete}
 use Rattle.xc_model.specs.Moment.{TxView, JobView, active_of}
 use Rattle.xc_model.specs.Movers.{IsActiveAt}
 use Rattle.xc_station.specs.Moments.{AreSingle, AreTracked}
-use Rattle.xc_station.proofs.Placed.{active_was, active_is, active_here, active_before, active_after}
+use Rattle.xc_turns.proofs.Laws.{active_was, active_is, active_here, active_before, active_after}
 
 -- what is found after a turn is the new job's, or was there before and wasn't the old one's
-abbrev pub IsKnown : {X : Type 0} → (ℕ → Option X) → JobView → JobView → ℕ → X → Type 0
-IsKnown found job job' n x =
+abbrev pub IsTracked : {X : Type 0} → (ℕ → Option X) → JobView → JobView → ℕ → X → Type 0
+IsTracked found job job' n x =
     ((t : TxView) × (active_of job' ≡ Some t) × (t.number ≡ n))
     ⊎ ((found n ≡ Some x) × ((t : TxView) → active_of job ≡ Some t → t.number ≢ n))
 
@@ -31,7 +31,7 @@ module _ {X : Type 0} (found : ℕ → Option X) (has : TxView → Option X) (jo
   module _ (found' : ℕ → Option X) (at : ℕ) (job job' : JobView) (stands : slice_get jobs at ≡ Some job) where
     tracked_set : ((t : TxView) → active_of job' ≡ Some t → found' t.number ≡ has t)
         → ((j : ℕ) (t : TxView) → j ≢ at → IsActiveAt jobs j t → found' t.number ≡ found t.number)
-        → ((n : ℕ) (x : X) → found' n ≡ Some x → IsKnown found job job' n x) → AreTracked found' has (slice_set jobs at job')
+        → ((n : ℕ) (x : X) → found' n ≡ Some x → IsTracked found job job' n x) → AreTracked found' has (slice_set jobs at job')
     tracked_set mine others known =
         record {
           held = λ j t a. dite (ℕ_discrete j at)

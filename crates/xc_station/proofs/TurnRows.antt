@@ -46,7 +46,7 @@ use Rattle.xc_station.specs.declared.job.Job.{Job}
 use Rattle.xc_station.specs.declared.job.Stage.{Stage}
 use Rattle.xc_station.specs.declared.job.Stage.TheVariants as stage
 use Rattle.xc_station.specs.Jobs.{doing_of, job_view, job_views}
-use Rattle.xc_station.specs.Lent.{Gives, Lent}
+use Rattle.xc_station.specs.Lent.{GivesTaken, Lent}
 use Rattle.xc_station.specs.Moments.{IsRunningRow, marks_of, moved, told_by}
 use Rattle.xc_station.specs.Stations.{moment}
 use Rattle.xc_station.proofs.Lent.{kept_again, undone_kept}
@@ -288,7 +288,7 @@ module _ {H : Type 0} (model : HostModel H) (shared : Shared H) (journal : List 
       → (job_view job ≡ behind_abort (job_view was) tx c) × (entry ≡ entry_of tx at (Aborted (record { cause = c; records = tx.undo.ended }))))
       → ((tx : TxView) → (job_view was).doing ≡ Active tx → SetsSeat shared.sentinels.seats shared'.sentinels.seats tx.number None)
       → number ≡ at + 1 → (shared'.host ≡ shared.host) × (shared'.words ≡ shared.words) × (shared'.started ≡ shared.started)
-      → Gives shared.buffers shared'.buffers (job_view was)
+      → GivesTaken shared.buffers shared'.buffers (job_view was)
       → journal' ≡ journal ++ entry ∷ []
       → IsTurn s at (moment model shared journal jobs) turn.Went (moment model shared' journal' (slice_set jobs at job))
   undone_turned s shared' journal' entry job number is gives gone counts same given entered =

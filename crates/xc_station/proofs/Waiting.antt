@@ -24,9 +24,9 @@ use Rattle.xc_model.specs.Rows.{IsTurn}
 use Rattle.xc_model.specs.Entering.{behind_commit, started_job, started_jobs}
 use Rattle.xc_model.specs.Moment.{TxView, JobView, Doing, Idle, Active, Starved, Ended, Moment, active_in, active_of, actives, late_left}
 use Rattle.xc_model.specs.Setting.{Setting}
-use Rattle.xc_model.specs.Started.{starting, started_by}
+use Rattle.xc_model.specs.Started.{start_count, started_by}
 use Rattle.xc_model.specs.Stories.{IsInPhase, IsRunning}
-use Rattle.xc_turns.proofs.Laws.{adds, sum_set, in_phase, none_late, no_thread, none_started, one_more, started_count}
+use Rattle.xc_turns.proofs.Laws.{adds, sum_set, story_in_phase, none_late, no_thread, none_started, one_more, started_count}
 use Rattle.xc_world.specs.World.{beginning}
 use Rattle.xc_station.specs.declared.calls.Shared.{Shared}
 use Rattle.xc_station.specs.declared.job.Job.{Job}
@@ -43,11 +43,11 @@ empty [] none = refl
 empty (x ∷ xs) none = absurd (omega arith)
 
 -- as many jobs as blocks
-pub as_many : (script : Script) (job : JobView) (d : Doing) → length (started_in script job d) ≡ adds starting (active_in d)
-as_many script job Idle = refl
-as_many script job (Active tx) = length-map (started_by tx) (started_job script (behind_commit job tx))
-as_many script job Starved = refl
-as_many script job (Ended end) = refl
+pub started_as_many : (script : Script) (job : JobView) (d : Doing) → length (started_in script job d) ≡ adds start_count (active_in d)
+started_as_many script job Idle = refl
+started_as_many script job (Active tx) = length-map (started_by tx) (started_job script (behind_commit job tx))
+started_as_many script job Starved = refl
+started_as_many script job (Ended end) = refl
 
 -- without ends none
 pub none_without : (script : Script) (job : JobView) (tx : TxView) → job.doing ≡ Active tx → tx.ends ≡ [] → started_in script job job.doing ≡ []
@@ -119,7 +119,7 @@ start_waits script was next tx c rest block e is left thread has starts =
 pub none_running : (s : Setting) (faults : ℕ) (now : Moment) (at : ℕ) (job : JobView) (tx : TxView) → IsSteady s faults now
     → slice_get now.jobs at ≡ Some job → job.doing ≡ Active tx → tx.phase ≡ phase.Running → started_in s.script job job.doing ≡ []
 none_running s faults now at job tx steady stands is runs =
-    let in' = in_phase s at now job tx stands is steady.kept.told in
+    let in' = story_in_phase s at now job tx stands is steady.kept.told in
     let running : IsRunning s in'.0 job.place tx = subst (IsInPhase s in'.0 job.place tx) runs in'.1 in
     none_without s.script job tx is running.no_ends
 
@@ -137,13 +137,13 @@ still_none s faults at old new answer was job steady turned stands jobs started 
     let after = steady_kept s faults at old new answer steady turned in
     let before = started_count old steady.kept.started in
     let behind = started_count new after.kept.started in
-    let sums = sum_set starting old.jobs at was job stands in
-    let same = ap (λ js. sum_by starting (actives js)) jobs in
+    let sums = sum_set start_count old.jobs at was job stands in
+    let same = ap (λ js. sum_by start_count (actives js)) jobs in
     let count = ap length jobs ∙ length_set old.jobs at job in
     let names = ap length started in
-    let first : adds starting (active_of was) ≡ 0 = sym (as_many s.script was was.doing) ∙ ap length none in
-    let last : adds starting (active_of job) ≡ 0 = omega (arith, before, behind, sums, same, count, names, first) in
-    empty (started_in s.script job job.doing) (as_many s.script job job.doing ∙ last)
+    let first : adds start_count (active_of was) ≡ 0 = sym (started_as_many s.script was was.doing) ∙ ap length none in
+    let last : adds start_count (active_of job) ≡ 0 = omega (arith, before, behind, sums, same, count, names, first) in
+    empty (started_in s.script job job.doing) (started_as_many s.script job job.doing ∙ last)
 
 -- ---- all jobs
 -- with another job in one place

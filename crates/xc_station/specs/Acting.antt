@@ -50,7 +50,7 @@ pub record HasNoteRoom (tx : Tx) : Type 0 where
   pub replies : 1 ≤ tx.replies.spare
 
 -- and for its claims
-pub record HasRoom (tx : Tx) (claims : List Claim) : Type 0 where
+pub record HasClaimRoom (tx : Tx) (claims : List Claim) : Type 0 where
   pub notes : HasNoteRoom tx
   pub held : HasRoomFor tx.held claims
 

@@ -8,10 +8,10 @@ use Rattle.xc_sentinel.specs.Seated.{Seats}
 use Rattle.xc_sentinel.specs.Seating.{KeepsSeats, SetsSeat, seat_in}
 use Rattle.xc_model.specs.declared.phase.Attempts.{Attempts}
 use Rattle.xc_model.specs.Setting.{Setting}
-use Rattle.xc_model.specs.Moment.{JobView, Ended, Moment, waiting}
+use Rattle.xc_model.specs.Moment.{JobView, Ended, Moment, asked_to_wait}
 use Rattle.xc_model.specs.IdleRows.{IsEnding, IsWaiting, NamesLast}
-use Rattle.xc_station.specs.declared.begin.Halt.{Halt}
-use Rattle.xc_station.specs.declared.begin.Halt.TheVariants.{End, Wait}
+use Rattle.xc_station.specs.declared.begin_tx.Halt.{Halt}
+use Rattle.xc_station.specs.declared.begin_tx.Halt.TheVariants.{End, Wait}
 
 -- the transaction that ended the last attempt is this one, for this object; or there is none
 abbrev pub IsNamedLast : Option Attempts → Option (Object × ℕ) → Type 0
@@ -19,8 +19,8 @@ IsNamedLast attempts None = (object : Object) (number : ℕ) → NamesLast attem
 IsNamedLast attempts (Some w) = NamesLast attempts w.0 w.1
 
 -- nobody is waited for: whoever ended the last attempt is no longer active, or there is no patience
-abbrev pub IsDone : Option Attempts → ℕ → ℕ → Seats → Type 0
-IsDone attempts patience busy seats = (object : Object) (number : ℕ) → NamesLast attempts object number → busy < patience
+abbrev pub IsWaitOver : Option Attempts → ℕ → ℕ → Seats → Type 0
+IsWaitOver attempts patience busy seats = (object : Object) (number : ℕ) → NamesLast attempts object number → busy < patience
     → is_some (seat_in seats number) ≡ true → ⊥
 
 -- an idle job that doesn't begin ends, or waits for a transaction
@@ -36,7 +36,7 @@ WaitsOnly busy patience (Wait object holder) = busy < patience
 -- the job after that turn, and what it answers
 abbrev pub IsStopped : JobView → JobView → Halt → Turn → Type 0
 IsStopped was is (End end) answer = (is ≡ record was { doing = Ended end }) × (answer ≡ turn.Ended end)
-IsStopped was is (Wait object holder) answer = (is ≡ waiting was) × (answer ≡ turn.Busy object holder)
+IsStopped was is (Wait object holder) answer = (is ≡ asked_to_wait was) × (answer ≡ turn.Busy object holder)
 
 -- the seats after it: a transaction of this number and rank has begun, or they are as before
 abbrev pub IsSeatBehind : ℕ → ℕ → Seats → Seats → Turn → Type 0

@@ -13,8 +13,8 @@ use Rattle.xc_station.specs.Stations.{StationView, KeepsOrigin, IsFrontOf, HasTu
 
 -- ---- events
 -- one event more
-abbrev pub noted : {H : Type 0} → StationView H → Event → StationView H
-noted station event = record station { events = (station.events + 1) % 18446744073709551616; last = Some event }
+abbrev pub with_event : {H : Type 0} → StationView H → Event → StationView H
+with_event station event = record station { events = (station.events + 1) % 18446744073709551616; last = Some event }
 
 -- what holds of each event: the origin stays, the journal goes on, and it is the last event, one more than before
 pub record IsEvent {H : Type 0} (old new : StationView H) (event : Event) : Type 0 where
@@ -25,11 +25,11 @@ pub record IsEvent {H : Type 0} (old new : StationView H) (event : Event) : Type
   pub last : new.last ≡ Some event
 
 -- a job that goes on takes its turn; for one that doesn't nothing is done
-abbrev pub IsTried : {H : Type 0} → HostModel H → ℕ → Step (StationView H) → Bool → Option Turn → Type 0
-IsTried model job station true (Some answer) = HasTurned model job station answer
-IsTried model job station false None = station.new ≡ noted station.old (Turned job None)
-IsTried model job station true None = ⊥
-IsTried model job station false (Some answer) = ⊥
+abbrev pub IsTurnTried : {H : Type 0} → HostModel H → ℕ → Step (StationView H) → Bool → Option Turn → Type 0
+IsTurnTried model job station true (Some answer) = HasTurned model job station answer
+IsTurnTried model job station false None = station.new ≡ with_event station.old (Turned job None)
+IsTurnTried model job station true None = ⊥
+IsTurnTried model job station false (Some answer) = ⊥
 
 -- what passes know of a station
 abbrev pub meaning_of : {H : Type 0} → Meaning (StationView H)

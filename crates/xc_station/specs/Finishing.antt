@@ -41,8 +41,8 @@ left_of Starved = None
 left_of (Ended end) = None
 
 -- and of the job of this number
-abbrev pub left_at : List JobView → ℕ → Option ℕ
-left_at jobs number = told_at left_of jobs number
+abbrev pub job_left_at : List JobView → ℕ → Option ℕ
+job_left_at jobs number = told_at left_of jobs number
 
 -- what a transaction in this phase comes to
 abbrev pub ComesTo : Phase → Outcome → Type 0
@@ -59,8 +59,8 @@ pub record IsEntryOf (number : ℕ) (phase : Phase) (e : Entry) : Type 0 where
   pub outcome : ComesTo phase e.outcome
 
 -- one entry more is in the journal, that of a transaction which was in this phase
-abbrev pub Enters : ℕ → Phase → List Entry → List Entry → Type 0
-Enters number phase old new = (e : Entry) × (new ≡ old ++ e ∷ []) × IsEntryOf number phase e
+abbrev pub AddsEntry : ℕ → Phase → List Entry → List Entry → Type 0
+AddsEntry number phase old new = (e : Entry) × (new ≡ old ++ e ∷ []) × IsEntryOf number phase e
 
 -- each other job that was there is as before
 abbrev pub OthersStay : ℕ → List JobView → List JobView → Type 0

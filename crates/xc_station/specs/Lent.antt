@@ -32,14 +32,14 @@ notes_in_all jobs = sum_by notes_of jobs
 
 -- ---- what the host has of it
 -- the pipe or the pair of an item is there
-abbrev pub has_place : Contents → KeptItem → Bool
-has_place c (Bytes num bytes) = is_some (map.get c.pipes num)
-has_place c (Message num side bytes) = is_some (map.get c.pairs num)
+abbrev pub is_source_there : Contents → KeptItem → Bool
+is_source_there c (Bytes num bytes) = is_some (map.get c.pipes num)
+is_source_there c (Message num side bytes) = is_some (map.get c.pairs num)
 
 -- so it is of one that may be kept
 pub record IsBacked (c : Contents) (item : KeptItem) : Type 0 where
   pub fit : is_fit item ≡ true
-  pub there : has_place c item ≡ true
+  pub there : is_source_there c item ≡ true
 
 -- so is all that is kept then, where it was before
 abbrev pub StaysBacked : Contents → List KeptItem → List KeptItem → Type 0
@@ -52,7 +52,7 @@ pub record AreBacked (c : Contents) (items : List KeptItem) (jobs : List JobView
 
 -- ---- at an entry
 -- what the job's active transaction took is in front of what was kept before, in every world
-pub record Gives (old new : Lent) (job : JobView) : Type 0 where
+pub record GivesTaken (old new : Lent) (job : JobView) : Type 0 where
   pub given : (w : World) (tx : TxView) → job.doing ≡ Active tx → given_back w new.kept ≡ given_back (given_back w old.kept) tx.taken
   -- and it is what was kept or taken before
   pub among : (item : KeptItem) (tx : TxView) → job.doing ≡ Active tx → Contains new.kept item

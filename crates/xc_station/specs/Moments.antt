@@ -32,7 +32,7 @@ use Rattle.xc_model.specs.declared.phase.Phase.{Phase}
 use Rattle.xc_model.specs.declared.phase.Phase.TheVariants.{Running, Committing, Undoing, Backing}
 use Rattle.xc_model.specs.declared.rules.Rules.{Rules}
 use Rattle.xc_model.specs.Setting.{Setting}
-use Rattle.xc_model.specs.Moment.{TxView, JobView, Active, Moment, actives, waiting}
+use Rattle.xc_model.specs.Moment.{TxView, JobView, Active, Moment, actives, asked_to_wait}
 use Rattle.xc_model.specs.Movers.{IsActiveAt, IsSamePosition, Mover}
 use Rattle.xc_model.specs.RunningRows.{MarkedTurn, RunningTurn}
 use Rattle.xc_model.specs.Holding.{AreApart}
@@ -194,9 +194,9 @@ pub record AreTerms (rules : Rules) (now : Moment) (job : JobView) (patient : Bo
   pub entered : length now.journal ≡ at
 
 -- a job that was told to wait has counted it
-abbrev pub counted : Turn → JobView → JobView
-counted (turn.Busy object holder) job = waiting job
-counted answer job = job
+abbrev pub busy_counted : Turn → JobView → JobView
+busy_counted (turn.Busy object holder) job = asked_to_wait job
+busy_counted answer job = job
 
 -- each has its seat as before, but for a mark
 abbrev pub KeepsSeated : Seats → Seats → Type 0

@@ -6,8 +6,8 @@ use Rattle.xc_text.specs.declared.script.Script.{Script}
 use Rattle.xc_model.specs.Progress.{Following, progress_of}
 
 -- the block of the job of this number, where one was started
-abbrev pub name_at : List (List ℕ) → ℕ → Option (List ℕ)
-name_at started job = if job == 0 then None else slice_get started (job - 1)
+abbrev pub block_name_at : List (List ℕ) → ℕ → Option (List ℕ)
+block_name_at started job = if job == 0 then None else slice_get started (job - 1)
 
 -- the blocks of the jobs that a journal tells, in the order of their numbers
 abbrev pub told_blocks : Script → List Entry → List (List ℕ)
@@ -17,4 +17,4 @@ told_blocks script journal = map (λ (f : Following). f.block) (progress_of scri
 pub record IsNameOf (script : Script) (journal : List Entry) (job : ℕ) (name : Option (List ℕ)) : Type 0 where
   pub block : List ℕ
   pub is : name ≡ Some block
-  pub told : name_at (told_blocks script journal) job ≡ Some block
+  pub told : block_name_at (told_blocks script journal) job ≡ Some block

@@ -36,6 +36,6 @@ place_before (call.XClose h) places = place_of places h
 place_before c places = Vacant
 
 -- these places with this one at a handle, if there is one
-abbrev pub put_at : Option ℕ → Place → List Place → List Place
-put_at None p places = places
-put_at (Some h) p places = slice_set places h p
+abbrev pub place_put_at : Option ℕ → Place → List Place → List Place
+place_put_at None p places = places
+place_put_at (Some h) p places = slice_set places h p

@@ -25,7 +25,7 @@ use Rattle.xc_model.specs.Measure.{turns_left}
 use Rattle.xc_refines.specs.InFlight.{AreInFlight}
 use Rattle.xc_station.specs.declared.calls.Shared.{Shared}
 use Rattle.xc_station.specs.declared.job.Job.{Job}
-use Rattle.xc_station.specs.declared.start.Opening.{Opening}
+use Rattle.xc_station.specs.declared.run_result.Opening.{Opening}
 use Rattle.xc_station.specs.Jobs.{HasChildren, is_live, job_view, job_views}
 use Rattle.xc_station.specs.Lent.{notes_in_all}
 use Rattle.xc_station.specs.Moments.{AreSeats, IsTable, marks_of, told_by}

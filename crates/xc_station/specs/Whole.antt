@@ -12,7 +12,7 @@ use Rattle.xc_model.specs.declared.rules.Rules.{Rules}
 use Rattle.xc_roomy.specs.Room.{Roomy}
 use Rattle.xc_station.specs.declared.calls.Shared.{Shared}
 use Rattle.xc_station.specs.declared.job.Job.{Job}
-use Rattle.xc_station.specs.declared.start.Opening.{Opening}
+use Rattle.xc_station.specs.declared.run_result.Opening.{Opening}
 use Rattle.xc_station.specs.Backs.{AllBackSafely}
 use Rattle.xc_station.specs.Jobs.{job_views}
 use Rattle.xc_station.specs.Lent.{AreBacked}

@@ -1,5 +1,5 @@
 ghost use Rattle.std.specs.Prelude.{◌≡◌, ◌+◌, ◌<◌, ◌^◌};
-ghost use Rattle.xc_model.specs.Moment.{Ended, waiting};
+ghost use Rattle.xc_model.specs.Moment.{Ended, asked_to_wait};
 ghost use Rattle.xc_station.specs.Jobs.{doing_of, is_live, phase_stage, job_view, tx_view, stage_of};
 
 use crate::tx::Tx;
@@ -105,7 +105,7 @@ impl Job {
     /// It was told to wait once more.
     pub fn wait(&mut self)
         requires { self.old.busy + 1 < 2 ^ 32 }
-        ensures waits { job_view self.new ≡ waiting (job_view self.old) }
+        ensures waits { job_view self.new ≡ asked_to_wait (job_view self.old) }
         ensures kept { (self.new.tx ≡ self.old.tx) × (self.new.activity ≡ self.old.activity) }
         ensures children { self.new.children.items ≡ self.old.children.items }
     {

@@ -2,20 +2,20 @@
 #![tactic(auto)]
 
 mod backing;
-mod begin;
+mod begin_tx;
 mod blocks;
 mod buffers;
 mod calls;
-mod close;
+mod child_jobs;
+mod end_tx;
 mod job;
 mod places;
+mod run_result;
 mod running;
 mod schedule;
-mod start;
-mod starting;
 mod station;
 mod tx;
 
+pub use run_result::{End, NotStarted, Opening};
 pub use schedule::{drain, run_schedule, work_alone};
-pub use start::{End, NotStarted, Opening};
 pub use station::Station;

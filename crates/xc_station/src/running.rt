@@ -17,7 +17,7 @@ ghost use Rattle.xc_station.specs.Acting.{AreReadyFor, MayGo};
 ghost use Rattle.xc_station.specs.Backs.{BacksSafely, CanGoBack, HasSave};
 ghost use Rattle.xc_station.specs.Jobs.{begun_of, job_view, tx_view};
 ghost use Rattle.xc_station.specs.Moments.{AreTerms, CanRun, HasClaimed, HasNeeds, HasTx, IsAt, IsRow, IsRunningRow, KeepsSeated, Lends};
-ghost use Rattle.xc_station.specs.Moments.{counted, front_of, marks_of, moved, runs, seated_as};
+ghost use Rattle.xc_station.specs.Moments.{busy_counted, front_of, marks_of, moved, runs, seated_as};
 ghost use Rattle.xc_sentinel.specs.Seating.{seat_in};
 ghost use Rattle.xc_locks.specs.Table.{Holds};
 
@@ -31,7 +31,7 @@ use xc_data::{Call, Cause, Claim, Mark, NoMemory, Object, Turn};
 use xc_host::Host;
 use xc_model::{Phase, Rules};
 use xc_script::{Ask, JobState};
-use xc_sentinel::{Sentinels, Verdict};
+use xc_sentinel::{ClaimVerdict, Sentinels};
 use xc_text::Script;
 use xc_txmem::Words;
 use xc_world::push_claims;
@@ -115,13 +115,13 @@ fn claim<H: Host>(
         .sentinels
         .ask(claims, tx.number, &mut tx.held, terms.patient, terms.at)
     {
-        Verdict::Granted => Ok(()),
-        Verdict::Busy { object, holder } => Err(Turn::Busy { object, holder }),
-        Verdict::Conflict { object, holder } => {
+        ClaimVerdict::Granted => Ok(()),
+        ClaimVerdict::Busy { object, holder } => Err(Turn::Busy { object, holder }),
+        ClaimVerdict::Conflict { object, holder } => {
             lose(tx, &object, holder, terms.at);
             Err(Turn::Went)
         }
-        Verdict::NoMemory => Err(abort_for_memory(tx)),
+        ClaimVerdict::NoMemory => Err(abort_for_memory(tx)),
     }
 }
 
@@ -158,7 +158,7 @@ fn try_call<H: Host>(
     ensures backs { runs tx.new.phase ≡ true → CanGoBack terms.tries tx.new }
     ensures row { (rules : PlainRules) (now : Moment) (at : ℕ) (job : JobView) → let s = setting script.now rules H.model.tells in
         IsAt H.model shared.old now at job → HasTx s job place.old (tx_view tx.old) → AreTerms rules now job terms.patient terms.at
-        → IsRow (mover s at now job) (moved H.model shared.new (counted result (with_tx job place.new (tx_view tx.new))) now at) result
+        → IsRow (mover s at now job) (moved H.model shared.new (busy_counted result (with_tx job place.new (tx_view tx.new))) now at) result
         shared.new.sentinels.claims }
 {
     if let Err(turn) = claim(shared, terms, tx, &call) {
@@ -218,7 +218,7 @@ fn step_running<H: Host>(
     ensures row { (rules : PlainRules) (now : Moment) (at : ℕ) (job : JobView) → let s = setting script.now rules H.model.tells in
         IsAt H.model shared.old now at job → job.doing ≡ Active (tx_view tx.old) → job.place ≡ place.old
         → AreTerms rules now job terms.patient terms.at
-        → IsRow (mover s at now job) (moved H.model shared.new (counted result (with_tx job place.new (tx_view tx.new))) now at) result
+        → IsRow (mover s at now job) (moved H.model shared.new (busy_counted result (with_tx job place.new (tx_view tx.new))) now at) result
         shared.new.sentinels.claims }
 {
     match place.ask(script) {
@@ -276,7 +276,7 @@ pub fn revoke(tx: &mut Tx, mark: &Mark) -> Turn
 // A job that was told to wait counts it.
 fn count_wait(job: &mut Job, answer: &Turn)
     requires { (object : Object) (holder : ℕ) → answer.now ≡ Turn.Busy object holder → job.old.busy + 1 < 2 ^ 32 }
-    ensures counted { job_view job.new ≡ counted answer.now (job_view job.old) }
+    ensures counted { job_view job.new ≡ busy_counted answer.now (job_view job.old) }
     ensures block { job.new.block ≡ job.old.block }
     ensures kept { (job.new.tx ≡ job.old.tx) × (job.new.activity ≡ job.old.activity) }
     ensures children { job.new.children.items ≡ job.old.children.items }

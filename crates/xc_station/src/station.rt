@@ -3,20 +3,20 @@ ghost use Rattle.std.specs.Prelude.{IsTrue, IsNone, MatchOption, Some};
 ghost use Rattle.xc_host.specs.Model.{plan_of};
 ghost use Rattle.xc_model.specs.Setting.{setting};
 ghost use Rattle.xc_station.specs.Jobs.{is_live, job_views};
-ghost use Rattle.xc_station.specs.Names.{IsNameOf, name_at};
+ghost use Rattle.xc_station.specs.Names.{IsNameOf, block_name_at};
 ghost use Rattle.xc_station.specs.Places.{IndexesBlocks};
 ghost use Rattle.xc_station.specs.Stations.{AreAhead, IsNextOf, KeepsEvents};
 ghost use Rattle.xc_station.specs.Stations.{live_at, now_of};
 
-mod closing;
 mod events;
-mod finishing;
-mod opening;
+mod finish;
+mod run_out;
+mod start;
 mod turns;
 
 use crate::calls::Shared;
 use crate::job::Job;
-use crate::start::Opening;
+use crate::run_result::Opening;
 use std::alloc::Global;
 use std::marker::Model;
 use xc_data::{Entry, Event, Ident, JobLine};
@@ -91,7 +91,7 @@ impl<H: Host> Model for Station<H> {
 
 // The name of the job of this number; none where no such job was started.
 fn name_in(started: &[Ident], job: u32) -> Option<Ident>
-    ensures { result ≡ name_at started.now job }
+    ensures { result ≡ block_name_at started.now job }
 {
     if job == 0 {
         return None;
@@ -130,7 +130,7 @@ impl<H: Host> Station<H> {
 
     /// The block of the job of this number; `None` exactly where no such job was started. It takes no memory.
     pub fn name(&self, job: u32) -> Option<Ident>
-        ensures started { result ≡ name_at self.now.started job }
+        ensures started { result ≡ block_name_at self.now.started job }
 
         // That of a job which is live or has ended is the one that the journal tells.
         ensures told { 1 ≤ job → job ≤ length self.now.jobs → IsNameOf self.now.opening.script self.now.journal job result }

@@ -6,7 +6,7 @@ ghost use Rattle.xc_model.specs.Entering.{entry_of};
 ghost use Rattle.xc_model.specs.IdleRows.{new_tx};
 ghost use Rattle.xc_station.specs.Jobs.{begun_of, kept_or, outcome_in, tx_view};
 ghost use Rattle.xc_locks.specs.Table.{Holds};
-ghost use Rattle.xc_station.specs.Acting.{HasRoom, HasNoteRoom};
+ghost use Rattle.xc_station.specs.Acting.{HasClaimRoom, HasNoteRoom};
 ghost use Rattle.xc_station.specs.Backs.{HasSave};
 ghost use Rattle.xc_station.specs.Moments.{Frees};
 
@@ -183,7 +183,7 @@ impl Tx {
     /// Makes room for one call, its reply and its claims; before the first call, for as many as the transaction may have.
     pub fn room(&mut self, claims: &[Claim], most: u32) -> Result<(), NoMemory>
         requires { length claims.now ≤ 2 }
-        ensures ok { OnOk result (HasRoom self.new claims.now) }
+        ensures ok { OnOk result (HasClaimRoom self.new claims.now) }
         ensures same { tx_view self.new ≡ tx_view self.old }
         ensures begun { begun_of self.new ≡ begun_of self.old }
         ensures save { HasSave self.old self.old.saved → HasSave self.new self.new.saved }

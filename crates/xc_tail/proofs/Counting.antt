@@ -90,8 +90,8 @@ totals_shown entries = record {
 }
 
 -- are those of the journal
-pub totals_alike : (journal : List Entry) (entries : List Shown) → map shown_of journal ≡ entries → totals_shown entries ≡ totals_of journal
-totals_alike journal entries is =
+pub totals_shown_alike : (journal : List Entry) (entries : List Shown) → map shown_of journal ≡ entries → totals_shown entries ≡ totals_of journal
+totals_shown_alike journal entries is =
     ap totals_shown (sym is)
     ∙ (λ i. record {
       committed = count_mapped shown_of is_committed_shown is_committed (λ e. committed_alike e.outcome) journal i;

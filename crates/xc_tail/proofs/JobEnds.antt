@@ -20,7 +20,7 @@ use Rattle.xc_script.specs.Ask.{next_body}
 use Rattle.xc_sheet.specs.Ends.{job_end_shown, lines_of_jobs}
 use Rattle.xc_sheet.specs.declared.lines.Line.{Line}
 use Rattle.xc_sheet.specs.declared.lines.Line.TheVariants as line
-use Rattle.xc_tail.specs.JobLines.{ends_so, is_job_line, behind_jobs, Numbered, numbered, HasJobLines}
+use Rattle.xc_tail.specs.JobLines.{ends_so, is_job_line, behind_jobs, Numbered, numbered_jobs, HasJobLines}
 use Rattle.xc_tail.specs.Tails.{IsToldOf}
 use Rattle.xc_tail.specs.declared.job_left.JobLeft.{JobLeft}
 
@@ -45,8 +45,8 @@ abbrev IsShownLine : Setting → ℕ → ℕ → Following → Line → Type 0
 IsShownLine s entries number f l = (job : JobLine) × IsLine s entries f job × (l ≡ line.Job number job.block (job_end_shown job.end))
 
 -- what is found behind the lines of these jobs: none where these don't come first
-abbrev pub Finds : Setting → ℕ → Numbered → List Line → Option (List Line) → Type 0
-Finds s entries from lines found =
+abbrev pub FindsJobLines : Setting → ℕ → Numbered → List Line → Option (List Line) → Type 0
+FindsJobLines s entries from lines found =
     MatchOption found ((rest : List Line) → HasJobLines s entries from lines rest → ⊥) (HasJobLines s entries from lines)
 
 module _ (s : Setting) (rules : Rules) (entries : ℕ) (same : s.rules ≡ rules) (some : 1 ≤ rules.attempts) where
@@ -138,8 +138,8 @@ module _ (s : Setting) (rules : Rules) (entries : ℕ) (same : s.rules ≡ rules
   -- ---- all lines
   -- the line of the first job stands before those of the others
   with_line : (number : ℕ) (f : Following) (told : List Following) (l : Line) (lines : List Line) (found : Option (List Line))
-      → IsShownLine s entries number f l → Finds s entries (numbered (number + 1) told) lines found
-      → Finds s entries (numbered number (f ∷ told)) (l ∷ lines) found
+      → IsShownLine s entries number f l → FindsJobLines s entries (numbered_jobs (number + 1) told) lines found
+      → FindsJobLines s entries (numbered_jobs number (f ∷ told)) (l ∷ lines) found
   with_line number f told l lines None shown finds = λ rest has. apart rest has.0 has.1 has.2
     where
       apart : (rest : List Line) (ends : List JobLine) → AreEnds s entries (f ∷ told) ends → (l ∷ lines) ≡ lines_of_jobs number ends ++ rest → ⊥
@@ -150,40 +150,40 @@ module _ (s : Setting) (rules : Rules) (entries : ℕ) (same : s.rules ≡ rules
 
   -- where it doesn't come first, none are found
   without_line : (number : ℕ) (f : Following) (told : List Following) (l : Line) (lines : List Line)
-      → (IsShownLine s entries number f l → ⊥) → Finds s entries (numbered number (f ∷ told)) (l ∷ lines) None
+      → (IsShownLine s entries number f l → ⊥) → FindsJobLines s entries (numbered_jobs number (f ∷ told)) (l ∷ lines) None
   without_line number f told l lines other rest ([], are, is) = are
   without_line number f told l lines other rest (e ∷ ends, are, is) = other (e, are.0, cc (is))
 
   -- they are found
   jobs_found : (number : ℕ) (told : List Following) (jobs : List JobLeft) (lines : List Line) → AllZip (IsToldOf s.script) told jobs
-      → Finds s entries (numbered number told) lines (behind_jobs rules entries number jobs lines)
+      → FindsJobLines s entries (numbered_jobs number told) lines (behind_jobs rules entries number jobs lines)
   jobs_found number [] [] lines told = ([], refl, refl)
   jobs_found number [] (j ∷ jobs) lines told = absurd told
   jobs_found number (f ∷ fs) [] lines told = absurd told
   jobs_found number (f ∷ fs) (j ∷ jobs) [] told = none_first
     where
-      none_first : Finds s entries (numbered number (f ∷ fs)) [] None
+      none_first : FindsJobLines s entries (numbered_jobs number (f ∷ fs)) [] None
       none_first rest ([], are, is) = are
       none_first rest (e ∷ ends, are, is) = cc
   jobs_found number (f ∷ fs) (j ∷ jobs) (l ∷ lines) told =
       by_line (is_job_line rules entries number j l) refl (jobs_found (number + 1) fs jobs lines told.1)
     where
       by_line : (b : Bool) → is_job_line rules entries number j l ≡ b
-          → Finds s entries (numbered (number + 1) fs) lines (behind_jobs rules entries (number + 1) jobs lines)
-          → Finds s entries (numbered number (f ∷ fs)) (l ∷ lines) (if b then behind_jobs rules entries (number + 1) jobs lines else None)
+          → FindsJobLines s entries (numbered_jobs (number + 1) fs) lines (behind_jobs rules entries (number + 1) jobs lines)
+          → FindsJobLines s entries (numbered_jobs number (f ∷ fs)) (l ∷ lines) (if b then behind_jobs rules entries (number + 1) jobs lines else None)
       by_line true passed finds = with_line number f fs l lines _ (line_to f j told.0 number l passed) finds
       by_line false passed finds = without_line number f fs l lines (λ shown. cc (line_from f j told.0 number l shown, passed))
 
 -- the same of what was found
 pub jobs_at : (s : Setting) (rules : Rules) (entries : ℕ) → s.rules ≡ rules → 1 ≤ rules.attempts → (told : List Following) (jobs : List JobLeft)
     (lines : List Line) → AllZip (IsToldOf s.script) told jobs → (found : Option (List Line)) → found ≡ behind_jobs rules entries 1 jobs lines
-    → Finds s entries (numbered 1 told) lines found
+    → FindsJobLines s entries (numbered_jobs 1 told) lines found
 jobs_at s rules entries same some told jobs lines zip found is =
-    subst (Finds s entries (numbered 1 told) lines) (sym is) (jobs_found s rules entries same some 1 told jobs lines zip)
+    subst (FindsJobLines s entries (numbered_jobs 1 told) lines) (sym is) (jobs_found s rules entries same some 1 told jobs lines zip)
 
 -- what is behind them is so much of the lines
 pub jobs_rest : (s : Setting) (entries number : ℕ) (told : List Following) (lines rest : List Line)
-    → HasJobLines s entries (numbered number told) lines rest → rest ≡ drop (length told) lines
+    → HasJobLines s entries (numbered_jobs number told) lines rest → rest ≡ drop (length told) lines
 jobs_rest s entries number [] lines rest ([], are, is) = sym is
 jobs_rest s entries number [] lines rest (e ∷ ends, are, is) = cc
 jobs_rest s entries number (f ∷ fs) lines rest ([], are, is) = absurd are

@@ -6,8 +6,9 @@ use Rattle.std.proofs.lemmas.List.{drop_more}
 use Rattle.xc_buffers.specs.Items.{is_fit}
 use Rattle.xc_buffers.specs.Sources.{source_of}
 use Rattle.xc_buffers.specs.Worlds.{without_front, without_first}
-use Rattle.xc_buffers.specs.declared.source.Source.{Source}
-use Rattle.xc_buffers.proofs.Laws.{Passes, turn_pipe, turn_pair, given_passes, pipe_passes, pair_passes, fronted, firsted, front_left, first_left, change_same}
+use Rattle.xc_buffers.specs.declared.source.Endpoint.{Endpoint}
+use Rattle.xc_buffers.proofs.Laws.{Commutes, turn_pipe, turn_pair, given_passes, pipe_passes, pair_passes, pipe_fronted, firsted, front_left, first_left}
+use Rattle.xc_buffers.proofs.Laws.{change_same}
 use Rattle.xc_data.specs.declared.entry.KeptItem.{KeptItem}
 use Rattle.xc_data.specs.declared.entry.KeptItem.TheVariants.{Bytes, Message}
 use Rattle.xc_machine.specs.Taking.{Takes, IsNotInFront, has_source}
@@ -27,7 +28,7 @@ with_source (Bytes pipe bytes) w = turn_pipe pipe (λ found. unwrap_or found emp
 with_source (Message pair side bytes) w = turn_pair pair (λ found. unwrap_or found empty_pair) w
 
 -- items may be given back before or after
-source_passes : (t u : KeptItem) → Passes (with_source t) u
+source_passes : (t u : KeptItem) → Commutes (with_source t) u
 source_passes (Bytes pipe bytes) (Bytes next more) = pipe_passes pipe (λ found. unwrap_or found empty_pipe) (Bytes next more) (λ e found. refl)
 source_passes (Bytes pipe bytes) (Message pair side more) = pipe_passes pipe (λ found. unwrap_or found empty_pipe) (Message pair side more) tt
 source_passes (Message pair side bytes) (Bytes next more) = pair_passes pair (λ found. unwrap_or found empty_pair) (Bytes next more) tt
@@ -37,7 +38,7 @@ source_passes (Message pair side bytes) (Message other s more) =
 -- the same is given back in it
 gives_with_source : (t : KeptItem) (w : World) → gives (with_source t w) t ≡ gives w t
 gives_with_source (Bytes pipe bytes) w =
-    ap (λ m. record w { pipes = m }) (change_same w.pipes pipe (λ found. unwrap_or found empty_pipe) (fronted bytes))
+    ap (λ m. record w { pipes = m }) (change_same w.pipes pipe (λ found. unwrap_or found empty_pipe) (pipe_fronted bytes))
 gives_with_source (Message pair side bytes) w =
     ap (λ m. record w { pairs = m }) (change_same w.pairs pair (λ found. unwrap_or found empty_pair) (firsted side bytes))
 
@@ -60,11 +61,11 @@ under_taken t u old new taken is =
 
 -- ---- lines
 -- no line is left
-pub stands_none : (w : World) (before : Option Source) → Stands w before []
+pub stands_none : (w : World) (before : Option Endpoint) → Stands w before []
 stands_none w before = record { items = []; shown = refl; follow = tt; under = w; front = refl }
 
 -- an item that is taken comes before what stands behind it
-pub stands_with : (t : KeptItem) (old new : World) (before : Option Source) (lines : List Line) → Takes t old new → comes_behind before t ≡ true
+pub stands_with : (t : KeptItem) (old new : World) (before : Option Endpoint) (lines : List Line) → Takes t old new → comes_behind before t ≡ true
     → is_fit t ≡ true → Stands new (Some (source_of t)) lines → Stands old before (line.Kept t ∷ lines)
 stands_with t old new before lines taken behind fit s =
     record {
@@ -76,7 +77,7 @@ stands_with t old new before lines taken behind fit s =
     }
 
 -- lines that stand, the first of which is known
-record First (w : World) (before : Option Source) (l : Line) (lines : List Line) : Type 0 where
+record First (w : World) (before : Option Endpoint) (l : Line) (lines : List Line) : Type 0 where
   item : KeptItem
   items : List KeptItem
   first : l ≡ line.Kept item
@@ -88,7 +89,7 @@ record First (w : World) (before : Option Source) (l : Line) (lines : List Line)
   front : gives (given_back under items) item ≡ w
 
 -- their first line
-first_of : (w : World) (before : Option Source) (l : Line) (lines : List Line) → Stands w before (l ∷ lines) → First w before l lines
+first_of : (w : World) (before : Option Endpoint) (l : Line) (lines : List Line) → Stands w before (l ∷ lines) → First w before l lines
 first_of w before l lines s = parted s.items s.shown s.follow s.front
   where
     parted : (items : List KeptItem) → (l ∷ lines) ≡ lines_of_kept items → Follow before items → given_back s.under items ≡ w → First w before l lines
@@ -111,29 +112,29 @@ one_item : (t u : KeptItem) → line.Kept t ≡ line.Kept u → u ≡ t
 one_item t u e = cc
 
 -- a line that stands first is of kept data
-pub stands_kept : (w : World) (before : Option Source) (l : Line) (lines : List Line) → ((t : KeptItem) → l ≡ line.Kept t → ⊥)
+pub stands_kept : (w : World) (before : Option Endpoint) (l : Line) (lines : List Line) → ((t : KeptItem) → l ≡ line.Kept t → ⊥)
     → Stands w before (l ∷ lines) → ⊥
 stands_kept w before l lines other s = let f = first_of w before l lines s in other f.item f.first
 
 -- of a fit item
-pub stands_fit : (w : World) (before : Option Source) (t : KeptItem) (lines : List Line) → Stands w before (line.Kept t ∷ lines) → is_fit t ≡ true
+pub stands_fit : (w : World) (before : Option Endpoint) (t : KeptItem) (lines : List Line) → Stands w before (line.Kept t ∷ lines) → is_fit t ≡ true
 stands_fit w before t lines s =
     let f = first_of w before (line.Kept t) lines s in ap is_fit (sym (one_item t f.item f.first)) ∙ f.fit
 
 -- that may come next
-pub stands_behind : (w : World) (before : Option Source) (t : KeptItem) (lines : List Line) → Stands w before (line.Kept t ∷ lines)
+pub stands_behind : (w : World) (before : Option Endpoint) (t : KeptItem) (lines : List Line) → Stands w before (line.Kept t ∷ lines)
     → comes_behind before t ≡ true
 stands_behind w before t lines s =
     let f = first_of w before (line.Kept t) lines s in ap (comes_behind before) (sym (one_item t f.item f.first)) ∙ f.behind
 
 -- and stands in front
-pub stands_front : (w : World) (before : Option Source) (t : KeptItem) (lines : List Line) → IsNotInFront t w → Stands w before (line.Kept t ∷ lines) → ⊥
+pub stands_front : (w : World) (before : Option Endpoint) (t : KeptItem) (lines : List Line) → IsNotInFront t w → Stands w before (line.Kept t ∷ lines) → ⊥
 stands_front w before t lines never s =
     let f = first_of w before (line.Kept t) lines s in
     never (given_back f.under f.items) (ap (gives (given_back f.under f.items)) (sym (one_item t f.item f.first)) ∙ f.front)
 
 -- where it is taken what is behind it stands
-pub stands_without : (t : KeptItem) (old new : World) (before : Option Source) (lines : List Line) → Takes t old new
+pub stands_without : (t : KeptItem) (old new : World) (before : Option Endpoint) (lines : List Line) → Takes t old new
     → Stands old before (line.Kept t ∷ lines) → Stands new (Some (source_of t)) lines
 stands_without t old new before lines taken s =
     let f = first_of old before (line.Kept t) lines s in
@@ -150,17 +151,17 @@ stands_without t old new before lines taken s =
 
 -- ---- line by line
 -- what is told of the place where the item of a line was taken
-abbrev Tells : Type 0 → World → List Line → Option Source → Type 0
-Tells Before now lines found = MatchOption found (Before → ⊥) (λ source. Before ↔ Stands now (Some source) lines)
+abbrev TellsPlace : Type 0 → World → List Line → Option Endpoint → Type 0
+TellsPlace Before now lines found = MatchOption found (Before → ⊥) (λ source. Before ↔ Stands now (Some source) lines)
 
 -- none was taken
-pub not_taken : (Before : Type 0) (now : World) (lines : List Line) (found : Option Source) → is_some found ≡ false → Tells Before now lines found
+pub no_item_taken : (Before : Type 0) (now : World) (lines : List Line) (found : Option Endpoint) → is_some found ≡ false → TellsPlace Before now lines found
     → Before → ⊥
-not_taken Before now lines None none tells = tells
-not_taken Before now lines (Some source) none tells = absurd (cc (none))
+no_item_taken Before now lines None none tells = tells
+no_item_taken Before now lines (Some source) none tells = absurd (cc (none))
 
 -- one was
-pub is_taken : (Before : Type 0) (now : World) (lines : List Line) (found : Option Source) → is_some found ≡ true → Tells Before now lines found
+pub is_taken : (Before : Type 0) (now : World) (lines : List Line) (found : Option Endpoint) → is_some found ≡ true → TellsPlace Before now lines found
     → Before ↔ Stands now found lines
 is_taken Before now lines None some tells = absurd (cc (some))
 is_taken Before now lines (Some source) some tells = tells

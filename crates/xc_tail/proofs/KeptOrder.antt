@@ -7,9 +7,9 @@ use Rattle.std.specs.Cmp.Derive.{both_true}
 use Rattle.std.proofs.lemmas.List.Elements.{All-nil, All-cons, All-head, All-tail}
 use Rattle.xc_buffers.specs.Items.{AreKept, is_fit}
 use Rattle.xc_buffers.specs.Sources.{source_of, is_before}
-use Rattle.xc_buffers.specs.declared.source.Source.{Source}
-use Rattle.xc_buffers.specs.declared.source.Source.TheVariants.{Pipe, Side}
-use Rattle.xc_buffers.proofs.Laws.{before_itself, before_not, neither, not_before, one, NotBefore, Rises, rises_from, order_from}
+use Rattle.xc_buffers.specs.declared.source.Endpoint.{Endpoint}
+use Rattle.xc_buffers.specs.declared.source.Endpoint.TheVariants.{Pipe, Side}
+use Rattle.xc_buffers.proofs.Laws.{before_itself, before_not, neither, not_before, one_source, NotBefore, Rises, rises_from, order_from}
 use Rattle.xc_data.specs.declared.entry.KeptItem.{KeptItem}
 use Rattle.xc_data.specs.declared.entry.KeptItem.TheVariants.{Bytes, Message}
 use Rattle.xc_data.specs.declared.object.Num.{Num}
@@ -40,18 +40,18 @@ before_other p q behind other = by_order (is_before (Pipe p) (Pipe q)) refl
     by_order : (b : Bool) → is_before (Pipe p) (Pipe q) ≡ b → b ≡ true
     by_order true e = refl
     by_order false e =
-        let is = one_pipe p q (one (Pipe p) (Pipe q) (neither (Pipe p) (Pipe q) e behind)) in
+        let is = one_pipe p q (one_source (Pipe p) (Pipe q) (neither (Pipe p) (Pipe q) e behind)) in
         let alike : is_same p q ≡ true = ap (is_same p) (sym is) ∙ same_itself p in
         cc (alike, other)
 
 -- ---- items that come one behind another
 -- an item that comes behind a source isn't of one before it
-not_behind : (s : Source) (t : KeptItem) → comes_behind (Some s) t ≡ true → is_before (source_of t) s ≡ false
+not_behind : (s : Endpoint) (t : KeptItem) → comes_behind (Some s) t ≡ true → is_before (source_of t) s ≡ false
 not_behind s (Bytes pipe bytes) e = before_not s (Pipe pipe) e
 not_behind s (Message pair side bytes) e = not-true (is_before (Side pair side) s) e
 
 -- nor are those behind it
-all_behind : (s : Source) (items : List KeptItem) → Follow (Some s) items → All (λ u. is_before (source_of u) s ≡ false) items
+all_behind : (s : Endpoint) (items : List KeptItem) → Follow (Some s) items → All (λ u. is_before (source_of u) s ≡ false) items
 all_behind s [] follow = All-nil (λ (u : KeptItem). is_before (source_of u) s ≡ false)
 all_behind s (t ∷ items) follow =
     let first = not_behind s t follow.0 in
@@ -60,12 +60,12 @@ all_behind s (t ∷ items) follow =
     (λ k d lt. not_before _ (source_of t) s (rest k d lt) first)
 
 -- they rise
-they_rise : (before : Option Source) (items : List KeptItem) → Follow before items → Rises items
+they_rise : (before : Option Endpoint) (items : List KeptItem) → Follow before items → Rises items
 they_rise before [] follow = tt
 they_rise before (t ∷ items) follow = (all_behind (source_of t) items follow.2, they_rise (Some (source_of t)) items follow.2)
 
 -- they are fit
-all_fit : (before : Option Source) (items : List KeptItem) → Follow before items → All (λ t. is_fit t ≡ true) items
+all_fit : (before : Option Endpoint) (items : List KeptItem) → Follow before items → All (λ t. is_fit t ≡ true) items
 all_fit before [] follow = All-nil (λ (t : KeptItem). is_fit t ≡ true)
 all_fit before (t ∷ items) follow =
     All-cons (λ (u : KeptItem). is_fit u ≡ true) t items follow.1 (all_fit (Some (source_of t)) items follow.2)
@@ -91,7 +91,7 @@ join_apart (Bytes pipe bytes) (Bytes next more ∷ items) follow = by_same (is_s
     by_same false e = refl
 
 -- and joined they stay as they are
-pub follow_joined : (before : Option Source) (items : List KeptItem) → Follow before items → joined items ≡ items
+pub follow_joined : (before : Option Endpoint) (items : List KeptItem) → Follow before items → joined items ≡ items
 follow_joined before [] follow = refl
 follow_joined before (t ∷ items) follow =
     ap (join t) (follow_joined (Some (source_of t)) items follow.2) ∙ join_apart t items follow.2

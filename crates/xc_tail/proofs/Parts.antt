@@ -10,7 +10,7 @@ use Rattle.xc_model.specs.Setting.{Setting}
 use Rattle.xc_print.specs.Kept.{joined}
 use Rattle.xc_sheet.specs.Ends.{lines_of_jobs, lines_of_words, lines_of_kept, line_of_totals}
 use Rattle.xc_sheet.specs.declared.lines.Line.{Line}
-use Rattle.xc_tail.specs.JobLines.{HasJobLines, numbered}
+use Rattle.xc_tail.specs.JobLines.{HasJobLines, numbered_jobs}
 use Rattle.xc_tail.specs.KeptLines.{HasKeptLines}
 use Rattle.xc_tail.specs.Tails.{IsTail, Led}
 use Rattle.xc_tail.proofs.JobEnds.{jobs_rest}
@@ -55,23 +55,23 @@ parted_last lines last some is =
 
 module _ (s : Setting) (led : Led) (lines : List Line) where
   -- without the lines of the jobs
-  pub no_jobs : ((rest : List Line) → HasJobLines s led.entries (numbered 1 led.jobs) lines rest → ⊥) → IsTail s led lines → ⊥
+  pub no_jobs : ((rest : List Line) → HasJobLines s led.entries (numbered_jobs 1 led.jobs) lines rest → ⊥) → IsTail s led lines → ⊥
   no_jobs none t = none _ (t.job_lines, t.ends, t.shown)
 
   -- behind them are the others
-  others : (behind : List Line) → HasJobLines s led.entries (numbered 1 led.jobs) lines behind → (t : IsTail s led lines)
+  others : (behind : List Line) → HasJobLines s led.entries (numbered_jobs 1 led.jobs) lines behind → (t : IsTail s led lines)
       → behind ≡ lines_of_words 0 led.world.words ++ (lines_of_kept (joined t.kept) ++ line_of_totals led.totals ∷ [])
   others behind has t =
       jobs_rest s led.entries 1 led.jobs lines behind has
       ∙ sym (jobs_rest s led.entries 1 led.jobs lines _ (t.job_lines, t.ends, t.shown))
 
   -- without those of the words
-  pub no_words : (behind : List Line) → HasJobLines s led.entries (numbered 1 led.jobs) lines behind
+  pub no_words : (behind : List Line) → HasJobLines s led.entries (numbered_jobs 1 led.jobs) lines behind
       → ((rest : List Line) → behind ≡ lines_of_words 0 led.world.words ++ rest → ⊥) → IsTail s led lines → ⊥
   no_words behind has none t = none _ (others behind has t)
 
   -- behind them are kept data and the totals
-  module _ (behind left : List Line) (has : HasJobLines s led.entries (numbered 1 led.jobs) lines behind)
+  module _ (behind left : List Line) (has : HasJobLines s led.entries (numbered_jobs 1 led.jobs) lines behind)
       (words : behind ≡ lines_of_words 0 led.world.words ++ left) where
     left_is : (t : IsTail s led lines) → left ≡ lines_of_kept (joined t.kept) ++ line_of_totals led.totals ∷ []
     left_is t = append_cancel_left (lines_of_words 0 led.world.words) left _ (sym words ∙ others behind has t)
@@ -87,8 +87,8 @@ module _ (s : Setting) (led : Led) (lines : List Line) where
 
     module _ (front : List Line) (last : Line) (parts : left ≡ front ++ last ∷ []) where
       -- the last one is of other totals
-      pub other_total : (last ≡ line_of_totals led.totals → ⊥) → IsTail s led lines → ⊥
-      other_total other t = other (one_last front (lines_of_kept (joined t.kept)) last (line_of_totals led.totals) (sym parts ∙ left_is t)).1
+      pub other_totals : (last ≡ line_of_totals led.totals → ⊥) → IsTail s led lines → ⊥
+      other_totals other t = other (one_last front (lines_of_kept (joined t.kept)) last (line_of_totals led.totals) (sym parts ∙ left_is t)).1
 
       -- what is between decides
       pub kept_decides : last ≡ line_of_totals led.totals → (answer : Bool) → Decides answer (HasKeptLines led.world front)

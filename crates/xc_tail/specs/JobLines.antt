@@ -41,8 +41,8 @@ pub record Numbered : Type 0 where
   pub jobs : List Following
 
 -- these, the first of which has this number
-abbrev pub numbered : ℕ → List Following → Numbered
-numbered number jobs = record { number = number; jobs = jobs }
+abbrev pub numbered_jobs : ℕ → List Following → Numbered
+numbered_jobs number jobs = record { number = number; jobs = jobs }
 
 -- lines that begin with those of the ends of these jobs
 abbrev pub HasJobLines : Setting → ℕ → Numbered → List Line → List Line → Type 0

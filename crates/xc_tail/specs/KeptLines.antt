@@ -3,8 +3,8 @@ use Rattle.std.specs.Prelude.{◌≡◌, Bool, true, not, List, [], ◌∷◌, O
 use Rattle.std.specs.declared.option.Option.TheVariants.{None, Some}
 use Rattle.xc_buffers.specs.Items.{is_fit}
 use Rattle.xc_buffers.specs.Sources.{source_of, is_before}
-use Rattle.xc_buffers.specs.declared.source.Source.{Source}
-use Rattle.xc_buffers.specs.declared.source.Source.TheVariants as source
+use Rattle.xc_buffers.specs.declared.source.Endpoint.{Endpoint}
+use Rattle.xc_buffers.specs.declared.source.Endpoint.TheVariants as source
 use Rattle.xc_data.specs.declared.entry.KeptItem.{KeptItem}
 use Rattle.xc_data.specs.declared.entry.KeptItem.TheVariants.{Bytes, Message}
 use Rattle.xc_print.specs.Kept.{joined}
@@ -19,18 +19,18 @@ abbrev pub HasKeptLines : World → List Line → Type 0
 HasKeptLines world lines = (kept : List KeptItem) × (lines ≡ lines_of_kept (joined kept)) × IsKeptFront world kept
 
 -- whether an item comes behind one of this source: messages of one side of a pair are several, bytes of one pipe are one piece
-abbrev pub comes_behind : Option Source → KeptItem → Bool
+abbrev pub comes_behind : Option Endpoint → KeptItem → Bool
 comes_behind None t = true
 comes_behind (Some before) (Bytes pipe bytes) = is_before before (source.Pipe pipe)
 comes_behind (Some before) (Message pair side bytes) = not (is_before (source.Side pair side) before)
 
 -- each item is fit and comes behind the one before it, the first behind one of this source
-abbrev pub Follow : Option Source → List KeptItem → Type 0
+abbrev pub Follow : Option Endpoint → List KeptItem → Type 0
 Follow before [] = Unit {0}
 Follow before (t ∷ items) = (comes_behind before t ≡ true) × (is_fit t ≡ true) × Follow (Some (source_of t)) items
 
 -- lines that are those of such items, which stand in front of what some world has so that together they are this one's
-pub record Stands (world : World) (before : Option Source) (lines : List Line) : Type 0 where
+pub record Stands (world : World) (before : Option Endpoint) (lines : List Line) : Type 0 where
   pub items : List KeptItem
   pub shown : lines ≡ lines_of_kept items
   pub follow : Follow before items

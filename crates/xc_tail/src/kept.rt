@@ -4,7 +4,7 @@ ghost use Rattle.xc_buffers.specs.Items.{is_fit};
 ghost use Rattle.xc_sheet.specs.declared.lines.Line.{Line as PlainLine};
 ghost use Rattle.xc_tail.specs.KeptLines.{HasKeptLines, Stands, comes_behind};
 
-use xc_buffers::Source;
+use xc_buffers::Endpoint;
 use xc_data::{KeptItem, MOST_CALL_BYTES, NoMemory};
 use xc_machine::World;
 use xc_sheet::Line;
@@ -21,13 +21,13 @@ fn is_fit(item: &KeptItem) -> bool
 }
 
 // An item comes behind one of this source: a side of a pair may have several messages, and all bytes of a pipe are one item.
-fn comes_behind(before: Option<Source>, item: &KeptItem) -> bool
+fn comes_behind(before: Option<Endpoint>, item: &KeptItem) -> bool
     ensures { result ≡ comes_behind before item.now }
 {
     let Some(before) = before else {
         return true;
     };
-    let source = Source::of(item);
+    let source = Endpoint::of(item);
     match item {
         KeptItem::Bytes { .. } => before.is_before(source),
         KeptItem::Message { .. } => !source.is_before(before),
@@ -37,9 +37,9 @@ fn comes_behind(before: Option<Source>, item: &KeptItem) -> bool
 // Takes what a line shows out of the world, where that is in front there and may come next. Where it was taken.
 fn take_line(
     world: &mut World,
-    before: Option<Source>,
+    before: Option<Endpoint>,
     line: &Line,
-) -> Result<Option<Source>, NoMemory>
+) -> Result<Option<Endpoint>, NoMemory>
     ensures { IfOk result (λ found. (lines : List PlainLine) → MatchOption found (Stands world.old before (line.now ∷ lines) → ⊥)
         (λ source. Stands world.old before (line.now ∷ lines) ↔ Stands world.new (Some source) lines)) }
 {
@@ -52,7 +52,7 @@ fn take_line(
     if !world.take_front(item)? {
         return Ok(None);
     }
-    Ok(Some(Source::of(item)))
+    Ok(Some(Endpoint::of(item)))
 }
 
 /// The lines are those of data that is kept in front of what some host holds, so that together they are the world's.

@@ -6,4 +6,4 @@ mod pipes;
 mod tails;
 mod test_host;
 
-pub use test_host::{Asked, TestHost};
+pub use test_host::{AskedCall, TestHost};

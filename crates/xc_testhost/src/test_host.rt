@@ -9,30 +9,30 @@ use crate::pairs::Pairs;
 use crate::pipes::Pipes;
 use crate::tails::{Tails, put};
 use std::alloc::Global;
-use xc_data::{Kind, Name, NoMemory, Num};
+use xc_data::{HostCallKind, Name, NoMemory, Num};
 use xc_host::KindCounts;
 
 /// A call of the host, with the place and the length that it asks for, each 0 where it asks for none.
 #[derive(Clone, Copy, Debug, PartialEq)]
-pub struct Asked {
-    pub kind: Kind,
+pub struct AskedCall {
+    pub kind: HostCallKind,
     pub at: u32,
     pub len: usize,
 }
 
-impl Asked {
+impl AskedCall {
     /// A call that asks for a place and a length.
-    pub fn new(kind: Kind, at: u32, len: usize) -> Asked
+    pub fn new(kind: HostCallKind, at: u32, len: usize) -> AskedCall
         ensures { result ≡ record { kind = kind; at = at; len = len } }
     {
-        Asked { kind, at, len }
+        AskedCall { kind, at, len }
     }
 
     /// A call that asks for neither.
-    pub fn plain(kind: Kind) -> Asked
+    pub fn plain(kind: HostCallKind) -> AskedCall
         ensures { result ≡ record { kind = kind; at = 0; len = 0 } }
     {
-        Asked::new(kind, 0, 0)
+        AskedCall::new(kind, 0, 0)
     }
 }
 
@@ -52,7 +52,7 @@ pub struct TestHost {
     /// Whether each look for a name runs out of memory.
     pub starves: bool,
     /// Each call that there was.
-    pub log: Vec<Asked>,
+    pub log: Vec<AskedCall>,
     /// The names of files, in no order.
     pub names: Vec<(Name, Num)>,
     tails: Tails,
@@ -148,7 +148,7 @@ impl TestHost {
     }
 
     // Writes down a call, and says whether it fails.
-    fn fails(&mut self, call: Asked) -> bool
+    fn fails(&mut self, call: AskedCall) -> bool
         ensures called { IsCalled (call.kind ∷ []) (calls_of self.old.calls) (calls_of self.new.calls) }
         ensures cause { CountsFault result self.old.faults self.new.faults }
     {

@@ -7,8 +7,8 @@ mod memhost;
 mod testhost;
 
 use std::alloc::Global;
-use xc_data::{Kind, Name, NoMemory, Num, SharedName};
-use xc_testhost::{Asked, TestHost};
+use xc_data::{HostCallKind, Name, NoMemory, Num, SharedName};
+use xc_testhost::{AskedCall, TestHost};
 
 // The file `a` of a host for tests.
 const FILE: Num = Num { tx: 0, k: 0 };
@@ -28,7 +28,7 @@ fn host_of(alloc: Global, bytes: &[u8]) -> Result<TestHost, NoMemory> {
 }
 
 // The calls that there were are of these kinds, one by one.
-fn are_of(log: &[Asked], kinds: &[Kind]) -> bool {
+fn are_of(log: &[AskedCall], kinds: &[HostCallKind]) -> bool {
     log.len() == kinds.len()
         && log
             .iter()

@@ -15,8 +15,8 @@ use Rattle.xc_text.specs.Views.{NamesFiles}
 use Rattle.xc_text.specs.Steps.{is_file_of}
 
 -- no name has no file
-pub no_names : NamesFiles map.empty []
-no_names name = ap is_some (map.get-empty name_cmp name)
+pub no_names_files : NamesFiles map.empty []
+no_names_files name = ap is_some (map.get-empty name_cmp name)
 
 is_some_more : (b there : Bool) (found : Option (Unit {0})) → is_some found ≡ there → is_some (cond b (Some tt) found) ≡ (there || (b || false))
 is_some_more true true found e = refl

@@ -3,20 +3,20 @@ use Rattle.std.proofs.Common.{◌≡◌, ℕ, ◌≤◌, Bool, true, false, List
 use Rattle.std.proofs.Common.{refl}
 use Rattle.std.specs.Prelude.{codes, if◌then◌else◌}
 use Rattle.std.proofs.lemmas.Bool.{cond_both, leb-true}
-use Rattle.xc_data.specs.declared.script.Kind.{Kind}
-use Rattle.xc_text.specs.declared.line.Line.{Line}
-use Rattle.xc_text.specs.declared.line.Line.TheVariants as line
+use Rattle.xc_data.specs.declared.script.HostCallKind.{HostCallKind}
+use Rattle.xc_text.specs.declared.line.ScriptLine.{ScriptLine}
+use Rattle.xc_text.specs.declared.line.ScriptLine.TheVariants as line
 use Rattle.xc_text.specs.declared.line.Section.{Section}
 use Rattle.xc_text.specs.declared.line.Section.TheVariants.{Prologue, Between, Block, Transaction}
 use Rattle.xc_tokens.specs.declared.why.Why.{Why}
 use Rattle.xc_tokens.specs.declared.why.Why.TheVariants.{UnknownLine}
 use Rattle.xc_tokens.specs.Answers.{both, seen}
-use Rattle.xc_text.specs.Grammar.{line_of, first_line, worded_line, words_line, word_line, file_line, pipe_line, pair_line}
-use Rattle.xc_text.specs.Grammar.{fault_line, range, grain_line, job_line, body_line, transaction_line}
+use Rattle.xc_text.specs.Grammar.{line_of, first_line, worded_line, words_line, read_word_line, file_line, pipe_line, pair_line}
+use Rattle.xc_text.specs.Grammar.{fault_line, range, grain_line, read_job_line, body_line, transaction_line}
 use Rattle.xc_text.specs.Kinds.{kind}
 use Rattle.xc_tokens.specs.Literals.{is_within, contents, only_literals}
 use Rattle.xc_text.specs.Sections.{is_outside}
-use Rattle.xc_text.specs.Shapes.{bare}
+use Rattle.xc_text.specs.Shapes.{no_tokens}
 use Rattle.xc_text.specs.Named as named
 use Rattle.xc_text.specs.Statements.{outer_statement, inner_statement}
 use Rattle.xc_tokens.specs.Words.{spells, number, ident, name}
@@ -25,7 +25,7 @@ use Rattle.xc_text.proofs.Results.{for_any, seen_keeps}
 use Rattle.xc_text.proofs.FitStatements.{outer_stands, inner_stands}
 use Rattle.xc_text.proofs.KeepingBlocks.{IsFitStatement, IsFitLine}
 
-fits_seen : {A E : Type 0} (p : Section) (within : Bool) (f : A → Line) (a : Result A E) → ((x : A) → IsFitLine p within (f x)) →
+fits_seen : {A E : Type 0} (p : Section) (within : Bool) (f : A → ScriptLine) (a : Result A E) → ((x : A) → IsFitLine p within (f x)) →
     IfOk (seen f a) (IsFitLine p within)
 fits_seen p within f a h = seen_keeps (λ x. IsFitLine p within (f x)) (IsFitLine p within) f a (for_any _ a h) (λ x fits. fits)
 
@@ -34,7 +34,7 @@ words_fits within [] = tt
 words_fits within (n ∷ []) = fits_seen Prologue within line.Words (number n) (λ _. tt)
 words_fits within (n ∷ m ∷ ts) = tt
 
-word_fits : (within : Bool) (rest : List Lexeme) → IfOk (word_line rest) (IsFitLine Prologue within)
+word_fits : (within : Bool) (rest : List Lexeme) → IfOk (read_word_line rest) (IsFitLine Prologue within)
 word_fits within [] = tt
 word_fits within (i ∷ []) = tt
 word_fits within (i ∷ u ∷ []) = fits_seen Prologue within (λ (p : ℕ × ℕ). line.Word p.0 p.1) (both (number i) (number u)) (λ _. tt)
@@ -65,14 +65,14 @@ pair_fits within (v ∷ w ∷ u ∷ ts) = tt
 fault_fits : (within : Bool) (rest : List Lexeme) → IfOk (fault_line rest) (IsFitLine Prologue within)
 fault_fits within [] = tt
 fault_fits within (k ∷ numbers) =
-    fits_seen Prologue within (λ (p : Kind × (ℕ × ℕ)). line.Fault p.0 p.1.0 p.1.1) (both (kind k) (range numbers)) (λ _. tt)
+    fits_seen Prologue within (λ (p : HostCallKind × (ℕ × ℕ)). line.Fault p.0 p.1.0 p.1.1) (both (kind k) (range numbers)) (λ _. tt)
 
 grain_fits : (within : Bool) (rest : List Lexeme) → IfOk (grain_line rest) (IsFitLine Prologue within)
 grain_fits within [] = tt
 grain_fits within (n ∷ []) = fits_seen Prologue within line.Grain (number n) (λ _. tt)
 grain_fits within (n ∷ m ∷ ts) = tt
 
-job_fits : (p : Section) (within : Bool) (rest : List Lexeme) → is_outside p ≡ true → IfOk (job_line rest) (IsFitLine p within)
+job_fits : (p : Section) (within : Bool) (rest : List Lexeme) → is_outside p ≡ true → IfOk (read_job_line rest) (IsFitLine p within)
 job_fits p within [] outside = tt
 job_fits p within (n ∷ []) outside = fits_seen p within line.Job (ident n) (λ _. outside)
 job_fits p within (n ∷ m ∷ ts) outside = tt
@@ -85,13 +85,13 @@ body_fits p within (n ∷ m ∷ ts) outside = tt
 prologue_fits : (within : Bool) (rest : List Lexeme) (words word file pipe pair fault grain job body : Bool) →
     IfOk (
     if words then words_line rest
-    else if word then word_line rest
+    else if word then read_word_line rest
     else if file then file_line rest
     else if pipe then pipe_line rest
     else if pair then pair_line rest
     else if fault then fault_line rest
     else if grain then grain_line rest
-    else if job then job_line rest
+    else if job then read_job_line rest
     else if body then body_line rest
     else Err UnknownLine
     ) (IsFitLine Prologue within)
@@ -107,24 +107,24 @@ prologue_fits within rest false false false false false false false false true =
 prologue_fits within rest false false false false false false false false false = tt
 
 between_fits : (within : Bool) (rest : List Lexeme) (job body : Bool) →
-    IfOk (if job then job_line rest else if body then body_line rest else Err UnknownLine) (IsFitLine Between within)
+    IfOk (if job then read_job_line rest else if body then body_line rest else Err UnknownLine) (IsFitLine Between within)
 between_fits within rest true body = job_fits Between within rest refl
 between_fits within rest false true = body_fits Between within rest refl
 between_fits within rest false false = tt
 
 block_fits : (p : Section) (within : Bool) (rest : List Lexeme) (tx end : Bool) →
-    IfOk (if tx then seen (λ _. line.Begin) (bare rest) else if end then seen (λ _. line.End) (bare rest) else Err UnknownLine) (IsFitLine p within)
-block_fits p within rest true end = fits_seen p within (λ _. line.Begin) (bare rest) (λ _. tt)
-block_fits p within rest false true = fits_seen p within (λ _. line.End) (bare rest) (λ _. tt)
+    IfOk (if tx then seen (λ _. line.Begin) (no_tokens rest) else if end then seen (λ _. line.End) (no_tokens rest) else Err UnknownLine) (IsFitLine p within)
+block_fits p within rest true end = fits_seen p within (λ _. line.Begin) (no_tokens rest) (λ _. tt)
+block_fits p within rest false true = fits_seen p within (λ _. line.End) (no_tokens rest) (λ _. tt)
 block_fits p within rest false false = tt
 
-fits_said : (p : Section) (within : Bool) (a : Result named.Statement Why) → IfOk a (IsFitStatement within) →
+fits_said : (p : Section) (within : Bool) (a : Result named.NamedStatement Why) → IfOk a (IsFitStatement within) →
     IfOk (seen line.Statement a) (IsFitLine p within)
 fits_said p within a fits = seen_keeps (IsFitStatement within) (IsFitLine p within) line.Statement a fits (λ s is. is)
 
 outer_fits : (p : Section) (word : List ℕ) (rest : List Lexeme) (commit : Bool) →
-    IfOk (if commit then seen (λ _. line.Commit) (bare rest) else seen line.Statement (outer_statement word rest)) (IsFitLine p false)
-outer_fits p word rest true = fits_seen p false (λ _. line.Commit) (bare rest) (λ _. refl)
+    IfOk (if commit then seen (λ _. line.Commit) (no_tokens rest) else seen line.Statement (outer_statement word rest)) (IsFitLine p false)
+outer_fits p word rest true = fits_seen p false (λ _. line.Commit) (no_tokens rest) (λ _. refl)
 outer_fits p word rest false = fits_said p false (outer_statement word rest) (outer_stands word rest)
 
 transaction_fits : (p : Section) (within : Bool) (word : List ℕ) (rest : List Lexeme) → IfOk (transaction_line within word rest) (IsFitLine p within)
@@ -145,7 +145,7 @@ first_fits p within (Word word) rest = worded_fits p within word rest
 first_fits p within (Literal meant times) rest = tt
 
 -- a line that says nothing fits, and another one fits its place
-abbrev pub IsFitLineOf : Section → Bool → Option Line → Type 0
+abbrev pub IsFitLineOf : Section → Bool → Option ScriptLine → Type 0
 IsFitLineOf p within (Some says) = IsFitLine p within says
 IsFitLineOf p within None = Unit {0}
 

@@ -14,7 +14,7 @@ use Rattle.xc_text.specs.declared.calls.PipeCall.TheVariants as piped
 use Rattle.xc_text.specs.declared.calls.PairCall.{PairCall}
 use Rattle.xc_text.specs.declared.calls.PairCall.TheVariants as paired
 use Rattle.xc_text.specs.declared.script.Statement.TheVariants as statement
-use Rattle.xc_text.specs.Calls.{call_kinds, word_form, name_form, handle_form, pipe_form, pair_form, form_of, call_line}
+use Rattle.xc_text.specs.Calls.{call_kinds, word_form, name_form, handle_form, pipe_form, pair_form, form_of, read_call_line}
 use Rattle.xc_text.specs.Named as named
 use Rattle.xc_text.specs.Statements.{Condition, condition, abort_where, back_where, let_line, abort_line, require_line, save_line, keep_line, back_line}
 use Rattle.xc_text.specs.Statements.{statement_line, outer_statement, inner_statement}
@@ -27,15 +27,15 @@ use Rattle.xc_text.proofs.KeepingBlocks.{IsFitStatement}
 use Rattle.xc_text.proofs.Results.{for_any, seen_keeps}
 
 -- what is made of any parts may stand there
-made_stands : {A : Type 0} (within : Bool) (make : A → named.Statement) (parts : Result A Why) → ((x : A) → IsFitStatement within (make x)) →
+made_stands : {A : Type 0} (within : Bool) (make : A → named.NamedStatement) (parts : Result A Why) → ((x : A) → IsFitStatement within (make x)) →
     IfOk (seen make parts) (IsFitStatement within)
 made_stands within make parts fits = seen_keeps (λ x. IsFitStatement within (make x)) (IsFitStatement within) make parts (for_any _ parts fits) (λ x is. is)
 
 -- a call that may stand there
-abbrev IsFitForm : Bool → named.CallForm → Type 0
+abbrev IsFitForm : Bool → named.NamedCallForm → Type 0
 IsFitForm within f = IsFitStatement within (statement.Call f)
 
-form_stands : {A : Type 0} (within : Bool) (make : A → named.CallForm) (parts : Result A Why) → ((x : A) → IsFitForm within (make x)) →
+form_stands : {A : Type 0} (within : Bool) (make : A → named.NamedCallForm) (parts : Result A Why) → ((x : A) → IsFitForm within (make x)) →
     IfOk (seen make parts) (IsFitForm within)
 form_stands within make parts fits = seen_keeps (λ x. IsFitForm within (make x)) (IsFitForm within) make parts (for_any _ parts fits) (λ x is. is)
 
@@ -77,10 +77,10 @@ kind_stands within (Pipe call) rest = pipe_stands within call rest
 kind_stands within (Pair call) rest = pair_stands within call rest
 kind_stands within Thread rest = form_stands within _ _ (λ p names. refl)
 
-call_stands : (within : Bool) (kind : Option CallKind) (rest : List Lexeme) → IfOk (call_line kind rest) (IsFitStatement within)
+call_stands : (within : Bool) (kind : Option CallKind) (rest : List Lexeme) → IfOk (read_call_line kind rest) (IsFitStatement within)
 call_stands within None rest = tt
 call_stands within (Some kind) rest =
-    seen_keeps (IsFitForm within) (IsFitStatement within) (λ (f : named.CallForm). statement.Call f) (form_of kind rest) (kind_stands within kind rest)
+    seen_keeps (IsFitForm within) (IsFitStatement within) (λ (f : named.NamedCallForm). statement.Call f) (form_of kind rest) (kind_stands within kind rest)
     (λ f is. is)
 
 abort_stands : (within : Bool) (c : Option Condition) → IsFitStatement within (abort_where c)
@@ -96,7 +96,7 @@ any_stands : (within : Bool) (word : List ℕ) (rest : List Lexeme) (is_let is_a
     if is_let then let_line rest
     else if is_abort then abort_line rest
     else if is_require then require_line rest
-    else call_line (by_word call_kinds word) rest
+    else read_call_line (by_word call_kinds word) rest
     ) (IsFitStatement within)
 any_stands within word rest true is_abort is_require = made_stands within _ _ (λ p names. refl)
 any_stands within word rest false true is_require = made_stands within abort_where (condition rest) (abort_stands within)

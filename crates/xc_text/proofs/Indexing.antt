@@ -61,9 +61,9 @@ index_moved : (index : map.FinMap name_cmp (Unit {0})) (names moved : List (List
 index_moved index names moved same is q = is q ∙ list_any-IsPermutation (λ other. pointwise nat_eq other q) names moved same
 
 -- the name of a job more
-pub one_job_more : (index : map.FinMap name_cmp (Unit {0})) (jobs bodies : List (List ℕ)) (name : List ℕ) → Indexes index (jobs ++ bodies)
+pub job_name_more : (index : map.FinMap name_cmp (Unit {0})) (jobs bodies : List (List ℕ)) (name : List ℕ) → Indexes index (jobs ++ bodies)
     → Indexes (map.insert index name tt) ((jobs ++ name ∷ []) ++ bodies)
-one_job_more index jobs bodies name is =
+job_name_more index jobs bodies name is =
     index_moved (map.insert index name tt) ((jobs ++ bodies) ++ name ∷ []) ((jobs ++ name ∷ []) ++ bodies) (job_moved jobs bodies name)
     (index_more index (jobs ++ bodies) name is)
 

@@ -9,13 +9,13 @@ use Rattle.std.proofs.lemmas.List.Sorted.{length_permutation}
 use Rattle.xc_data.specs.declared.script.Prologue.{Prologue as OnePrologue}
 use Rattle.xc_data.specs.Limits.{KeepsLimits, IsPrologue}
 use Rattle.xc_text.specs.declared.script.Script.{Script}
-use Rattle.xc_text.specs.declared.line.Line.{Line}
+use Rattle.xc_text.specs.declared.line.ScriptLine.{ScriptLine}
 use Rattle.xc_tokens.specs.declared.why.Why.{Why}
 use Rattle.xc_text.specs.Refusals.{Refusal}
 use Rattle.xc_text.specs.Grammar.{line_of}
 use Rattle.xc_text.specs.Inner.{is_open}
 use Rattle.xc_tokens.specs.Lines.{lines_of, is_line_byte}
-use Rattle.xc_text.specs.Said.{Said, opening}
+use Rattle.xc_text.specs.Said.{Said, nothing_said}
 use Rattle.xc_text.specs.Sections.{is_outside}
 use Rattle.xc_text.specs.Scripts.{names_of, IsScript, at_line, prologue_of, script_of}
 use Rattle.xc_text.specs.Scripts.{closed, read_from, parse_of}
@@ -23,30 +23,31 @@ use Rattle.xc_text.specs.Steps.{after_any}
 use Rattle.xc_text.specs.Steps.{after_tokens, after_bytes}
 use Rattle.xc_tokens.specs.Tokens.{Lexeme, tokens_of}
 use Rattle.xc_text.proofs.Indexing.{distinct_moved}
-use Rattle.xc_text.proofs.Sound.{IsOpening, IsSound, Keeps, opening-keeps}
+use Rattle.xc_text.proofs.Sound.{IsFitPrologue, IsReaderSound, KeepsSound, opening-keeps}
 use Rattle.xc_text.proofs.KeepingBlocks.{outside_names, after-keeps}
 use Rattle.xc_text.proofs.FitLines.{IsFitLineOf, said_fits}
 use Rattle.xc_text.proofs.Results.{for_any, then_keeps}
 
-after_any-keeps : (r : Said) (says : Option Line) → IsFitLineOf r.section (is_open r.body) says → IsSound r → Keeps (after_any r says)
+after_any-keeps : (r : Said) (says : Option ScriptLine) → IsFitLineOf r.section (is_open r.body) says → IsReaderSound r → KeepsSound (after_any r says)
 after_any-keeps r (Some says) first k = after-keeps r says first k
 after_any-keeps r None first k = k
 
-after_tokens-keeps : (r : Said) (tokens : List Lexeme) → IsSound r → Keeps (after_tokens r tokens)
+after_tokens-keeps : (r : Said) (tokens : List Lexeme) → IsReaderSound r → KeepsSound (after_tokens r tokens)
 after_tokens-keeps r tokens k =
-    then_keeps (IsFitLineOf r.section (is_open r.body)) IsSound (line_of r.section (is_open r.body) tokens) (λ (says : Option Line). after_any r says)
+    then_keeps (IsFitLineOf r.section (is_open r.body)) IsReaderSound (line_of r.section (is_open r.body) tokens)
+    (λ (says : Option ScriptLine). after_any r says)
     (said_fits r.section (is_open r.body) tokens) (λ says first. after_any-keeps r says first k)
 
-abbrev Any : {A : Type 0} → A → Type 0
-Any x = Unit {0}
+abbrev Anything : {A : Type 0} → A → Type 0
+Anything x = Unit {0}
 
-after_bytes-keeps : (r : Said) (bytes : List ℕ) → IsSound r → Keeps (after_bytes r bytes)
+after_bytes-keeps : (r : Said) (bytes : List ℕ) → IsReaderSound r → KeepsSound (after_bytes r bytes)
 after_bytes-keeps r bytes k =
-    cond_both (list_all is_line_byte bytes) _ _ Keeps (λ _.
-    then_keeps Any IsSound (tokens_of bytes) (λ (tokens : List Lexeme). after_tokens r tokens)
-    (for_any Any (tokens_of bytes) (λ _. tt)) (λ tokens _. after_tokens-keeps r tokens k)) (λ _. tt)
+    cond_both (list_all is_line_byte bytes) _ _ KeepsSound (λ _.
+    then_keeps Anything IsReaderSound (tokens_of bytes) (λ (tokens : List Lexeme). after_tokens r tokens)
+    (for_any Anything (tokens_of bytes) (λ _. tt)) (λ tokens _. after_tokens-keeps r tokens k)) (λ _. tt)
 
-of_lines : (p : OnePrologue) → IsOpening p → IsPrologue p
+of_lines : (p : OnePrologue) → IsFitPrologue p → IsPrologue p
 of_lines p is =
     record {
       objects = is.objects.few;
@@ -57,17 +58,17 @@ of_lines p is =
     }
 
 -- so many blocks as jobs and bodies
-pub block_count : (s : Script) → IsPermutation (s.outline.jobs ++ s.outline.bodies) (names_of s.blocks)
+pub blocks_count : (s : Script) → IsPermutation (s.outline.jobs ++ s.outline.bodies) (names_of s.blocks)
     → length s.blocks ≡ length s.outline.jobs + length s.outline.bodies
-block_count s named = rw (length-map, length-append) at (length_permutation (s.outline.jobs ++ s.outline.bodies) (names_of s.blocks) named)
+blocks_count s named = rw (length-map, length-append) at (length_permutation (s.outline.jobs ++ s.outline.bodies) (names_of s.blocks) named)
 
-script_of-keeps : (r : Said) → is_outside r.section ≡ true → IsSound r → IsScript (script_of r)
+script_of-keeps : (r : Said) → is_outside r.section ≡ true → IsReaderSound r → IsScript (script_of r)
 script_of-keeps r outside k =
     let named : IsPermutation (r.jobs ++ r.bodies) (names_of r.blocks) = outside_names r outside k in
     record {
       some_words = k.words.some;
       few_words = k.words.few;
-      few_blocks = omega (arith, k.begun.few, block_count (script_of r) named);
+      few_blocks = omega (arith, k.begun.few, blocks_count (script_of r) named);
       distinct = distinct_moved (r.jobs ++ r.bodies) (names_of r.blocks) named k.begun.distinct;
       named = named;
       prologue = of_lines (prologue_of r) k.opening;
@@ -83,18 +84,18 @@ at_line-keeps : {A : Type 0} (P : A → Type 0) (n : ℕ) (a : Result A Why) →
 at_line-keeps P n (Ok x) h = h
 at_line-keeps P n (Err e) h = tt
 
-read_from-keeps : (n : ℕ) (r : Said) (lines : List (List ℕ)) → IsSound r → IfOk (read_from n r lines) IsScript
+read_from-keeps : (n : ℕ) (r : Said) (lines : List (List ℕ)) → IsReaderSound r → IfOk (read_from n r lines) IsScript
 read_from-keeps n r [] k =
     at_line-keeps IsScript n (closed r)
     (cond_both (is_outside r.section) _ _ (λ (a : Result Script Why). IfOk a IsScript) (λ outside. script_of-keeps r outside k) (λ _. tt))
 read_from-keeps n r (bytes ∷ lines) k =
-    then_keeps IsSound IsScript (at_line (n + 1) (after_bytes r bytes)) (λ (next : Said). read_from (n + 1) next lines)
-    (at_line-keeps IsSound (n + 1) (after_bytes r bytes) (after_bytes-keeps r bytes k)) (λ next keeps. read_from-keeps (n + 1) next lines keeps)
+    then_keeps IsReaderSound IsScript (at_line (n + 1) (after_bytes r bytes)) (λ (next : Said). read_from (n + 1) next lines)
+    (at_line-keeps IsReaderSound (n + 1) (after_bytes r bytes) (after_bytes-keeps r bytes k)) (λ next keeps. read_from-keeps (n + 1) next lines keeps)
 
 parse_of-keeps : (bytes : List ℕ) → IfOk (parse_of bytes) IsScript
 parse_of-keeps bytes =
     cond_both (nat_lt 1048576 (length bytes)) _ _ (λ (a : Result Script Refusal). IfOk a IsScript)
-    (λ _. tt) (λ _. read_from-keeps 0 opening (lines_of bytes) opening-keeps)
+    (λ _. tt) (λ _. read_from-keeps 0 nothing_said (lines_of bytes) opening-keeps)
 
 -- what the grammar has is a script in its limits
 pub parsed : (bytes : List ℕ) (s : Script) → parse_of bytes ≡ Ok s → IsScript s
@@ -106,5 +107,5 @@ in_limits s k =
     record {
       words = k.few_words;
       prologue = k.prologue;
-      blocks = omega (arith, k.few_blocks, block_count s k.named);
+      blocks = omega (arith, k.few_blocks, blocks_count s k.named);
     }

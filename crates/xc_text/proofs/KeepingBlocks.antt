@@ -6,8 +6,8 @@ use Rattle.std.proofs.lemmas.Bool.{cond_both, leb-false, leb-true, and_parts}
 use Rattle.std.proofs.lemmas.List.{length-append, map-append}
 use Rattle.std.proofs.lemmas.List.Elements.{All-nil, All-push}
 use Rattle.xc_text.specs.Stated.{Statement}
-use Rattle.xc_text.specs.declared.line.Line.{Line}
-use Rattle.xc_text.specs.declared.line.Line.TheVariants as line
+use Rattle.xc_text.specs.declared.line.ScriptLine.{ScriptLine}
+use Rattle.xc_text.specs.declared.line.ScriptLine.TheVariants as line
 use Rattle.xc_text.specs.declared.line.Section.{Section}
 use Rattle.xc_text.specs.declared.line.Section.TheVariants.{Prologue, Between, Block, Transaction}
 use Rattle.xc_tokens.specs.declared.why.Why.{Why}
@@ -18,20 +18,21 @@ use Rattle.xc_text.specs.Said.{Names, Said}
 use Rattle.xc_text.specs.Sections.{block_in, transaction_in, is_outside}
 use Rattle.xc_text.specs.Scripts.{names_of, IsBlock}
 use Rattle.xc_text.specs.Steps.{are_few, has_few_calls, is_among}
-use Rattle.xc_text.specs.Steps.{may_begin, started, bodied, begun, stated_as, committed, ended_block, after}
-use Rattle.xc_text.specs.Places.{Placed, placed}
+use Rattle.xc_text.specs.Steps.{may_begin, started, bodied, transaction_begun, stated_as, committed, ended_block, after_line}
+use Rattle.xc_text.specs.Places.{Placed, placed_statement}
 use Rattle.xc_tokens.specs.Words.{name}
-use Rattle.xc_text.proofs.Growing.{Grows, placed_grows}
+use Rattle.xc_text.proofs.Growing.{KeepsVariables, placed_grows}
 use Rattle.xc_text.proofs.Indexing.{job_among, body_among, distinct_job, distinct_body}
 use Rattle.xc_text.proofs.Results.{seen_keeps}
 use Rattle.xc_text.proofs.Standing.{stand-push, inner_where_closed}
-use Rattle.xc_text.proofs.Sound.{CountFits, IsBody, HasInner, AreUnderWay, all_names, IsSound, Keeps, count_at, names_at}
+use Rattle.xc_text.proofs.Sound.{CountFits, IsBody, HasInner, AreUnderWay, all_names, IsReaderSound, KeepsSound, count_fits_at, names_at}
 use Rattle.xc_text.proofs.KeepingPrologue.{sized-keeps, valued-keeps, filed-keeps, kept_within, piped-keeps, paired-keeps}
 use Rattle.xc_text.proofs.KeepingPrologue.{faulted-keeps, grained-keeps}
 
-stated-keeps : (s : Said) (p : Placed Statement) → Grows s.names p.0 → may_stand (is_open s.body) p.1 ≡ true → IsSound s → Keeps (stated_as s p)
+stated-keeps : (s : Said) (p : Placed Statement) → KeepsVariables s.names p.0 → may_stand (is_open s.body) p.1 ≡ true → IsReaderSound s
+    → KeepsSound (stated_as s p)
 stated-keeps s p grows may k =
-    cond_both (has_few_calls s.body p.1 && are_few p.0) _ _ Keeps (λ few.
+    cond_both (has_few_calls s.body p.1 && are_few p.0) _ _ KeepsSound (λ few.
     record {
       words = k.words;
       opening = k.opening;
@@ -51,12 +52,12 @@ stated-keeps s p grows may k =
       handles = record { count = k.handles.count; each = kept_within s.names p.0 s.handles grows k.handles.each };
     }) (λ _. tt)
 
-begun-keeps : (r : Said) (p : Section) → r.section ≡ p → IsSound r → Keeps (begun r (block_in p))
+begun-keeps : (r : Said) (p : Section) → r.section ≡ p → IsReaderSound r → KeepsSound (transaction_begun r (block_in p))
 begun-keeps r Prologue e k = tt
 begun-keeps r Between e k = tt
 begun-keeps r (Transaction name) e k = tt
 begun-keeps r (Block name) e k =
-    cond_both (nat_le 1000 (length r.transactions)) _ _ Keeps (λ _. tt) (λ room.
+    cond_both (nat_le 1000 (length r.transactions)) _ _ KeepsSound (λ _. tt) (λ room.
     record {
       words = k.words;
       opening = k.opening;
@@ -73,7 +74,7 @@ begun-keeps r (Block name) e k =
       handles = k.handles;
     })
 
-committed-keeps : (r : Said) (p : Section) → r.section ≡ p → is_open r.body ≡ false → IsSound r → Keeps (committed r (transaction_in p))
+committed-keeps : (r : Said) (p : Section) → r.section ≡ p → is_open r.body ≡ false → IsReaderSound r → KeepsSound (committed r (transaction_in p))
 committed-keeps r Prologue e closed k = tt
 committed-keeps r Between e closed k = tt
 committed-keeps r (Block name) e closed k = tt
@@ -83,7 +84,7 @@ committed-keeps r (Transaction name) e closed k =
       opening = k.opening;
       begun = record { named = names_at r (Transaction name) e k; few = k.begun.few; distinct = k.begun.distinct };
       under_way = record {
-        count = rw length-append (omega (arith, count_at r (Transaction name) e k));
+        count = rw length-append (omega (arith, count_fits_at r (Transaction name) e k));
         calls = All-push IsBody r.transactions r.body k.under_way.calls k.under_way.body;
         inner = All-push HasInner r.transactions r.body k.under_way.inner (inner_where_closed false r.body k.under_way.stand closed);
         body = omega arith;
@@ -94,7 +95,7 @@ committed-keeps r (Transaction name) e closed k =
       handles = k.handles;
     }
 
-ended-keeps : (r : Said) (p : Section) → r.section ≡ p → IsSound r → Keeps (ended_block r (block_in p))
+ended-keeps : (r : Said) (p : Section) → r.section ≡ p → IsReaderSound r → KeepsSound (ended_block r (block_in p))
 ended-keeps r Prologue e k = tt
 ended-keeps r Between e k = tt
 ended-keeps r (Transaction name) e k = tt
@@ -111,7 +112,7 @@ ended-keeps r (Block name) e k =
         stand = k.under_way.stand;
       };
       each_block = All-push IsBlock r.blocks _ k.each_block (record {
-        transactions = count_at r (Block name) e k;
+        transactions = count_fits_at r (Block name) e k;
         calls = k.under_way.calls;
         inner = k.under_way.inner;
       });
@@ -120,12 +121,12 @@ ended-keeps r (Block name) e k =
     }
 
 -- a statement that may stand where an inner block is open or not
-abbrev pub IsFitStatement : Bool → named.Statement → Type 0
-IsFitStatement within s = (names : Names) → may_stand within (placed names s).1 ≡ true
+abbrev pub IsFitStatement : Bool → named.NamedStatement → Type 0
+IsFitStatement within s = (names : Names) → may_stand within (placed_statement names s).1 ≡ true
 
 -- a line that may stand in a section, and where an inner block is open or not: a block begins outside of the others, a
 -- file and a pipe aren't too long, a statement may stand there, and a transaction ends outside of inner blocks
-abbrev pub IsFitLine : Section → Bool → Line → Type 0
+abbrev pub IsFitLine : Section → Bool → ScriptLine → Type 0
 IsFitLine p within (line.Job block) = is_outside p ≡ true
 IsFitLine p within (line.Body block) = is_outside p ≡ true
 IsFitLine p within (line.File file bytes) = IfSome bytes (λ bs. length bs ≤ 65536)
@@ -148,7 +149,7 @@ ended_names (Block name) names outside = cc
 ended_names (Transaction name) names outside = cc
 
 -- outside a block the names are those of the blocks so far
-pub outside_names : (r : Said) → is_outside r.section ≡ true → IsSound r → IsPermutation (r.jobs ++ r.bodies) (names_of r.blocks)
+pub outside_names : (r : Said) → is_outside r.section ≡ true → IsReaderSound r → IsPermutation (r.jobs ++ r.bodies) (names_of r.blocks)
 outside_names r outside k = subst (IsPermutation (r.jobs ++ r.bodies)) (ended_names r.section (names_of r.blocks) outside) k.begun.named
 
 -- no block has the name, and there may be one more
@@ -162,7 +163,7 @@ new_block r name =
     (λ room. (new, leb-false _ _ room)))
 
 -- a block that begins has nothing under way
-block_opens : (r : Said) (name : List ℕ) → is_outside r.section ≡ true → IsSound r → AreUnderWay (Block name) r.transactions r.body
+block_opens : (r : Said) (name : List ℕ) → is_outside r.section ≡ true → IsReaderSound r → AreUnderWay (Block name) r.transactions r.body
 block_opens r name outside k =
     record {
       count = omega (arith, none_under_way r.section (length r.transactions) outside k.under_way.count);
@@ -172,9 +173,9 @@ block_opens r name outside k =
       stand = k.under_way.stand;
     }
 
-started-keeps : (r : Said) (name : List ℕ) → is_outside r.section ≡ true → IsSound r → Keeps (started r name)
+started-keeps : (r : Said) (name : List ℕ) → is_outside r.section ≡ true → IsReaderSound r → KeepsSound (started r name)
 started-keeps r name outside k =
-    seen_keeps (λ _. IsNew r name) IsSound _ (may_begin r name) (new_block r name) (λ _ new.
+    seen_keeps (λ _. IsNew r name) IsReaderSound _ (may_begin r name) (new_block r name) (λ _ new.
     record {
       words = k.words;
       opening = k.opening;
@@ -189,9 +190,9 @@ started-keeps r name outside k =
       handles = k.handles;
     })
 
-bodied-keeps : (r : Said) (name : List ℕ) → is_outside r.section ≡ true → IsSound r → Keeps (bodied r name)
+bodied-keeps : (r : Said) (name : List ℕ) → is_outside r.section ≡ true → IsReaderSound r → KeepsSound (bodied r name)
 bodied-keeps r name outside k =
-    seen_keeps (λ _. IsNew r name) IsSound _ (may_begin r name) (new_block r name) (λ _ new.
+    seen_keeps (λ _. IsNew r name) IsReaderSound _ (may_begin r name) (new_block r name) (λ _ new.
     record {
       words = k.words;
       opening = k.opening;
@@ -207,7 +208,7 @@ bodied-keeps r name outside k =
     })
 
 -- each line that fits its place keeps it
-pub after-keeps : (r : Said) (says : Line) → IsFitLine r.section (is_open r.body) says → IsSound r → Keeps (after r says)
+pub after-keeps : (r : Said) (says : ScriptLine) → IsFitLine r.section (is_open r.body) says → IsReaderSound r → KeepsSound (after_line r says)
 after-keeps r (line.Words n) first k = sized-keeps r n k
 after-keeps r (line.Word at value) first k = valued-keeps r at value k
 after-keeps r (line.File file bytes) first k = filed-keeps r file bytes first k
@@ -218,6 +219,6 @@ after-keeps r (line.Grain n) first k = grained-keeps r n k
 after-keeps r (line.Job name) first k = started-keeps r name first k
 after-keeps r (line.Body name) first k = bodied-keeps r name first k
 after-keeps r line.Begin first k = begun-keeps r r.section refl k
-after-keeps r (line.Statement s) first k = stated-keeps r (placed r.names s) (placed_grows r.names s) (first r.names) k
+after-keeps r (line.Statement s) first k = stated-keeps r (placed_statement r.names s) (placed_grows r.names s) (first r.names) k
 after-keeps r line.Commit first k = committed-keeps r r.section refl first k
 after-keeps r line.End first k = ended-keeps r r.section refl k

@@ -7,25 +7,25 @@ use Rattle.std.proofs.lemmas.Bool.{cond_both, ltb-true, ltb-false, leb-false, le
 use Rattle.std.proofs.lemmas.List.{length-append, length-replicate, length-set}
 use Rattle.std.proofs.lemmas.List.Elements.{All-push}
 use Rattle.std.proofs.lemmas.List.Sums.{sum_by_push}
-use Rattle.xc_data.specs.declared.script.Kind.{Kind}
+use Rattle.xc_data.specs.declared.script.HostCallKind.{HostCallKind}
 use Rattle.xc_data.specs.declared.script.Opened.{Opened}
 use Rattle.xc_data.specs.declared.script.Opened.TheVariants.{File, Pipe, Pair}
 use Rattle.xc_data.specs.Limits.{IsOpenedFit, is_pipe_line, is_pair_line}
 use Rattle.xc_text.specs.Kinds.{kind}
 use Rattle.xc_text.specs.Said.{Names, Said}
 use Rattle.xc_text.specs.Scripts.{AreCalls}
-use Rattle.xc_text.specs.Steps.{are_few, is_file_of, sized_by, valued_by, added, faulted, grained}
+use Rattle.xc_text.specs.Steps.{are_few, is_file_of, sized_by, valued_by, file_added, faulted, grain_stated}
 use Rattle.xc_text.specs.Steps.{has_room_for_pipe, piped_at, piped, has_room_for_pair, paired_at, paired}
 use Rattle.xc_text.specs.Steps.{filed}
 use Rattle.xc_text.specs.Places.{Placed, variable, placed_two}
-use Rattle.xc_text.proofs.Growing.{Grows, has_place, variable_grows, have_places, variables_grow}
-use Rattle.xc_text.proofs.Sound.{IsSound, Keeps}
+use Rattle.xc_text.proofs.Growing.{KeepsVariables, has_place, variable_grows, have_places, variables_grow}
+use Rattle.xc_text.proofs.Sound.{IsReaderSound, KeepsSound}
 
 -- a line of `words` keeps it
-pub sized-keeps : (r : Said) (n : ℕ) → IsSound r → Keeps (sized_by r n)
+pub sized-keeps : (r : Said) (n : ℕ) → IsReaderSound r → KeepsSound (sized_by r n)
 sized-keeps r n k =
-    cond_both (nat_lt n 1 || nat_lt 4096 n) _ _ Keeps (λ _. tt) (λ fits.
-    cond_both (r.sized || r.valued) _ _ Keeps (λ _. tt) (λ _.
+    cond_both (nat_lt n 1 || nat_lt 4096 n) _ _ KeepsSound (λ _. tt) (λ fits.
+    cond_both (r.sized || r.valued) _ _ KeepsSound (λ _. tt) (λ _.
     let parts = or_parts _ _ fits in
     record {
       words = record { some = rw length-replicate (ltb-false _ _ parts.0); few = rw length-replicate (ltb-false _ _ parts.1) };
@@ -38,9 +38,9 @@ sized-keeps r n k =
     }))
 
 -- a line of `word` keeps it
-pub valued-keeps : (r : Said) (at value : ℕ) → IsSound r → Keeps (valued_by r at value)
+pub valued-keeps : (r : Said) (at value : ℕ) → IsReaderSound r → KeepsSound (valued_by r at value)
 valued-keeps r at value k =
-    cond_both (nat_le (length r.words) at) _ _ Keeps (λ _. tt) (λ _.
+    cond_both (nat_le (length r.words) at) _ _ KeepsSound (λ _. tt) (λ _.
     record {
       words = record { some = rw length-set k.words.some; few = rw length-set k.words.few };
       opening = k.opening;
@@ -57,10 +57,11 @@ pipes_of objects o = sum_by_push (λ x. cond (is_pipe_line x) 1 0) objects o
 pairs_of : (objects : List Opened) (o : Opened) → count_by is_pair_line (objects ++ o ∷ []) ≡ count_by is_pair_line objects + cond (is_pair_line o) 1 0
 pairs_of objects o = sum_by_push (λ x. cond (is_pair_line x) 1 0) objects o
 
-added-keeps : (r : Said) (file : List ℕ) (bytes : Option (List ℕ)) → IfSome bytes (λ bs. length bs ≤ 65536) → IsSound r → Keeps (added r file bytes)
+added-keeps : (r : Said) (file : List ℕ) (bytes : Option (List ℕ)) → IfSome bytes (λ bs. length bs ≤ 65536) → IsReaderSound r
+    → KeepsSound (file_added r file bytes)
 added-keeps r file None few k = tt
 added-keeps r file (Some bytes) few k =
-    cond_both (nat_le 4096 (length r.objects)) _ _ Keeps (λ _. tt) (λ room.
+    cond_both (nat_le 4096 (length r.objects)) _ _ KeepsSound (λ _. tt) (λ room.
     record {
       words = k.words;
       opening = record {
@@ -84,18 +85,20 @@ added-keeps r file (Some bytes) few k =
     })
 
 -- a line of `file` keeps it
-pub filed-keeps : (r : Said) (file : List ℕ) (bytes : Option (List ℕ)) → IfSome bytes (λ bs. length bs ≤ 65536) → IsSound r → Keeps (filed r file bytes)
+pub filed-keeps : (r : Said) (file : List ℕ) (bytes : Option (List ℕ)) → IfSome bytes (λ bs. length bs ≤ 65536) → IsReaderSound r
+    → KeepsSound (filed r file bytes)
 filed-keeps r file bytes few k =
-    cond_both (list_any (is_file_of file) r.objects) _ _ Keeps (λ _. tt) (λ _. added-keeps r file bytes few k)
+    cond_both (list_any (is_file_of file) r.objects) _ _ KeepsSound (λ _. tt) (λ _. added-keeps r file bytes few k)
 
 -- places of variables stay such
-pub kept_within : (old new : Names) (places : List ℕ) → Grows old new → All (λ v. v < length old.variables) places → All (λ v. v < length new.variables) places
+pub kept_within : (old new : Names) (places : List ℕ) → KeepsVariables old new → All (λ v. v < length old.variables) places
+    → All (λ v. v < length new.variables) places
 kept_within old new places grows all = λ i d lt. omega (arith, all i d lt, grows)
 
-piped_at-keeps : (r : Said) (bytes : List ℕ) (p : Placed ℕ) → length bytes ≤ 4096 → p.1 < length p.0.variables → Grows r.names p.0 → IsSound r
-    → Keeps (piped_at r bytes p)
+piped_at-keeps : (r : Said) (bytes : List ℕ) (p : Placed ℕ) → length bytes ≤ 4096 → p.1 < length p.0.variables → KeepsVariables r.names p.0 → IsReaderSound r
+    → KeepsSound (piped_at r bytes p)
 piped_at-keeps r bytes p few within grows k =
-    cond_both (has_room_for_pipe r.objects && are_few p.0) _ _ Keeps (λ room.
+    cond_both (has_room_for_pipe r.objects && are_few p.0) _ _ KeepsSound (λ room.
     let parts = and_parts (has_room_for_pipe r.objects) (are_few p.0) room in
     let objects = and_parts (nat_lt (length r.objects) 4096) (nat_lt (count_by is_pipe_line r.objects) 64) parts.0 in
     let names = and_parts (nat_le (length p.0.variables) 256) (nat_le (length p.0.slots) 256) parts.1 in
@@ -122,7 +125,8 @@ piped_at-keeps r bytes p few within grows k =
     }) (λ _. tt)
 
 -- a line of `pipe` keeps it
-pub piped-keeps : (r : Said) (handle : List ℕ) (bytes : Option (List ℕ)) → IfSome bytes (λ bs. length bs ≤ 4096) → IsSound r → Keeps (piped r handle bytes)
+pub piped-keeps : (r : Said) (handle : List ℕ) (bytes : Option (List ℕ)) → IfSome bytes (λ bs. length bs ≤ 4096) → IsReaderSound r
+    → KeepsSound (piped r handle bytes)
 piped-keeps r handle None few k = tt
 piped-keeps r handle (Some bytes) few k =
     piped_at-keeps r bytes (variable r.names handle) few (has_place r.names handle) (variable_grows r.names handle) k
@@ -132,10 +136,10 @@ All-push_two : (P : ℕ → Type 0) (places : List ℕ) (a b : ℕ) → All P pl
 All-push_two P places a b all first second =
     subst (All P) (append_assoc places (a ∷ []) (b ∷ [])) (All-push P (places ++ a ∷ []) b (All-push P places a all first) second)
 
-paired_at-keeps : (r : Said) (p : Placed (ℕ × ℕ)) → (p.1.0 < length p.0.variables) × (p.1.1 < length p.0.variables) → Grows r.names p.0
-    → IsSound r → Keeps (paired_at r p)
+paired_at-keeps : (r : Said) (p : Placed (ℕ × ℕ)) → (p.1.0 < length p.0.variables) × (p.1.1 < length p.0.variables) → KeepsVariables r.names p.0
+    → IsReaderSound r → KeepsSound (paired_at r p)
 paired_at-keeps r p within grows k =
-    cond_both (has_room_for_pair r.objects && are_few p.0) _ _ Keeps (λ room.
+    cond_both (has_room_for_pair r.objects && are_few p.0) _ _ KeepsSound (λ room.
     let parts = and_parts (has_room_for_pair r.objects) (are_few p.0) room in
     let objects = and_parts (nat_lt (length r.objects) 4096) (nat_lt (count_by is_pair_line r.objects) 32) parts.0 in
     let names = and_parts (nat_le (length p.0.variables) 256) (nat_le (length p.0.slots) 256) parts.1 in
@@ -163,14 +167,14 @@ paired_at-keeps r p within grows k =
     }) (λ _. tt)
 
 -- a line of `pair` keeps it
-pub paired-keeps : (r : Said) (first second : List ℕ) → IsSound r → Keeps (paired r first second)
+pub paired-keeps : (r : Said) (first second : List ℕ) → IsReaderSound r → KeepsSound (paired r first second)
 paired-keeps r first second k =
     paired_at-keeps r (placed_two r.names first second) (have_places r.names first second) (variables_grow r.names first second) k
 
 -- a line of `fault` keeps it
-pub faulted-keeps : (r : Said) (kind : Kind) (first last : ℕ) → IsSound r → Keeps (faulted r kind first last)
+pub faulted-keeps : (r : Said) (kind : HostCallKind) (first last : ℕ) → IsReaderSound r → KeepsSound (faulted r kind first last)
 faulted-keeps r kind first last k =
-    cond_both (nat_lt first 1 || nat_lt last first) _ _ Keeps (λ _. tt) (λ counted.
+    cond_both (nat_lt first 1 || nat_lt last first) _ _ KeepsSound (λ _. tt) (λ counted.
     let parts = or_parts _ _ counted in
     record {
       words = k.words;
@@ -187,10 +191,10 @@ faulted-keeps r kind first last k =
     })
 
 -- a line of `grain` keeps it
-pub grained-keeps : (r : Said) (n : ℕ) → IsSound r → Keeps (grained r n)
+pub grained-keeps : (r : Said) (n : ℕ) → IsReaderSound r → KeepsSound (grain_stated r n)
 grained-keeps r n k =
-    cond_both (nat_lt n 1 || nat_lt 65536 n) _ _ Keeps (λ _. tt) (λ fits.
-    cond_both (is_some r.grain) _ _ Keeps (λ _. tt) (λ _.
+    cond_both (nat_lt n 1 || nat_lt 65536 n) _ _ KeepsSound (λ _. tt) (λ fits.
+    cond_both (is_some r.grain) _ _ KeepsSound (λ _. tt) (λ _.
     let parts = or_parts _ _ fits in
     record {
       words = k.words;

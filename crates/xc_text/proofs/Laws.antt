@@ -1,7 +1,7 @@
 -- What other crates cite of this one's proofs: they import no other file of them.
 -- ---- Keeping: A script that is read keeps all limits.
 -- so many blocks as jobs and bodies
-pub use Rattle.xc_text.proofs.Keeping.{block_count}
+pub use Rattle.xc_text.proofs.Keeping.{blocks_count}
 -- what the grammar has is a script in its limits
 pub use Rattle.xc_text.proofs.Keeping.{parsed}
 -- such a script keeps the limits of every prologue

@@ -2,7 +2,7 @@
 use Rattle.std.proofs.Common.{◌≡◌, ℕ, zero, suc, ◌+◌, ◌-◌, ◌<◌, true, false, List, [], ◌∷◌, length, map, take, drop, get_or, take_all}
 use Rattle.std.proofs.Common.{Result, Ok, Err, refl, ap, sym, ◌∙◌, arith}
 use Rattle.std.specs.Prelude.{codes, Option, if◌then◌else◌}
-use Rattle.xc_text.specs.Named.{Item}
+use Rattle.xc_text.specs.Named.{NamedItem}
 use Rattle.xc_text.specs.Places.{variable, placed_data, placed_ending, written_with_slot_of}
 use Rattle.xc_text.specs.Said.{Names}
 use Rattle.xc_text.specs.Stated.{Item as PlacedItem}
@@ -16,11 +16,11 @@ use Rattle.xc_tokens.specs.Tokens.{Lexeme}
 use Rattle.xc_tokens.specs.Views.{lexeme}
 use Rattle.xc_tokens.specs.Words.{ident, is_sign}
 
-abbrev Parts : Type 0
-Parts = List Lexeme × List Lexeme
+abbrev LineParts : Type 0
+LineParts = List Lexeme × List Lexeme
 
 -- with one token in front of three or more
-abbrev behind_one : Token → Parts → Parts
+abbrev behind_one : Token → LineParts → LineParts
 behind_one t p = (lexeme t ∷ p.0, p.1)
 
 -- the last two, where the first of them is the word
@@ -29,8 +29,8 @@ pub parts_of_slot : (tokens : List Token) (n : ℕ) (word : Token) → length to
 parts_of_slot [] n word len is sign = absurd (omega arith)
 parts_of_slot (t ∷ []) n word len is sign = absurd (omega arith)
 parts_of_slot (t ∷ u ∷ []) zero word len is sign =
-    let two : Parts = ([], lexeme t ∷ lexeme u ∷ []) in
-    let none : Parts = (lexeme t ∷ lexeme u ∷ [], []) in
+    let two : LineParts = ([], lexeme t ∷ lexeme u ∷ []) in
+    let none : LineParts = (lexeme t ∷ lexeme u ∷ [], []) in
     ap (λ b. if b then two else none) (sym (ap (λ w. is_sign (lexeme w) (codes "slot")) is) ∙ sign)
 parts_of_slot (t ∷ u ∷ []) (suc n) word len is sign = absurd (omega arith)
 parts_of_slot (t ∷ u ∷ v ∷ ts) zero word len is sign = absurd (omega arith)
@@ -42,8 +42,8 @@ pub parts_without : (tokens : List Token) (n : ℕ) (word : Token) → length to
 parts_without [] n word len is sign = absurd (omega arith)
 parts_without (t ∷ []) n word len is sign = absurd (omega arith)
 parts_without (t ∷ u ∷ []) zero word len is sign =
-    let two : Parts = ([], lexeme t ∷ lexeme u ∷ []) in
-    let none : Parts = (lexeme t ∷ lexeme u ∷ [], []) in
+    let two : LineParts = ([], lexeme t ∷ lexeme u ∷ []) in
+    let none : LineParts = (lexeme t ∷ lexeme u ∷ [], []) in
     ap (λ b. if b then two else none) (sym (ap (λ w. is_sign (lexeme w) (codes "slot")) is) ∙ sign)
 parts_without (t ∷ u ∷ []) (suc n) word len is sign = absurd (omega arith)
 parts_without (t ∷ u ∷ v ∷ ts) zero word len is sign = absurd (omega arith)
@@ -55,7 +55,7 @@ parts_of_few [] few = refl
 parts_of_few (t ∷ []) few = refl
 parts_of_few (t ∷ u ∷ ts) few = absurd (omega arith)
 
-refused_three : (a : Result (List ℕ) Why) (b : Result (List Item) Why) (c : Result (Option (List ℕ)) Why) (e : Why)
+refused_three : (a : Result (List ℕ) Why) (b : Result (List NamedItem) Why) (c : Result (Option (List ℕ)) Why) (e : Why)
     → both a (both (checked b) c) ≡ Err e → both a (both b c) ≡ Err e
 refused_three (Ok a) (Ok b) (Ok c) e h = cc
 refused_three (Ok a) (Ok b) (Err g) e h = grind (arith, h)
@@ -84,7 +84,7 @@ Good = List ℕ × (Unit {0} × Option (List ℕ))
 same_good : (p q : Good) → ◌≡◌ {A = Result Good Why} (Ok p) (Ok q) → p ≡ q
 same_good p q e = cc
 
-three_written : (names : Names) (a : Result (List ℕ) Why) (b : Result (List Item) Why) (c : Result (Option (List ℕ)) Why) (handle : List ℕ)
+three_written : (names : Names) (a : Result (List ℕ) Why) (b : Result (List NamedItem) Why) (c : Result (Option (List ℕ)) Why) (handle : List ℕ)
     (slot : Option (List ℕ)) (n m : Names) (is : List PlacedItem) → both a (both (checked b) c) ≡ Ok (handle, (tt, slot))
     → n ≡ (variable names handle).0 → seen (placed_data n) b ≡ Ok (m, is)
     → seen (written_with_slot_of names) (both a (both b c)) ≡ Ok ((placed_ending m slot).0, (((variable names handle).1, is), (placed_ending m slot).1))

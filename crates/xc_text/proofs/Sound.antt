@@ -15,7 +15,7 @@ use Rattle.xc_text.specs.declared.line.Section.{Section}
 use Rattle.xc_text.specs.declared.line.Section.TheVariants.{Prologue, Between, Block, Transaction}
 use Rattle.xc_tokens.specs.declared.why.Why.{Why}
 use Rattle.xc_text.specs.Inner.{are_inner}
-use Rattle.xc_text.specs.Said.{Names, Said, opening}
+use Rattle.xc_text.specs.Said.{Names, Said, nothing_said}
 use Rattle.xc_text.specs.Scripts.{names_of, IsBlock, AreCalls, handle_count, prologue_of}
 use Rattle.xc_text.specs.Steps.{is_call}
 use Rattle.xc_tokens.specs.Words.{name}
@@ -44,7 +44,7 @@ pub record AreObjects (objects : List Opened) : Type 0 where
   pub pairs : count_by is_pair_line objects ≤ 32
 
 -- what a host is opened with, so far
-pub record IsOpening (p : OnePrologue) : Type 0 where
+pub record IsFitPrologue (p : OnePrologue) : Type 0 where
   pub objects : AreObjects p.objects
   pub faults : All AreCalls p.faults
   pub grain : IsGrain p.grain
@@ -80,7 +80,7 @@ pub record AreUnderWay (p : Section) (transactions : List (List Statement)) (cur
   pub stand : all_stand false current ≡ true
 
 -- the names of variables and of slots are few
-pub record AreFew (names : Names) : Type 0 where
+pub record AreFewNames (names : Names) : Type 0 where
   pub variables : length names.variables ≤ 256
   pub slots : length names.slots ≤ 256
 
@@ -90,25 +90,25 @@ pub record AreHandles (names : Names) (objects : List Opened) (handles : List �
   pub each : All (λ v. v < length names.variables) handles
 
 -- what the lines so far keep to
-pub record IsSound (s : Said) : Type 0 where
+pub record IsReaderSound (s : Said) : Type 0 where
   pub words : AreWords s.words
-  pub opening : IsOpening (prologue_of s)
+  pub opening : IsFitPrologue (prologue_of s)
   pub begun : AreBegun s.section s.jobs s.bodies s.blocks
   pub under_way : AreUnderWay s.section s.transactions s.body
   pub each_block : All IsBlock s.blocks
-  pub names : AreFew s.names
+  pub names : AreFewNames s.names
   pub handles : AreHandles s.names s.objects s.handles
 
 -- a reader that goes on is sound
-abbrev pub Keeps : Result Said Why → Type 0
-Keeps answer = IfOk answer IsSound
+abbrev pub KeepsSound : Result Said Why → Type 0
+KeepsSound answer = IfOk answer IsReaderSound
 
 -- the count where the section is known
-pub count_at : (r : Said) (p : Section) → r.section ≡ p → IsSound r → CountFits p (length r.transactions)
-count_at r p e k = subst (λ q. CountFits q (length r.transactions)) e k.under_way.count
+pub count_fits_at : (r : Said) (p : Section) → r.section ≡ p → IsReaderSound r → CountFits p (length r.transactions)
+count_fits_at r p e k = subst (λ q. CountFits q (length r.transactions)) e k.under_way.count
 
 -- the names where the section is known
-pub names_at : (r : Said) (p : Section) → r.section ≡ p → IsSound r → IsPermutation (r.jobs ++ r.bodies) (all_names p (names_of r.blocks))
+pub names_at : (r : Said) (p : Section) → r.section ≡ p → IsReaderSound r → IsPermutation (r.jobs ++ r.bodies) (all_names p (names_of r.blocks))
 names_at r p e k = subst (λ q. IsPermutation (r.jobs ++ r.bodies) (all_names q (names_of r.blocks))) e k.begun.named
 
 none_alike : AreDistinct []
@@ -116,7 +116,7 @@ unfolding IsDistinct
 none_alike = tt
 
 -- a reader that has read nothing is sound
-pub opening-keeps : IsSound opening
+pub opening-keeps : IsReaderSound nothing_said
 opening-keeps =
     record {
       words = record { some = lit≤ tt; few = lit≤ tt };

@@ -1,14 +1,14 @@
 -- The kinds of host calls, as a `fault` line spells them.
 use Rattle.std.specs.Prelude.{ℕ, List, [], ◌∷◌, codes, ok_or, Result, Err}
-use Rattle.xc_data.specs.declared.script.Kind.{Kind}
-use Rattle.xc_data.specs.declared.script.Kind.TheVariants as host_call
+use Rattle.xc_data.specs.declared.script.HostCallKind.{HostCallKind}
+use Rattle.xc_data.specs.declared.script.HostCallKind.TheVariants as host_call
 use Rattle.xc_tokens.specs.declared.why.Why.{Why}
 use Rattle.xc_tokens.specs.declared.why.Why.TheVariants.{BadForm}
 use Rattle.xc_tokens.specs.ByWord.{Entry, by_word}
 use Rattle.xc_tokens.specs.Tokens.{Lexeme, Word, Literal}
 
 -- the words of all kinds
-unfoldable pub spellings : List (Entry Kind)
+unfoldable pub spellings : List (Entry HostCallKind)
 spellings =
     (codes "lookup", host_call.Lookup)
     ∷ (codes "create", host_call.Create)
@@ -38,10 +38,10 @@ spellings =
     ∷ []
 
 -- the kind that a word spells; no other word may stand there
-abbrev pub kind_in : List ℕ → Result Kind Why
+abbrev pub kind_in : List ℕ → Result HostCallKind Why
 kind_in word = ok_or (by_word spellings word) BadForm
 
 -- what stands in the place of a kind
-abbrev pub kind : Lexeme → Result Kind Why
+abbrev pub kind : Lexeme → Result HostCallKind Why
 kind (Word word) = kind_in word
 kind (Literal meant times) = Err BadForm

@@ -7,21 +7,21 @@ use Rattle.xc_text.specs.declared.script.CallForm.{CallForm as CallFormOf}
 use Rattle.xc_text.specs.declared.script.Statement.{Statement as StatementOf}
 
 -- a term
-abbrev pub Term : Type 0
-Term = TermOf (List ℕ)
+abbrev pub NamedTerm : Type 0
+NamedTerm = TermOf (List ℕ)
 
 -- a term, a sum or a difference
-abbrev pub Expression : Type 0
-Expression = ExpressionOf (List ℕ)
+abbrev pub NamedExpression : Type 0
+NamedExpression = ExpressionOf (List ℕ)
 
 -- a part of the data of a call
-abbrev pub Item : Type 0
-Item = ItemOf (List ℕ)
+abbrev pub NamedItem : Type 0
+NamedItem = ItemOf (List ℕ)
 
 -- a line that is a call
-abbrev pub CallForm : Type 0
-CallForm = CallFormOf (List ℕ)
+abbrev pub NamedCallForm : Type 0
+NamedCallForm = CallFormOf (List ℕ)
 
 -- a line of a transaction
-abbrev pub Statement : Type 0
-Statement = StatementOf (List ℕ)
+abbrev pub NamedStatement : Type 0
+NamedStatement = StatementOf (List ℕ)

@@ -46,8 +46,8 @@ pub record Said : Type 0 where
   pub body : List Statement
 
 -- before the first line: 16 words, all 0
-abbrev pub opening : Said
-opening = record {
+abbrev pub nothing_said : Said
+nothing_said = record {
   section = Prologue;
   words = replicate 16 0;
   sized = false;

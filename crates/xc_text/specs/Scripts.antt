@@ -14,7 +14,7 @@ use Rattle.xc_tokens.specs.declared.why.Why.TheVariants.{TooLong, Unclosed}
 use Rattle.xc_tokens.specs.Answers.{and_then}
 use Rattle.xc_text.specs.Refusals.{Refusal}
 use Rattle.xc_tokens.specs.Lines.{lines_of}
-use Rattle.xc_text.specs.Said.{Said, opening}
+use Rattle.xc_text.specs.Said.{Said, nothing_said}
 use Rattle.xc_text.specs.Sections.{is_outside}
 use Rattle.xc_text.specs.Inner.{are_inner}
 use Rattle.xc_text.specs.Steps.{is_call, after_bytes}
@@ -58,7 +58,7 @@ read_from n s (bytes ∷ lines) = and_then (at_line (n + 1) (after_bytes s bytes
 
 -- the script that these bytes are, or the first bad line with its first reason
 abbrev pub parse_of : List ℕ → Result Script Refusal
-parse_of bytes = if nat_lt 1048576 (length bytes) then Err (0, TooLong) else read_from 0 opening (lines_of bytes)
+parse_of bytes = if nat_lt 1048576 (length bytes) then Err (0, TooLong) else read_from 0 nothing_said (lines_of bytes)
 
 -- a block keeps the limits
 pub record IsBlock (b : OneBlock) : Type 0 where

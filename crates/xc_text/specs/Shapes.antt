@@ -7,9 +7,9 @@ use Rattle.xc_tokens.specs.Tokens.{Lexeme}
 use Rattle.xc_tokens.specs.Words.{is_sign, ident}
 
 -- nothing
-abbrev pub bare : List Lexeme → Result (Unit {0}) Why
-bare [] = Ok tt
-bare _ = Err BadForm
+abbrev pub no_tokens : List Lexeme → Result (Unit {0}) Why
+no_tokens [] = Ok tt
+no_tokens _ = Err BadForm
 
 -- one token, and nothing after it
 abbrev pub alone : {A : Type 0} → (Lexeme → Result A Why) → List Lexeme → Result A Why

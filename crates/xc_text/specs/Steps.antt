@@ -3,13 +3,13 @@ use Rattle.std.specs.Prelude.{ℕ, ◌+◌, ◌||◌, ◌&&◌, Bool, true, fals
 use Rattle.std.specs.Prelude.{replicate, slice_set, is_some, Option, Some, None, Result, Ok, Err, if◌then◌else◌}
 use Rattle.std.specs.List.{list_all, list_any}
 use Rattle.std.specs.Cmp.Lexicographic.{pointwise}
-use Rattle.xc_data.specs.declared.script.Kind.{Kind}
+use Rattle.xc_data.specs.declared.script.HostCallKind.{HostCallKind}
 use Rattle.xc_data.specs.declared.script.Opened.{Opened}
 use Rattle.xc_data.specs.declared.script.Opened.TheVariants.{File, Pipe, Pair}
 use Rattle.xc_data.specs.Limits.{is_pipe_line, is_pair_line}
 use Rattle.xc_text.specs.declared.script.Statement.TheVariants as statement
-use Rattle.xc_text.specs.declared.line.Line.{Line}
-use Rattle.xc_text.specs.declared.line.Line.TheVariants as line
+use Rattle.xc_text.specs.declared.line.ScriptLine.{ScriptLine}
+use Rattle.xc_text.specs.declared.line.ScriptLine.TheVariants as line
 use Rattle.xc_text.specs.declared.line.Section.TheVariants.{Between, Block, Transaction}
 use Rattle.xc_tokens.specs.declared.why.Why.{Why}
 use Rattle.xc_tokens.specs.declared.why.Why.TheVariants.{BadByte, UnknownLine, BadNumber, Twice, TooMany}
@@ -18,8 +18,8 @@ use Rattle.xc_text.specs.Grammar.{line_of}
 use Rattle.xc_text.specs.Inner.{is_open}
 use Rattle.xc_tokens.specs.Lines.{is_line_byte}
 use Rattle.xc_text.specs.Said.{Names, Said}
-use Rattle.xc_text.specs.Named.{CallForm as NamedCallForm, Statement as NamedStatement}
-use Rattle.xc_text.specs.Places.{Placed, variable, placed_two, placed}
+use Rattle.xc_text.specs.Named.{NamedCallForm as NamedCallForm, NamedStatement as NamedStatement}
+use Rattle.xc_text.specs.Places.{Placed, variable, placed_two, placed_statement}
 use Rattle.xc_text.specs.Stated.{Statement}
 use Rattle.xc_text.specs.Sections.{block_in, transaction_in}
 use Rattle.xc_tokens.specs.Tokens.{Lexeme, tokens_of}
@@ -56,15 +56,15 @@ is_file_of name (File other bytes) = pointwise nat_eq name other
 is_file_of name _ = false
 
 -- at most 4,096 objects, among them files of at most 65,536 bytes
-abbrev pub added : Said → List ℕ → Option (List ℕ) → Result Said Why
-added s name (Some bytes) =
+abbrev pub file_added : Said → List ℕ → Option (List ℕ) → Result Said Why
+file_added s name (Some bytes) =
     if nat_le 4096 (length s.objects) then Err TooMany
     else Ok (record s { objects = s.objects ++ File name bytes ∷ [] })
-added s name None = Err TooMany
+file_added s name None = Err TooMany
 
 -- one file of a name
 abbrev pub filed : Said → List ℕ → Option (List ℕ) → Result Said Why
-filed s name bytes = if list_any (is_file_of name) s.objects then Err Twice else added s name bytes
+filed s name bytes = if list_any (is_file_of name) s.objects then Err Twice else file_added s name bytes
 
 -- at most 256 variables, and at most 256 slots
 abbrev pub are_few : Names → Bool
@@ -102,14 +102,14 @@ abbrev pub paired : Said → List ℕ → List ℕ → Result Said Why
 paired s v w = paired_at s (placed_two s.names v w)
 
 -- the calls of a kind fail from one to another, by their numbers from 1
-abbrev pub faulted : Said → Kind → ℕ → ℕ → Result Said Why
+abbrev pub faulted : Said → HostCallKind → ℕ → ℕ → Result Said Why
 faulted s kind first last =
     if nat_lt first 1 || nat_lt last first then Err BadNumber
     else Ok (record s { faults = s.faults ++ record { kind = kind; first = first; last = last } ∷ [] })
 
 -- a grain of 1 to 65,536 bytes, by one line
-abbrev pub grained : Said → ℕ → Result Said Why
-grained s n =
+abbrev pub grain_stated : Said → ℕ → Result Said Why
+grain_stated s n =
     if nat_lt n 1 || nat_lt 65536 n then Err BadNumber
     else if is_some s.grain then Err Twice
     else Ok (record s { grain = Some n })
@@ -130,11 +130,11 @@ abbrev pub bodied : Said → List ℕ → Result Said Why
 bodied s name = seen (λ _. record s { section = Block name; bodies = s.bodies ++ name ∷ [] }) (may_begin s name)
 
 -- at most 1,000 transactions in a block
-abbrev pub begun : Said → Option (List ℕ) → Result Said Why
-begun s (Some name) =
+abbrev pub transaction_begun : Said → Option (List ℕ) → Result Said Why
+transaction_begun s (Some name) =
     if nat_le 1000 (length s.transactions) then Err TooMany
     else Ok (record s { section = Transaction name })
-begun s None = Err UnknownLine
+transaction_begun s None = Err UnknownLine
 
 -- with a statement more a transaction has at most 256 calls
 abbrev pub has_few_calls : List Statement → Statement → Bool
@@ -148,15 +148,15 @@ stated_as s p =
 
 -- a statement more, with the places of its names
 abbrev pub stated : Said → NamedStatement → Result Said Why
-stated s statement = stated_as s (placed s.names statement)
+stated s statement = stated_as s (placed_statement s.names statement)
 
 -- a statement more, where a line is one
 abbrev pub stated_by : Said → Result NamedStatement Why → Result Said Why
 stated_by s said = and_then said (stated s)
 
 -- a call more, where a line is one
-abbrev pub called : Said → Result NamedCallForm Why → Result Said Why
-called s form = stated_by s (seen (λ (f : NamedCallForm). statement.Call f) form)
+abbrev pub call_stated : Said → Result NamedCallForm Why → Result Said Why
+call_stated s form = stated_by s (seen (λ (f : NamedCallForm). statement.Call f) form)
 
 -- the transaction under way ends
 abbrev pub committed : Said → Option (List ℕ) → Result Said Why
@@ -170,29 +170,29 @@ ended_block s (Some name) =
 ended_block s None = Err UnknownLine
 
 -- what a line adds, or the reason that is beyond its form
-abbrev pub after : Said → Line → Result Said Why
-after s (line.Words n) = sized_by s n
-after s (line.Word at value) = valued_by s at value
-after s (line.File name bytes) = filed s name bytes
-after s (line.Pipe name bytes) = piped s name bytes
-after s (line.Pair first second) = paired s first second
-after s (line.Fault kind first last) = faulted s kind first last
-after s (line.Grain n) = grained s n
-after s (line.Job name) = started s name
-after s (line.Body name) = bodied s name
-after s line.Begin = begun s (block_in s.section)
-after s (line.Statement statement) = stated s statement
-after s line.Commit = committed s (transaction_in s.section)
-after s line.End = ended_block s (block_in s.section)
+abbrev pub after_line : Said → ScriptLine → Result Said Why
+after_line s (line.Words n) = sized_by s n
+after_line s (line.Word at value) = valued_by s at value
+after_line s (line.File name bytes) = filed s name bytes
+after_line s (line.Pipe name bytes) = piped s name bytes
+after_line s (line.Pair first second) = paired s first second
+after_line s (line.Fault kind first last) = faulted s kind first last
+after_line s (line.Grain n) = grain_stated s n
+after_line s (line.Job name) = started s name
+after_line s (line.Body name) = bodied s name
+after_line s line.Begin = transaction_begun s (block_in s.section)
+after_line s (line.Statement statement) = stated s statement
+after_line s line.Commit = committed s (transaction_in s.section)
+after_line s line.End = ended_block s (block_in s.section)
 
 -- a line that says nothing adds nothing
-abbrev pub after_any : Said → Option Line → Result Said Why
-after_any s (Some says) = after s says
+abbrev pub after_any : Said → Option ScriptLine → Result Said Why
+after_any s (Some says) = after_line s says
 after_any s None = Ok s
 
 -- what the tokens of a line add
 abbrev pub after_tokens : Said → List Lexeme → Result Said Why
-after_tokens s tokens = and_then (line_of s.section (is_open s.body) tokens) (λ (says : Option Line). after_any s says)
+after_tokens s tokens = and_then (line_of s.section (is_open s.body) tokens) (λ (says : Option ScriptLine). after_any s says)
 
 -- what the bytes of a line add: bytes are judged first, and then literals
 abbrev pub after_bytes : Said → List ℕ → Result Said Why

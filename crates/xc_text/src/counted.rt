@@ -4,20 +4,20 @@ ghost use Rattle.xc_text.specs.Steps.{is_call, has_few_calls};
 
 use crate::kept::KeptStatement;
 use crate::limits::MOST_CALLS;
-use crate::script::{Body, CallForm, Place, Statement};
+use crate::script::{Body, CallForm, NameIndex, Statement};
 use std::alloc::Global;
 use std::marker::Model;
 use xc_data::{Items, NoMemory};
 
 /// The statements of a transaction, how many of them are calls, and whether an inner block is open behind them.
 #[derive(Drop)]
-pub struct Counted {
+pub struct CountedBody {
     statements: Vec<KeptStatement>,
     calls: u32,
     in_block: bool,
 }
 
-impl Model for Counted {
+impl Model for CountedBody {
     ghost use Rattle.std.specs.Prelude.{◌≡◌, List, count_by};
     ghost use Rattle.xc_text.specs.Inner.{is_open};
     ghost use Rattle.xc_text.specs.Stated.{Statement};
@@ -30,7 +30,7 @@ impl Model for Counted {
     ghost invariant = { λ a. (a.calls ≡ count_by is_call a.statements.items) × (a.in_block ≡ is_open a.statements.items) };
 }
 
-fn is_call(statement: &Statement<Place>) -> bool
+fn is_call(statement: &Statement<NameIndex>) -> bool
     ensures { result ≡ is_call statement.now }
 {
     match statement {
@@ -41,7 +41,7 @@ fn is_call(statement: &Statement<Place>) -> bool
     }
 }
 
-fn form_open(within: bool, form: &CallForm<Place>) -> bool
+fn form_open(within: bool, form: &CallForm<NameIndex>) -> bool
     ensures { result ≡ form_open within form.now }
 {
     match form {
@@ -52,7 +52,7 @@ fn form_open(within: bool, form: &CallForm<Place>) -> bool
 }
 
 // A block is open behind the statement, where one is open or not before it.
-fn open_behind(within: bool, statement: &Statement<Place>) -> bool
+fn open_behind(within: bool, statement: &Statement<NameIndex>) -> bool
     ensures { result ≡ open_behind within statement.now }
 {
     match statement {
@@ -63,12 +63,12 @@ fn open_behind(within: bool, statement: &Statement<Place>) -> bool
     }
 }
 
-impl Counted {
+impl CountedBody {
     /// No statement yet. It takes no memory.
     pub fn new(alloc: Global) -> Self
         ensures { result ≡ [] }
     {
-        Counted {
+        CountedBody {
             statements: Vec::new(alloc),
             calls: 0,
             in_block: false,
@@ -83,7 +83,7 @@ impl Counted {
     }
 
     /// With the statement there are no more calls than a transaction may have.
-    pub fn has_room(&self, statement: &Statement<Place>) -> bool
+    pub fn has_room(&self, statement: &Statement<NameIndex>) -> bool
         ensures { result ≡ has_few_calls self.now statement.now }
     {
         if is_call(statement) {
@@ -94,7 +94,7 @@ impl Counted {
 
     /// One statement more; a call raises the count, and a save and a keep open and close a block.
     #[inline(always)]
-    pub fn push(&mut self, statement: Statement<Place>) -> Result<(), NoMemory>
+    pub fn push(&mut self, statement: Statement<NameIndex>) -> Result<(), NoMemory>
         requires few { count_by is_call (self.old ++ statement ∷ []) ≤ 256 }
         ensures ok { OnOk result (self.new ≡ self.old ++ statement ∷ []) }
         ensures err { OnErr result (self.new ≡ self.old) }

@@ -2,25 +2,25 @@ ghost use Rattle.std.specs.Prelude.{◌≡◌, ◌≤◌, ◌++◌, false, map, 
 ghost use Rattle.xc_tokens.specs.Answers.{Gives, and_then};
 ghost use Rattle.xc_tokens.specs.Views.{lexeme};
 ghost use Rattle.xc_text.specs.Grammar.{prologue_line, between_line, block_line, outer_line, inner_line, transaction_line, worded_line};
-ghost use Rattle.xc_text.specs.Grammar.{first_line, is_plain};
+ghost use Rattle.xc_text.specs.Grammar.{first_line, is_outside_line};
 ghost use Rattle.xc_text.specs.Inner.{is_open};
-ghost use Rattle.xc_text.specs.Said.{opening};
+ghost use Rattle.xc_text.specs.Said.{nothing_said};
 ghost use Rattle.xc_text.specs.Scripts.{script_of};
 ghost use Rattle.xc_text.specs.Sections.{block_in, is_outside, transaction_in};
-ghost use Rattle.xc_text.specs.Steps.{is_among, may_begin, started, bodied, begun, stated_as, committed, ended_block};
-ghost use Rattle.xc_text.specs.Steps.{after, after_tokens, after_bytes};
+ghost use Rattle.xc_text.specs.Steps.{is_among, may_begin, started, bodied, transaction_begun, stated_as, committed, ended_block};
+ghost use Rattle.xc_text.specs.Steps.{after_line, after_tokens, after_bytes};
 
 use crate::block_names::BlockNames;
-use crate::counted::Counted;
+use crate::counted::CountedBody;
 use crate::file_names::FileNames;
 use crate::grammar::{between_line, prologue_line};
 use crate::limits::{FIRST_WORDS, MOST_BLOCKS, MOST_TRANSACTIONS};
-use crate::line::{Line, Section};
+use crate::line::{ScriptLine, Section};
 use crate::names::Names;
 use crate::objects::Objects;
-use crate::script::{Block, Body, Place, Script, Statement};
+use crate::script::{Block, Body, NameIndex, Script, Statement};
 use crate::shapes::bare;
-use crate::source::Source;
+use crate::source::SharedText;
 use std::alloc::Global;
 use std::marker::Model;
 use std::mem;
@@ -34,7 +34,7 @@ mod statements;
 /// A script as far as its lines were read.
 #[derive(Drop)]
 pub struct Draft {
-    source: Source,
+    source: SharedText,
     files: FileNames,
     section: Section,
     words: WordList,
@@ -46,7 +46,7 @@ pub struct Draft {
     faults: FaultList,
     grain: Option<u32>,
     /// The variables that the handles of the objects are in.
-    handles: Items<Place>,
+    handles: Items<NameIndex>,
     names: Names,
     /// The names of all blocks, also of the one under way.
     block_names: BlockNames,
@@ -55,7 +55,7 @@ pub struct Draft {
     /// The transactions of the block under way that have ended.
     transactions: Items<Body>,
     /// The transaction under way.
-    body: Counted,
+    body: CountedBody,
 }
 
 impl Model for Draft {
@@ -91,10 +91,10 @@ fn zeros(alloc: Global, n: u64) -> Result<WordList, NoMemory>
 impl Draft {
     /// No line was read.
     pub fn new(alloc: Global, text: Chunk) -> Result<Draft, NoMemory>
-        ensures { IfOk result (λ draft. draft ≡ opening) }
+        ensures { IfOk result (λ draft. draft ≡ nothing_said) }
     {
         Ok(Draft {
-            source: Source::new(text),
+            source: SharedText::new(text),
             files: FileNames::new(),
             section: Section::Prologue,
             words: zeros(alloc, FIRST_WORDS)?,
@@ -108,7 +108,7 @@ impl Draft {
             block_names: BlockNames::new(alloc),
             blocks: Items::new(alloc),
             transactions: Items::new(alloc),
-            body: Counted::new(alloc),
+            body: CountedBody::new(alloc),
         })
     }
 
@@ -176,7 +176,7 @@ impl Draft {
     }
 
     fn begin(&mut self) -> Result<(), Stop>
-        ensures { Gives (λ _. self.new) result (begun self.old (block_in self.old.section)) }
+        ensures { Gives (λ _. self.new) result (transaction_begun self.old (block_in self.old.section)) }
     {
         let Some(name) = self.section.block() else {
             return Err(Stop::Refused(Why::UnknownLine));
@@ -190,7 +190,7 @@ impl Draft {
 
     // One more statement, whose names have their places. Each of its callers puts it right into the list.
     #[inline(always)]
-    fn keep(&mut self, placed: Statement<Place>) -> Result<(), Stop>
+    fn keep(&mut self, placed: Statement<NameIndex>) -> Result<(), Stop>
         ensures { Gives (λ _. self.new) result (stated_as self.old (self.old.names, placed)) }
     {
         if !self.body.has_room(&placed) || !self.names.are_few() {
@@ -224,43 +224,44 @@ impl Draft {
         Ok(())
     }
 
-    fn add(&mut self, alloc: Global, line: Line) -> Result<(), Stop>
-        requires plain { IsTrue (is_plain line) }
-        ensures { Gives (λ _. self.new) result (after self.old line.entry) }
+    fn add(&mut self, alloc: Global, line: ScriptLine) -> Result<(), Stop>
+        requires plain { IsTrue (is_outside_line line) }
+        ensures { Gives (λ _. self.new) result (after_line self.old line.entry) }
     {
         match line {
-            Line::Words(n) => self.size(alloc, n),
-            Line::Word { at, value } => self.value(at, value),
-            Line::File { name, bytes } => self.file(name, bytes),
-            Line::Pipe { handle, bytes } => self.pipe(&handle, bytes),
-            Line::Pair { first, second } => self.pair(&first, &second),
-            Line::Fault { kind, first, last } => self.fault(kind, first, last),
-            Line::Grain(n) => self.set_grain(n),
-            Line::Job(name) => self.start_job(name),
-            Line::Body(name) => self.start_body(name),
-            Line::Begin => self.begin(),
-            Line::Statement(_) => unreachable!(),
-            Line::Commit => self.commit(alloc),
-            Line::End => self.end(alloc),
+            ScriptLine::Words(n) => self.size(alloc, n),
+            ScriptLine::Word { at, value } => self.value(at, value),
+            ScriptLine::File { name, bytes } => self.file(name, bytes),
+            ScriptLine::Pipe { handle, bytes } => self.pipe(&handle, bytes),
+            ScriptLine::Pair { first, second } => self.pair(&first, &second),
+            ScriptLine::Fault { kind, first, last } => self.fault(kind, first, last),
+            ScriptLine::Grain(n) => self.set_grain(n),
+            ScriptLine::Job(name) => self.start_job(name),
+            ScriptLine::Body(name) => self.start_body(name),
+            ScriptLine::Begin => self.begin(),
+            ScriptLine::Statement(_) => unreachable!(),
+            ScriptLine::Commit => self.commit(alloc),
+            ScriptLine::End => self.end(alloc),
         }
     }
 
     fn read_in_prologue(&mut self, alloc: Global, word: &[u8], rest: &[Token]) -> Result<(), Stop>
-        ensures { Gives (λ _. self.new) result (and_then (prologue_line word.now (map lexeme rest.now)) (λ says. after self.old says)) }
+        ensures { Gives (λ _. self.new) result
+            (and_then (prologue_line word.now (map lexeme rest.now)) (λ says. after_line self.old says)) }
     {
         let line = prologue_line(alloc, word, rest)?;
         self.add(alloc, line)
     }
 
     fn read_between(&mut self, alloc: Global, word: &[u8], rest: &[Token]) -> Result<(), Stop>
-        ensures { Gives (λ _. self.new) result (and_then (between_line word.now (map lexeme rest.now)) (λ says. after self.old says)) }
+        ensures { Gives (λ _. self.new) result (and_then (between_line word.now (map lexeme rest.now)) (λ says. after_line self.old says)) }
     {
         let line = between_line(word, rest)?;
         self.add(alloc, line)
     }
 
     fn read_in_block(&mut self, alloc: Global, word: &[u8], rest: &[Token]) -> Result<(), Stop>
-        ensures { Gives (λ _. self.new) result (and_then (block_line word.now (map lexeme rest.now)) (λ says. after self.old says)) }
+        ensures { Gives (λ _. self.new) result (and_then (block_line word.now (map lexeme rest.now)) (λ says. after_line self.old says)) }
     {
         if spells(word, b"tx") {
             bare(rest)?;
@@ -275,7 +276,7 @@ impl Draft {
 
     // A line of a transaction, outside of its inner blocks.
     fn read_outer(&mut self, alloc: Global, word: &[u8], rest: &[Token]) -> Result<(), Stop>
-        ensures { Gives (λ _. self.new) result (and_then (outer_line word.now (map lexeme rest.now)) (λ says. after self.old says)) }
+        ensures { Gives (λ _. self.new) result (and_then (outer_line word.now (map lexeme rest.now)) (λ says. after_line self.old says)) }
     {
         if spells(word, b"commit") {
             bare(rest)?;
@@ -286,7 +287,7 @@ impl Draft {
 
     // A line of an inner block.
     fn read_inner(&mut self, alloc: Global, word: &[u8], rest: &[Token]) -> Result<(), Stop>
-        ensures { Gives (λ _. self.new) result (and_then (inner_line word.now (map lexeme rest.now)) (λ says. after self.old says)) }
+        ensures { Gives (λ _. self.new) result (and_then (inner_line word.now (map lexeme rest.now)) (λ says. after_line self.old says)) }
     {
         self.read_inner_statement(alloc, word, rest)
     }
@@ -298,7 +299,7 @@ impl Draft {
         rest: &[Token],
     ) -> Result<(), Stop>
         ensures { Gives (λ _. self.new) result
-            (and_then (transaction_line (is_open self.old.body) word.now (map lexeme rest.now)) (λ says. after self.old says)) }
+            (and_then (transaction_line (is_open self.old.body) word.now (map lexeme rest.now)) (λ says. after_line self.old says)) }
     {
         if self.body.is_open() {
             return self.read_inner(alloc, word, rest);
@@ -309,7 +310,8 @@ impl Draft {
     // A line that begins with a word, by the section that it stands in.
     fn read_word(&mut self, alloc: Global, word: &[u8], rest: &[Token]) -> Result<(), Stop>
         ensures { Gives (λ _. self.new) result
-            (and_then (worded_line self.old.section (is_open self.old.body) word.now (map lexeme rest.now)) (λ says. after self.old says)) }
+            (and_then (worded_line self.old.section (is_open self.old.body) word.now (map lexeme rest.now))
+            (λ says. after_line self.old says)) }
     {
         match self.section {
             Section::Prologue => self.read_in_prologue(alloc, word, rest),
@@ -322,7 +324,7 @@ impl Draft {
     fn read_first(&mut self, alloc: Global, first: &Token, rest: &[Token]) -> Result<(), Stop>
         ensures { Gives (λ _. self.new) result
             (and_then (first_line self.old.section (is_open self.old.body) (lexeme first.now) (map lexeme rest.now))
-            (λ says. after self.old says)) }
+            (λ says. after_line self.old says)) }
     {
         match first {
             Token::Word(word) => self.read_word(alloc, word, rest),

@@ -3,7 +3,7 @@ ghost use Rattle.xc_text.specs.declared.script.Statement.TheVariants as statemen
 ghost use Rattle.xc_text.specs.declared.script.CallForm.TheVariants as form;
 ghost use Rattle.xc_text.specs.Kept.{said_by};
 
-use crate::script::{CallForm, Data, Expression, Place, Statement, Term, Test};
+use crate::script::{CallForm, Data, Expression, NameIndex, Statement, Term, Test};
 use std::marker::Model;
 use xc_data::{Boxed, Ident, SharedName};
 
@@ -12,29 +12,29 @@ use xc_data::{Boxed, Ident, SharedName};
 #[derive(Drop)]
 pub enum Form {
     Load {
-        at: Term<Place>,
-        into: Option<Place>,
+        at: Term<NameIndex>,
+        into: Option<NameIndex>,
     },
     Store {
-        at: Term<Place>,
-        value: Term<Place>,
+        at: Term<NameIndex>,
+        value: Term<NameIndex>,
     },
     StoreSum {
-        at: Term<Place>,
-        left: Term<Place>,
-        right: Term<Place>,
+        at: Term<NameIndex>,
+        left: Term<NameIndex>,
+        right: Term<NameIndex>,
     },
     StoreDifference {
-        at: Term<Place>,
-        left: Term<Place>,
-        right: Term<Place>,
+        at: Term<NameIndex>,
+        left: Term<NameIndex>,
+        right: Term<NameIndex>,
     },
     Open {
-        into: Option<Place>,
+        into: Option<NameIndex>,
         name: SharedName,
     },
     Create {
-        into: Option<Place>,
+        into: Option<NameIndex>,
         name: SharedName,
     },
     Rename {
@@ -42,98 +42,98 @@ pub enum Form {
         to: SharedName,
     },
     Read {
-        handle: Place,
-        n: Term<Place>,
-        into: Option<Place>,
+        handle: NameIndex,
+        n: Term<NameIndex>,
+        into: Option<NameIndex>,
     },
     Overwrite {
-        handle: Place,
-        data: Data<Place>,
+        handle: NameIndex,
+        data: Data<NameIndex>,
     },
     Append {
-        handle: Place,
-        data: Data<Place>,
+        handle: NameIndex,
+        data: Data<NameIndex>,
     },
     Seek {
-        handle: Place,
-        to: Term<Place>,
+        handle: NameIndex,
+        to: Term<NameIndex>,
     },
     Length {
-        handle: Place,
-        into: Option<Place>,
+        handle: NameIndex,
+        into: Option<NameIndex>,
     },
     Close {
-        handle: Place,
+        handle: NameIndex,
     },
     Unlink {
-        slot: Option<Place>,
+        slot: Option<NameIndex>,
         name: SharedName,
     },
     Sync {
-        handle: Place,
-        slot: Option<Place>,
+        handle: NameIndex,
+        slot: Option<NameIndex>,
     },
     Pipe {
-        into: Option<Place>,
+        into: Option<NameIndex>,
     },
     ReadPipe {
-        handle: Place,
-        n: Term<Place>,
-        into: Option<Place>,
+        handle: NameIndex,
+        n: Term<NameIndex>,
+        into: Option<NameIndex>,
     },
     WritePipe {
-        handle: Place,
-        slot: Option<Place>,
-        data: Data<Place>,
+        handle: NameIndex,
+        slot: Option<NameIndex>,
+        data: Data<NameIndex>,
     },
     Shutdown {
-        handle: Place,
-        slot: Option<Place>,
+        handle: NameIndex,
+        slot: Option<NameIndex>,
     },
     Pair {
-        into: Option<(Place, Place)>,
+        into: Option<(NameIndex, NameIndex)>,
     },
     Receive {
-        handle: Place,
-        into: Option<Place>,
+        handle: NameIndex,
+        into: Option<NameIndex>,
     },
     Send {
-        handle: Place,
-        slot: Option<Place>,
-        data: Data<Place>,
+        handle: NameIndex,
+        slot: Option<NameIndex>,
+        data: Data<NameIndex>,
     },
     Start {
-        slot: Option<Place>,
+        slot: Option<NameIndex>,
         block: Boxed<Ident>,
     },
     Let {
-        into: Place,
-        value: Term<Place>,
+        into: NameIndex,
+        value: Term<NameIndex>,
     },
     LetSum {
-        into: Place,
-        left: Term<Place>,
-        right: Term<Place>,
+        into: NameIndex,
+        left: Term<NameIndex>,
+        right: Term<NameIndex>,
     },
     LetDifference {
-        into: Place,
-        left: Term<Place>,
-        right: Term<Place>,
+        into: NameIndex,
+        left: Term<NameIndex>,
+        right: Term<NameIndex>,
     },
     Abort,
     AbortIf {
-        left: Term<Place>,
+        left: Term<NameIndex>,
         test: Test,
-        right: Term<Place>,
+        right: Term<NameIndex>,
     },
     Require,
     Save,
     Keep,
     Back,
     BackIf {
-        left: Term<Place>,
+        left: Term<NameIndex>,
         test: Test,
-        right: Term<Place>,
+        right: Term<NameIndex>,
     },
 }
 
@@ -156,7 +156,7 @@ const _: () = prove!(size_of::<KeptStatement>() == 32);
 
 // How a store lies in memory.
 #[inline(always)]
-fn store(at: Term<Place>, value: Expression<Place>) -> Form
+fn store(at: Term<NameIndex>, value: Expression<NameIndex>) -> Form
     ensures { said_by result ≡ statement.Call (form.Store at value) }
 {
     match value {
@@ -168,7 +168,7 @@ fn store(at: Term<Place>, value: Expression<Place>) -> Form
 
 // How a `let` lies in memory.
 #[inline(always)]
-fn assignment(into: Place, value: Expression<Place>) -> Form
+fn assignment(into: NameIndex, value: Expression<NameIndex>) -> Form
     ensures { said_by result ≡ statement.Let into value }
 {
     match value {
@@ -180,7 +180,7 @@ fn assignment(into: Place, value: Expression<Place>) -> Form
 
 // How a call lies in memory.
 #[inline(always)]
-fn call(call: CallForm<Place>) -> Form
+fn call(call: CallForm<NameIndex>) -> Form
     ensures { said_by result ≡ statement.Call call }
 {
     match call {
@@ -214,7 +214,7 @@ fn call(call: CallForm<Place>) -> Form
 impl KeptStatement {
     /// A statement, to be kept. It takes no memory.
     #[inline(always)]
-    pub fn of(statement: Statement<Place>) -> KeptStatement
+    pub fn of(statement: Statement<NameIndex>) -> KeptStatement
         ensures { result ≡ statement }
     {
         let form = match statement {

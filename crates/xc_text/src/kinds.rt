@@ -2,40 +2,40 @@ ghost use Rattle.std.specs.Prelude.{◌≡◌};
 ghost use Rattle.xc_text.specs.Kinds.{kind_in, kind as kind_of_token};
 ghost use Rattle.xc_tokens.specs.Views.{lexeme};
 
-use xc_data::Kind;
+use xc_data::HostCallKind;
 use xc_tokens::{Token, Why, by_word};
 
 /// The kinds of host calls as a `fault` line spells them.
-const KINDS: [(&[u8], Kind); 25] = [
-    (b"lookup", Kind::Lookup),
-    (b"create", Kind::Create),
-    (b"len", Kind::Len),
-    (b"read_at", Kind::ReadAt),
-    (b"write_at", Kind::WriteAt),
-    (b"append", Kind::Append),
-    (b"rename", Kind::Rename),
-    (b"unlink", Kind::Unlink),
-    (b"sync", Kind::Sync),
-    (b"new_pipe", Kind::NewPipe),
-    (b"pipe_state", Kind::PipeState),
-    (b"take", Kind::Take),
-    (b"put", Kind::Put),
-    (b"new_pair", Kind::NewPair),
-    (b"pair_state", Kind::PairState),
-    (b"recv", Kind::Recv),
-    (b"send", Kind::Send),
-    (b"shut", Kind::Shut),
-    (b"restore", Kind::Restore),
-    (b"cut", Kind::Cut),
-    (b"uncreate", Kind::Uncreate),
-    (b"name_back", Kind::NameBack),
-    (b"drop_pipe", Kind::DropPipe),
-    (b"drop_pair", Kind::DropPair),
-    (b"any", Kind::Any),
+const KINDS: [(&[u8], HostCallKind); 25] = [
+    (b"lookup", HostCallKind::Lookup),
+    (b"create", HostCallKind::Create),
+    (b"len", HostCallKind::Len),
+    (b"read_at", HostCallKind::ReadAt),
+    (b"write_at", HostCallKind::WriteAt),
+    (b"append", HostCallKind::Append),
+    (b"rename", HostCallKind::Rename),
+    (b"unlink", HostCallKind::Unlink),
+    (b"sync", HostCallKind::Sync),
+    (b"new_pipe", HostCallKind::NewPipe),
+    (b"pipe_state", HostCallKind::PipeState),
+    (b"take", HostCallKind::Take),
+    (b"put", HostCallKind::Put),
+    (b"new_pair", HostCallKind::NewPair),
+    (b"pair_state", HostCallKind::PairState),
+    (b"recv", HostCallKind::Recv),
+    (b"send", HostCallKind::Send),
+    (b"shut", HostCallKind::Shut),
+    (b"restore", HostCallKind::Restore),
+    (b"cut", HostCallKind::Cut),
+    (b"uncreate", HostCallKind::Uncreate),
+    (b"name_back", HostCallKind::NameBack),
+    (b"drop_pipe", HostCallKind::DropPipe),
+    (b"drop_pair", HostCallKind::DropPair),
+    (b"any", HostCallKind::Any),
 ];
 
 #[tactic(auto, unfolding(crate::specs::Kinds::spellings))]
-fn kind_word(word: &[u8]) -> Result<Kind, Why>
+fn kind_word(word: &[u8]) -> Result<HostCallKind, Why>
     ensures { result ≡ kind_in word.now }
 {
     match by_word(&KINDS, word) {
@@ -45,7 +45,7 @@ fn kind_word(word: &[u8]) -> Result<Kind, Why>
 }
 
 /// What stands in the place of a kind of host calls.
-pub fn kind(token: &Token) -> Result<Kind, Why>
+pub fn kind(token: &Token) -> Result<HostCallKind, Why>
     ensures { result ≡ kind_of_token (lexeme token.now) }
 {
     match token {

@@ -34,6 +34,6 @@ pub use packed::PackedU64;
 pub use parse_err::ParseErr;
 pub use parser::parse;
 pub use script::{
-    Block, Body, CallForm, Data, Expression, Item, Place, Script, Statement, Term, Test,
+    Block, Body, CallForm, Data, Expression, Item, NameIndex, Script, Statement, Term, Test,
 };
 pub use xc_tokens::Why;

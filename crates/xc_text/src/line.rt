@@ -2,7 +2,7 @@ ghost use Rattle.std.specs.Prelude.{◌≡◌};
 ghost use Rattle.xc_text.specs.Sections.{block_in, is_outside, transaction_in};
 
 use crate::script::Statement;
-use xc_data::{Chunk, Ident, Kind, Name};
+use xc_data::{Chunk, HostCallKind, Ident, Name};
 use xc_tokens::IdentWord;
 
 /// Where in a script a line stands.
@@ -49,7 +49,7 @@ impl Section {
 
 /// What a line says. A line of a transaction is read by the draft itself, and stands here for the grammar.
 #[derive(Drop)]
-pub enum Line<'a> {
+pub enum ScriptLine<'a> {
     /// The number of words.
     Words(u64),
     /// A word opens with a value.
@@ -74,7 +74,7 @@ pub enum Line<'a> {
     },
     /// The calls of a kind from the `first` to the `last` fail.
     Fault {
-        kind: Kind,
+        kind: HostCallKind,
         first: u64,
         last: u64,
     },

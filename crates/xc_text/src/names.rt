@@ -1,11 +1,11 @@
 ghost use Rattle.std.specs.Prelude.{◌≡◌, ◌++◌, ◌∷◌, [], length, IfOk, OnOk, IsTrue};
 ghost use Rattle.xc_data.specs.Spelling.{is_ident};
-ghost use Rattle.xc_text.specs.Places.{place_of, taken, variable, slot, placed_two};
+ghost use Rattle.xc_text.specs.Places.{name_place, name_taken, variable, slot, placed_two};
 ghost use Rattle.xc_text.specs.Said.{no_names};
 ghost use Rattle.xc_text.specs.Steps.{are_few};
 
 use crate::limits::MOST_NAMES;
-use crate::script::Place;
+use crate::script::NameIndex;
 use std::alloc::Global;
 use std::marker::Model;
 use xc_data::{Ident, IdentList, Items, NoMemory, SlotNames};
@@ -48,7 +48,7 @@ impl Names {
 // The place of a name, where it has one. Each line that is read asks for some, from many places, so it stands by itself.
 #[inline(never)]
 fn place_of(names: &[Ident], name: &[u8]) -> Option<usize>
-    ensures { result ≡ place_of names.now name.now }
+    ensures { result ≡ name_place names.now name.now }
 {
     names
         .iter()
@@ -93,8 +93,8 @@ fn add_slot(names: &mut SlotNames, name: &[u8]) -> Result<usize, NoMemory>
 // The place of a variable, which takes the next one where it has none.
 #[inline(always)]
 fn take_variable(names: &mut IdentList, name: &IdentWord) -> Result<usize, NoMemory>
-    ensures names { OnOk result (names.new ≡ (taken names.old name.now).0) }
-    ensures at { IfOk result (λ at. at ≡ (taken names.old name.now).1) }
+    ensures names { OnOk result (names.new ≡ (name_taken names.old name.now).0) }
+    ensures at { IfOk result (λ at. at ≡ (name_taken names.old name.now).1) }
 {
     let name = name.bytes();
     match place_of(names.as_slice(), name) {
@@ -106,8 +106,8 @@ fn take_variable(names: &mut IdentList, name: &IdentWord) -> Result<usize, NoMem
 // The place of a slot, which takes the next one where it has none.
 #[inline(always)]
 fn take_slot(names: &mut SlotNames, name: &IdentWord) -> Result<usize, NoMemory>
-    ensures names { OnOk result (names.new ≡ (taken names.old name.now).0) }
-    ensures at { IfOk result (λ at. at ≡ (taken names.old name.now).1) }
+    ensures names { OnOk result (names.new ≡ (name_taken names.old name.now).0) }
+    ensures at { IfOk result (λ at. at ≡ (name_taken names.old name.now).1) }
 {
     let name = name.bytes();
     match place_of(names.as_slice(), name) {
@@ -117,7 +117,7 @@ fn take_slot(names: &mut SlotNames, name: &IdentWord) -> Result<usize, NoMemory>
 }
 
 // A draft stops long before there are more names than places.
-fn narrow(at: usize) -> Result<Place, NoMemory>
+fn narrow(at: usize) -> Result<NameIndex, NoMemory>
     ensures { IfOk result (λ place. place ≡ at) }
 {
     if at > u16::MAX as usize {
@@ -129,7 +129,7 @@ fn narrow(at: usize) -> Result<Place, NoMemory>
 impl Names {
     /// The place of a variable.
     #[inline(always)]
-    pub fn variable(&mut self, name: &IdentWord) -> Result<Place, NoMemory>
+    pub fn variable(&mut self, name: &IdentWord) -> Result<NameIndex, NoMemory>
         ensures names { OnOk result (self.new ≡ (variable self.old name.now).0) }
         ensures at { IfOk result (λ at. at ≡ (variable self.old name.now).1) }
     {
@@ -141,7 +141,7 @@ impl Names {
         &mut self,
         first: &IdentWord,
         second: &IdentWord,
-    ) -> Result<(Place, Place), NoMemory>
+    ) -> Result<(NameIndex, NameIndex), NoMemory>
         ensures names { OnOk result (self.new ≡ (placed_two self.old first.now second.now).0) }
         ensures at { IfOk result (λ at. at ≡ (placed_two self.old first.now second.now).1) }
     {
@@ -152,7 +152,7 @@ impl Names {
 
     /// The place of a slot.
     #[inline(always)]
-    pub fn slot(&mut self, name: &IdentWord) -> Result<Place, NoMemory>
+    pub fn slot(&mut self, name: &IdentWord) -> Result<NameIndex, NoMemory>
         ensures names { OnOk result (self.new ≡ (slot self.old name.now).0) }
         ensures at { IfOk result (λ at. at ≡ (slot self.old name.now).1) }
     {

@@ -2,7 +2,7 @@ ghost use Rattle.std.specs.Prelude.{◌≡◌, ◌≤◌, [], length, IfOk, IsEr
 ghost use Rattle.xc_data.specs.Limits.{KeepsLimits};
 ghost use Rattle.xc_text.specs.Refusals.{Reads};
 ghost use Rattle.xc_tokens.specs.Lines.{lines_of};
-ghost use Rattle.xc_text.specs.Said.{opening};
+ghost use Rattle.xc_text.specs.Said.{nothing_said};
 ghost use Rattle.xc_text.specs.Scripts.{parse_of, read_from, IsScript};
 
 use crate::draft::Draft;
@@ -28,7 +28,7 @@ fn close(draft: Draft, lines: u32) -> Result<Script, ParseErr>
 
 fn read_lines(alloc: Global, text: &Chunk) -> Result<Script, ParseErr>
     requires { length text.now ≤ 1048576 }
-    ensures { Reads result (read_from 0 opening (lines_of text.now)) }
+    ensures { Reads result (read_from 0 nothing_said (lines_of text.now)) }
 {
     let mut draft = Draft::new(alloc, text.share()?)?;
     let mut tokens = Vec::new(alloc);

@@ -7,8 +7,8 @@ ghost use Rattle.xc_tokens.specs.Views.{lexeme};
 use crate::limits::MOST_ITEMS;
 use crate::names::Names;
 use crate::places::place_item;
-use crate::script::{Data, Item, Place};
-use crate::source::Source;
+use crate::script::{Data, Item, NameIndex};
+use crate::source::SharedText;
 use crate::term::term_word;
 use std::alloc::Global;
 use xc_data::{Items, MOST_CALL_BYTES, NoMemory};
@@ -35,7 +35,11 @@ fn check_item(token: &Token) -> Result<(), Why>
 }
 
 #[inline(always)]
-fn item<'a>(alloc: Global, source: &Source, token: &Token<'a>) -> Result<Item<IdentWord<'a>>, Stop>
+fn item<'a>(
+    alloc: Global,
+    source: &SharedText,
+    token: &Token<'a>,
+) -> Result<Item<IdentWord<'a>>, Stop>
     ensures { Gives (λ item. item) result (item_of (lexeme token.now)) }
 {
     match token {
@@ -58,7 +62,7 @@ fn check_items(tokens: &[Token]) -> Result<(), Why>
 }
 
 // No item yet, and room for so many.
-fn room_for(alloc: Global, n: usize) -> Result<Data<Place>, NoMemory>
+fn room_for(alloc: Global, n: usize) -> Result<Data<NameIndex>, NoMemory>
     ensures { IfOk result (λ items. items ≡ []) }
 {
     Ok(Items::from_vec(Vec::with_capacity(alloc, n)?))
@@ -67,10 +71,10 @@ fn room_for(alloc: Global, n: usize) -> Result<Data<Place>, NoMemory>
 #[inline(always)]
 fn items(
     alloc: Global,
-    source: &Source,
+    source: &SharedText,
     names: &mut Names,
     tokens: &[Token],
-) -> Result<Data<Place>, Stop>
+) -> Result<Data<NameIndex>, Stop>
     requires good { IsOk (items_of (map lexeme tokens.now)) }
     ensures { Gives (λ items. (names.new, items)) result (seen (placed_data names.old) (items_of (map lexeme tokens.now))) }
 {
@@ -101,10 +105,10 @@ pub fn check_data(tokens: &[Token]) -> Result<(), Why>
 #[inline(always)]
 pub fn data(
     alloc: Global,
-    source: &Source,
+    source: &SharedText,
     names: &mut Names,
     tokens: &[Token],
-) -> Result<Data<Place>, Stop>
+) -> Result<Data<NameIndex>, Stop>
     requires good { IsOk (data_of (map lexeme tokens.now)) }
     ensures { Gives (λ items. (names.new, items)) result (seen (placed_data names.old) (data_of (map lexeme tokens.now))) }
 {

@@ -5,13 +5,13 @@ ghost use Rattle.xc_text.specs.Places.{placed_term, placed_expression, placed_ta
 ghost use Rattle.xc_text.specs.Places.{placed_item, placed_term_into};
 
 use crate::names::Names;
-use crate::script::{Expression, Item, Place, Term};
+use crate::script::{Expression, Item, NameIndex, Term};
 use xc_data::NoMemory;
 use xc_tokens::IdentWord;
 
 /// A term with the place of its variable or slot.
 #[inline(always)]
-pub fn place_term(names: &mut Names, term: &Term<IdentWord>) -> Result<Term<Place>, NoMemory>
+pub fn place_term(names: &mut Names, term: &Term<IdentWord>) -> Result<Term<NameIndex>, NoMemory>
     ensures names { OnOk result (names.new ≡ (placed_term names.old term.now).0) }
     ensures placed { IfOk result (λ placed. placed ≡ (placed_term names.old term.now).1) }
 {
@@ -27,7 +27,7 @@ pub fn place_term(names: &mut Names, term: &Term<IdentWord>) -> Result<Term<Plac
 pub fn place_expression(
     names: &mut Names,
     value: &Expression<IdentWord>,
-) -> Result<Expression<Place>, NoMemory>
+) -> Result<Expression<NameIndex>, NoMemory>
     ensures names { OnOk result (names.new ≡ (placed_expression names.old value.now).0) }
     ensures placed { IfOk result (λ placed. placed ≡ (placed_expression names.old value.now).1) }
 {
@@ -46,7 +46,10 @@ pub fn place_expression(
 
 /// The variable that a reply goes to.
 #[inline(always)]
-pub fn place_target(names: &mut Names, into: &Option<IdentWord>) -> Result<Option<Place>, NoMemory>
+pub fn place_target(
+    names: &mut Names,
+    into: &Option<IdentWord>,
+) -> Result<Option<NameIndex>, NoMemory>
     ensures names { OnOk result (names.new ≡ (placed_target names.old into.now).0) }
     ensures placed { IfOk result (λ placed. placed ≡ (placed_target names.old into.now).1) }
 {
@@ -60,7 +63,7 @@ pub fn place_target(names: &mut Names, into: &Option<IdentWord>) -> Result<Optio
 pub fn place_targets(
     names: &mut Names,
     into: &Option<(IdentWord, IdentWord)>,
-) -> Result<Option<(Place, Place)>, NoMemory>
+) -> Result<Option<(NameIndex, NameIndex)>, NoMemory>
     ensures names { OnOk result (names.new ≡ (placed_targets names.old into.now).0) }
     ensures placed { IfOk result (λ placed. placed ≡ (placed_targets names.old into.now).1) }
 {
@@ -71,7 +74,10 @@ pub fn place_targets(
 }
 
 /// The slot that the end of a late call goes to.
-pub fn place_ending(names: &mut Names, slot: &Option<IdentWord>) -> Result<Option<Place>, NoMemory>
+pub fn place_ending(
+    names: &mut Names,
+    slot: &Option<IdentWord>,
+) -> Result<Option<NameIndex>, NoMemory>
     ensures names { OnOk result (names.new ≡ (placed_ending names.old slot.now).0) }
     ensures placed { IfOk result (λ placed. placed ≡ (placed_ending names.old slot.now).1) }
 {
@@ -83,7 +89,7 @@ pub fn place_ending(names: &mut Names, slot: &Option<IdentWord>) -> Result<Optio
 
 /// A part of the data with the place of its variable or slot.
 #[inline(always)]
-pub fn place_item(names: &mut Names, item: Item<IdentWord>) -> Result<Item<Place>, NoMemory>
+pub fn place_item(names: &mut Names, item: Item<IdentWord>) -> Result<Item<NameIndex>, NoMemory>
     ensures names { OnOk result (names.new ≡ (placed_item names.old item.entry).0) }
     ensures placed { IfOk result (λ placed. placed ≡ (placed_item names.old item.entry).1) }
 {
@@ -100,7 +106,7 @@ pub fn place_term_into(
     names: &mut Names,
     term: &Term<IdentWord>,
     into: &Option<IdentWord>,
-) -> Result<(Term<Place>, Option<Place>), NoMemory>
+) -> Result<(Term<NameIndex>, Option<NameIndex>), NoMemory>
     ensures names { OnOk result (names.new ≡ (placed_term_into names.old term.now into.now).0) }
     ensures placed { IfOk result (λ placed. placed ≡ (placed_term_into names.old term.now into.now).1) }
 {

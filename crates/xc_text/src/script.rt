@@ -187,7 +187,7 @@ pub enum Statement<N> {
 }
 
 /// The place of a variable or of a slot among the names of a script.
-pub type Place = u16;
+pub type NameIndex = u16;
 
 /// The statements of one transaction, in order.
 pub type Body = Items<KeptStatement>;
@@ -210,7 +210,7 @@ pub struct Script {
     /// The names of its slots, likewise.
     pub slots: SlotNames,
     /// The variables that each job has the prologue's handles in, by the numbers of the handles.
-    pub handles: Items<Place>,
+    pub handles: Items<NameIndex>,
 }
 
 impl Script {

@@ -2,7 +2,7 @@
 
 ghost use Rattle.std.specs.Prelude.{◌≡◌, ◌∷◌, [], map, IfOk};
 ghost use Rattle.xc_tokens.specs.Answers.{Gives};
-ghost use Rattle.xc_text.specs.Shapes.{bare as bare_said, alone, led, target as target_said, slot_ending as slot_ending_said};
+ghost use Rattle.xc_text.specs.Shapes.{no_tokens as bare_said, alone, led, target as target_said, slot_ending as slot_ending_said};
 ghost use Rattle.xc_text.specs.Shapes.{parted as parted_said, two_targets as two_targets_said};
 ghost use Rattle.xc_text.specs.Terms.{term as term_said, expression_of};
 ghost use Rattle.xc_tokens.specs.Views.{lexeme};

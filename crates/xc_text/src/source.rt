@@ -9,16 +9,16 @@ use xc_tokens::repeated;
 
 /// The text of a script while it is read. A literal that ends its line, as most do, shares it and has no bytes of its own.
 #[derive(Drop)]
-pub struct Source {
+pub struct SharedText {
     text: Chunk,
     /// How many bytes stand after the line under way.
     behind: usize,
 }
 
-impl Source {
+impl SharedText {
     /// No line is under way.
-    pub fn new(text: Chunk) -> Source {
-        Source { text, behind: 0 }
+    pub fn new(text: Chunk) -> SharedText {
+        SharedText { text, behind: 0 }
     }
 
     /// The next line is under way.

@@ -2,7 +2,7 @@
 
 ghost use Rattle.std.specs.Prelude.{◌≡◌, map};
 ghost use Rattle.xc_text.specs.Pieces.{data_of};
-ghost use Rattle.xc_text.specs.Places.{written_of, written_with_slot_of};
+ghost use Rattle.xc_text.specs.Places.{placed_write, written_with_slot_of};
 ghost use Rattle.xc_text.specs.Shapes.{led, before_slot};
 ghost use Rattle.xc_tokens.specs.Answers.{Gives, seen};
 ghost use Rattle.xc_tokens.specs.Views.{lexeme};
@@ -11,9 +11,9 @@ ghost use Rattle.xc_tokens.specs.Words.{ident as ident_said};
 use crate::names::Names;
 use crate::pieces::{check_data, data};
 use crate::places::place_ending;
-use crate::script::{Data, Place};
+use crate::script::{Data, NameIndex};
 use crate::shapes::{parted, slot_ending};
-use crate::source::Source;
+use crate::source::SharedText;
 use std::alloc::Global;
 use xc_tokens::{Stop, Token, Why, beside, both, ident_token};
 
@@ -21,12 +21,12 @@ use xc_tokens::{Stop, Token, Why, beside, both, ident_token};
 #[inline(always)]
 pub fn written(
     alloc: Global,
-    source: &Source,
+    source: &SharedText,
     names: &mut Names,
     tokens: &[Token],
-) -> Result<(Place, Data<Place>), Stop>
+) -> Result<(NameIndex, Data<NameIndex>), Stop>
     ensures { Gives (λ written. (names.new, written)) result
-        (seen (written_of names.old) (led ident_said data_of (map lexeme tokens.now))) }
+        (seen (placed_write names.old) (led ident_said data_of (map lexeme tokens.now))) }
 {
     match tokens {
         [] => Err(Stop::Refused(Why::BadForm)),
@@ -42,10 +42,10 @@ pub fn written(
 /// `H D`, `H D slot S`
 pub fn written_with_slot(
     alloc: Global,
-    source: &Source,
+    source: &SharedText,
     names: &mut Names,
     tokens: &[Token],
-) -> Result<((Place, Data<Place>), Option<Place>), Stop>
+) -> Result<((NameIndex, Data<NameIndex>), Option<NameIndex>), Stop>
     ensures { Gives (λ written. (names.new, written)) result
         (seen (written_with_slot_of names.old) (led ident_said (before_slot data_of) (map lexeme tokens.now))) }
 {

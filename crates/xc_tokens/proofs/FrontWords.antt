@@ -75,10 +75,10 @@ word_read text len at start end begins ends some within plain few =
     ∙ ap₂ (λ w r. Ok (Some (Word w, r))) bytes behind
 
 -- a place among 16 lanes where blanks end, and where what begins there goes on
-pub starts : (text : List ℕ) (len at start : ℕ) → length (take 16 text) ≡ 16 → at ≤ 16 → start ≡ at + prefix_len is_blank (drop at (take 16 text)) →
+pub token_starts : (text : List ℕ) (len at start : ℕ) → length (take 16 text) ≡ 16 → at ≤ 16 → start ≡ at + prefix_len is_blank (drop at (take 16 text)) →
     start < 16 → start < len →
     (start ≡ at + prefix_len is_blank (drop at (take len text))) × (0 < prefix_len (λ b. not (is_blank b)) (drop start (take 16 text)))
-starts text len at start long few begins shown_there inside =
+token_starts text len at start long few begins shown_there inside =
     let lanes = take 16 text in
     let same = run_within is_blank at 16 len text few (omega (arith, begins, inside)) (omega (arith, begins, shown_there)) (omega (arith, begins, inside)) in
     let place : drop (prefix_len is_blank (drop at lanes)) (drop at lanes) ≡ drop start lanes =
@@ -93,7 +93,7 @@ pub word_before_blank : (text : List ℕ) (len at start end : ℕ) → length (t
     IsWordAt text len at start end
 word_before_blank text len at start end long few begins ends inside plain =
     let bound = prefix_len-le-length (λ b. not (is_mark b)) (take 16 text) in
-    let begin = starts text len at start long few begins (omega (arith, ends, plain, bound, long)) (omega (arith, ends, inside)) in
+    let begin = token_starts text len at start long few begins (omega (arith, ends, plain, bound, long)) (omega (arith, ends, inside)) in
     let same = run_within (λ b. not (is_blank b)) start 16 len text (omega (arith, ends, plain, bound, long)) (omega (arith, ends, inside))
     (omega (arith, ends, plain, bound, long)) (omega (arith, ends, inside)) in
     word_read text len at start end begin.0 (ends ∙ ap (λ n. start + n) (sym same)) (omega (arith, ends, begin.1)) (omega (arith, inside))
@@ -106,14 +106,14 @@ pub word_at_end : (text : List ℕ) (len at start : ℕ) → length (take 16 tex
     IsWordAt text len at start len
 word_at_end text len at start long few begins inside past plain =
     let bound = prefix_len-le-length (λ b. not (is_mark b)) (take 16 text) in
-    let begin = starts text len at start long few begins (omega (arith, inside, plain, bound, long)) inside in
+    let begin = token_starts text len at start long few begins (omega (arith, inside, plain, bound, long)) inside in
     let few_before : start ≤ 16 = omega (arith, inside, plain, bound, long) in
     let end = run_past (λ b. not (is_blank b)) start 16 len text few_before (omega (arith, inside)) past in
     word_read text len at start len begin.0 end (omega (arith, inside)) (omega arith) plain (omega (arith, plain, bound, long))
 
 -- what stands after a word is shorter than what stood before it
-pub shorter : (text : List ℕ) (len at end : ℕ) → len ≤ length text → at < end → end ≤ len →
+pub rest_shorter : (text : List ℕ) (len at end : ℕ) → len ≤ length text → at < end → end ≤ len →
     length (drop end (take len text)) < length (drop at (take len text))
-shorter text len at end room more within =
+rest_shorter text len at end room more within =
     let line = take len text in
     omega (arith, length-drop end line, length-drop at line, length-take-le len text room, more, within)

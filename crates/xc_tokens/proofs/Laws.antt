@@ -3,6 +3,6 @@
 -- what the rest of a literal means, after what it meant so far
 pub use Rattle.xc_tokens.proofs.Quotes.{behind_bytes}
 -- bytes are their first one and the others
-pub use Rattle.xc_tokens.proofs.Quotes.{whole}
+pub use Rattle.xc_tokens.proofs.Quotes.{first_and_rest}
 -- a piece more of a literal
 pub use Rattle.xc_tokens.proofs.Quotes.{read_on}

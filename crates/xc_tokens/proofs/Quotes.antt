@@ -15,9 +15,9 @@ behind_one_more meant b (Some (rest, behind)) = ap (λ bs. Some (bs, behind)) (a
 behind_one_more meant b None = refl
 
 -- bytes are their first one and the others
-pub whole : (bs : List ℕ) → 0 < length bs → get_or bs 0 0 ∷ take (length bs - 1) (drop 1 bs) ≡ bs
-whole [] some = absurd (omega arith)
-whole (b ∷ bs) some = ap (λ cs. b ∷ cs) (take_all (length (b ∷ bs) - 1) bs (omega arith))
+pub first_and_rest : (bs : List ℕ) → 0 < length bs → get_or bs 0 0 ∷ take (length bs - 1) (drop 1 bs) ≡ bs
+first_and_rest [] some = absurd (omega arith)
+first_and_rest (b ∷ bs) some = ap (λ cs. b ∷ cs) (take_all (length (b ∷ bs) - 1) bs (omega arith))
 
 -- a piece more of a literal
 pub read_on : (meant : List ℕ) (b : ℕ) (rest next : List ℕ) (all : Option (List ℕ × List ℕ)) → behind_bytes meant (literal_of rest) ≡ all →
@@ -25,18 +25,18 @@ pub read_on : (meant : List ℕ) (b : ℕ) (rest next : List ℕ) (all : Option 
 read_on meant b rest next all e piece = behind_one_more meant b (literal_of next) ∙ ap (behind_bytes meant) piece ∙ e
 
 -- a literal after so many bytes: how many it means in all, and what stands after it
-abbrev pub counted : ℕ → Option (List ℕ × List ℕ) → Option (ℕ × List ℕ)
-counted n (Some p) = Some (n + length p.0, p.1)
-counted n None = None
+abbrev pub counted_literal : ℕ → Option (List ℕ × List ℕ) → Option (ℕ × List ℕ)
+counted_literal n (Some p) = Some (n + length p.0, p.1)
+counted_literal n None = None
 
-one_counted : (n b : ℕ) (read : Option (List ℕ × List ℕ)) → counted (n + 1) read ≡ counted n (then_rest b read)
+one_counted : (n b : ℕ) (read : Option (List ℕ × List ℕ)) → counted_literal (n + 1) read ≡ counted_literal n (then_rest b read)
 one_counted n b (Some (rest, behind)) = ap (λ m. Some (m, behind)) (omega arith)
 one_counted n b None = refl
 
 -- a piece more is one byte more
-pub count_on : (n b : ℕ) (rest next : List ℕ) (all : Option (ℕ × List ℕ)) → counted n (literal_of rest) ≡ all →
-    then_rest b (literal_of next) ≡ literal_of rest → counted (n + 1) (literal_of next) ≡ all
-count_on n b rest next all e piece = one_counted n b (literal_of next) ∙ ap (counted n) piece ∙ e
+pub count_on : (n b : ℕ) (rest next : List ℕ) (all : Option (ℕ × List ℕ)) → counted_literal n (literal_of rest) ≡ all →
+    then_rest b (literal_of next) ≡ literal_of rest → counted_literal (n + 1) (literal_of next) ≡ all
+count_on n b rest next all e piece = one_counted n b (literal_of next) ∙ ap (counted_literal n) piece ∙ e
 
 closed_first : (b : ℕ) (bs : List ℕ) → b ≡ 34 → literal_of (b ∷ bs) ≡ Some ([], bs)
 closed_first b bs quote = grind (arith, quote)
@@ -61,9 +61,9 @@ closed (b ∷ bs) (suc n) is within quote =
     goes_on b bs n (is_itself b) refl is (λ next. closed bs n next (omega arith) quote)
 
 -- bytes that mean themselves up to a quote are a literal
-pub closes : (bs : List ℕ) (n : ℕ) → n ≡ prefix_len is_itself bs → n < length bs → get_or bs n 0 ≡ 34 →
+pub quote_closes : (bs : List ℕ) (n : ℕ) → n ≡ prefix_len is_itself bs → n < length bs → get_or bs n 0 ≡ 34 →
     literal_of bs ≡ Some (take n bs, drop (n + 1) bs)
-closes bs n is within quote = rw add-one (closed bs n is within quote)
+quote_closes bs n is within quote = rw add-one (closed bs n is within quote)
 
 same_measure : (p q : ℕ × List ℕ) → ◌≡◌ {A = Option (ℕ × List ℕ)} (Some p) (Some q) → p ≡ q
 same_measure p q e = cc

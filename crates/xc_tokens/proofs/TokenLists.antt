@@ -52,9 +52,9 @@ makes_all line =
     (omega arith, ap (λ n. seen (λ (ts : List Lexeme). [] ++ ts) (first_tokens n line)) whole ∙ seen_same (tokens_of line))
 
 -- what is left of a line of a text after the words that were read in front of it
-pub left_of : (before : List Lexeme) (line : List ℕ) (tokens : List Lexeme) (text : List ℕ) (n at : ℕ) → line ≡ take n text → at ≤ n →
+pub line_left : (before : List Lexeme) (line : List ℕ) (tokens : List Lexeme) (text : List ℕ) (n at : ℕ) → line ≡ take n text → at ≤ n →
     ReadOn before (take n text) tokens (drop at (take n text)) → ReadOn before line tokens (take (n - at) (drop at text))
-left_of before line tokens text n at is within read =
+line_left before line tokens text n at is within read =
     rw is (subst (λ rest. ReadOn before (take n text) tokens rest) (window at n text within) read)
 
 -- a word more of those that are read in front
@@ -102,11 +102,11 @@ next_length ts us rest (Ok None) made =
 next_length ts us rest (Err why) made = cc
 
 -- what stops at the next token stops at all of them
-pub stopped : (stops : Stop) (ts : List Lexeme) (n : ℕ) (bs : List ℕ) (all : Result (List Lexeme) Why) →
+pub tokens_stopped : (stops : Stop) (ts : List Lexeme) (n : ℕ) (bs : List ℕ) (all : Result (List Lexeme) Why) →
     length bs ≤ n → seen (λ (us : List Lexeme). ts ++ us) (first_tokens n bs) ≡ all →
     Stops stops (seen (with_next ts) (token_at (past_blanks bs))) → Stops stops all
-stopped stop.NoMemory ts n bs all few e bad = tt
-stopped (stop.Refused why) ts n bs all few e bad = by_next (token_at (past_blanks bs)) refl bad
+tokens_stopped stop.NoMemory ts n bs all few e bad = tt
+tokens_stopped (stop.Refused why) ts n bs all few e bad = by_next (token_at (past_blanks bs)) refl bad
   where
     by_next : (next : Result (Option (Lexeme × List ℕ)) Why) → token_at (past_blanks bs) ≡ next → seen (with_next ts) next ≡ Err why → all ≡ Err why
     by_next (Ok (Some p)) is bad' = cc
@@ -116,9 +116,9 @@ stopped (stop.Refused why) ts n bs all few e bad = by_next (token_at (past_blank
         sym e ∙ ap (seen (λ (us : List Lexeme). ts ++ us)) (one_bad n bs why few (is ∙ ap Err same))
 
 -- no token is left after these
-pub ended : (ts us : List Lexeme) (n : ℕ) (bs : List ℕ) (all : Result (List Lexeme) Why) →
+pub tokens_ended : (ts us : List Lexeme) (n : ℕ) (bs : List ℕ) (all : Result (List Lexeme) Why) →
     seen (λ (vs : List Lexeme). ts ++ vs) (first_tokens n bs) ≡ all → Ok (us, None) ≡ seen (with_next ts) (token_at (past_blanks bs)) → all ≡ Ok us
-ended ts us n bs all e made = by_next (token_at (past_blanks bs)) refl made
+tokens_ended ts us n bs all e made = by_next (token_at (past_blanks bs)) refl made
   where
     by_next : (next : Result (Option (Lexeme × List ℕ)) Why) → token_at (past_blanks bs) ≡ next → Ok (us, None) ≡ seen (with_next ts) next → all ≡ Ok us
     by_next (Ok (Some p)) is made' =

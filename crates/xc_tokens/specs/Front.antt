@@ -20,7 +20,7 @@ abbrev pub line_in : InText → List ℕ
 line_in t = take t.len t.text
 
 -- what 16 lanes tell of a text and of the line in front of it that is so long
-pub record IsFront (text : List ℕ) (len blanks others unmarked : ℕ) : Type 0 where
+pub record IsLineFront (text : List ℕ) (len blanks others unmarked : ℕ) : Type 0 where
   pub room : 16 ≤ length text
   pub within : len ≤ length text
   pub blank : blanks ≡ mask_l (map is_blank (take 16 text))

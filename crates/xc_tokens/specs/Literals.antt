@@ -16,12 +16,12 @@ given (Word word) = []
 given (Literal meant times) = repeat times meant
 
 -- the bytes of all literals, in order
-abbrev pub joined : List Lexeme → List ℕ
-joined tokens = flat_map given tokens
+abbrev pub literal_bytes : List Lexeme → List ℕ
+literal_bytes tokens = flat_map given tokens
 
 -- the literals give at most so many bytes
 abbrev pub is_within : ℕ → List Lexeme → Bool
-is_within most tokens = nat_le (length (joined tokens)) most
+is_within most tokens = nat_le (length (literal_bytes tokens)) most
 
 -- no token is a word
 abbrev pub only_literals : List Lexeme → Result (Unit {0}) Why
@@ -29,4 +29,4 @@ only_literals tokens = if list_all is_literal tokens then Ok tt else Err BadForm
 
 -- the bytes of all literals, none where there are more than so many
 abbrev pub contents : ℕ → List Lexeme → Option (List ℕ)
-contents most tokens = if is_within most tokens then Some (joined tokens) else None
+contents most tokens = if is_within most tokens then Some (literal_bytes tokens) else None

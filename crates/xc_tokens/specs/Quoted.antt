@@ -32,8 +32,8 @@ abbrev pub is_escape : ℕ → Bool
 is_escape b = (b == 110) || (b == 34) || (b == 92)
 
 -- what such an escape means: `\n` is the byte 10, and the others are themselves
-abbrev pub escaped : ℕ → ℕ
-escaped b = if b == 110 then 10 else b
+abbrev pub escape_meaning : ℕ → ℕ
+escape_meaning b = if b == 110 then 10 else b
 
 -- a byte of a literal that means itself: no quote and no `\`
 abbrev pub is_itself : ℕ → Bool
@@ -57,7 +57,7 @@ abbrev mutual
   pub escape_of : List ℕ → Option (List ℕ × List ℕ)
   escape_of [] = None
   escape_of (b ∷ bs) =
-      if is_escape b then then_rest (escaped b) (literal_of bs)
+      if is_escape b then then_rest (escape_meaning b) (literal_of bs)
       else if b == 120 then hex_of bs
       else None
 

@@ -17,8 +17,8 @@ is_sign (Word word) text = spells word text
 is_sign (Literal meant times) text = false
 
 -- the number that a word spells
-abbrev pub number_in : List ℕ → Result ℕ Why
-number_in word = ok_or (number_of word) BadNumber
+abbrev pub number_spelled : List ℕ → Result ℕ Why
+number_spelled word = ok_or (number_of word) BadNumber
 
 -- the identifier that a word spells
 abbrev pub ident_in : List ℕ → Result (List ℕ) Why
@@ -30,7 +30,7 @@ name_in word = if is_name word then Ok word else Err BadName
 
 -- every word in the place of a number is meant as one
 abbrev pub number : Lexeme → Result ℕ Why
-number (Word word) = number_in word
+number (Word word) = number_spelled word
 number (Literal meant times) = Err BadForm
 
 -- every word in the place of an identifier is meant as one

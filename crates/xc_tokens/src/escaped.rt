@@ -1,7 +1,7 @@
 //! Literals with escapes.
 
 ghost use Rattle.std.specs.Prelude.{◌≡◌, ◌≤◌, ◌<◌, ◌+◌, ◌^◌, ◌∷◌, ◌==◌, false, length, option_map, Some, None, IfSome, IfNone, IfOk};
-ghost use Rattle.xc_tokens.specs.Quoted.{is_hex, is_escape, escaped, digit_value, hex_byte};
+ghost use Rattle.xc_tokens.specs.Quoted.{is_hex, is_escape, escape_meaning, digit_value, hex_byte};
 ghost use Rattle.xc_tokens.specs.Quoted.{literal_of, escape_of, hex_of, measured as measured_of};
 ghost use Rattle.xc_tokens.specs.Views.{behind_piece};
 
@@ -40,7 +40,7 @@ fn is_escape_byte(b: u8) -> bool
 }
 
 fn escaped_byte(b: u8) -> u8
-    ensures { result ≡ escaped b }
+    ensures { result ≡ escape_meaning b }
 {
     if b == b'n' { b'\n' } else { b }
 }

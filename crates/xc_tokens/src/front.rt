@@ -26,13 +26,13 @@ pub struct Front<'a> {
 }
 
 impl<'a> Model for Front<'a> {
-    ghost use Rattle.xc_tokens.specs.Front.{IsFront, InText};
+    ghost use Rattle.xc_tokens.specs.Front.{IsLineFront, InText};
 
     ghost Value = { InText };
 
     ghost view = { λ a. record { text = a.text.now; len = a.len } };
 
-    ghost invariant = { λ a. IsFront a.text.now a.len a.blanks a.others a.unmarked };
+    ghost invariant = { λ a. IsLineFront a.text.now a.len a.blanks a.others a.unmarked };
 }
 
 // Where blanks stand among the first bytes.

@@ -1,6 +1,7 @@
 ghost use Rattle.std.specs.Prelude.{◌≡◌, ◌<◌, ◌^◌, ◌++◌, ◌∷◌, [], length, map, IfOk, OnOk};
 ghost use Rattle.std.specs.List.{list_all, repeat as repeat_of_list};
-ghost use Rattle.xc_tokens.specs.Literals.{is_literal as is_literal_token, given, joined as joined_literals, is_within as is_within_bound};
+ghost use Rattle.xc_tokens.specs.Literals.{is_literal as is_literal_token, given, literal_bytes as joined_literals};
+ghost use Rattle.xc_tokens.specs.Literals.{is_within as is_within_bound};
 ghost use Rattle.xc_tokens.specs.Literals.{contents as contents_said};
 ghost use Rattle.xc_tokens.specs.Views.{lexeme};
 

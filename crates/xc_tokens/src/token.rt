@@ -133,9 +133,9 @@ fn past_repeat(bytes: &[u8]) -> Option<(u32, &[u8])>
 }
 
 // The bytes of a literal that mean themselves.
-struct PlainBytes;
+struct LiteralBytes;
 
-impl ByteKind for PlainBytes {
+impl ByteKind for LiteralBytes {
     ghost has = { is_itself };
 
     fn is(byte: u8) -> bool {
@@ -179,7 +179,7 @@ fn literal<'a>(bytes: &'a [u8]) -> Option<(Token<'a>, &'a [u8])>
     ensures value { ok_or (option_map (λ p. (lexeme p.0, p.1.now)) result) BadLiteral ≡ literal_from bytes.now }
     ensures fewer { IfSome result (λ p. length p.1.now ≤ length bytes.now) }
 {
-    let n = front_len::<PlainBytes>(bytes);
+    let n = front_len::<LiteralBytes>(bytes);
     if n == bytes.len() || bytes[n] != b'"' {
         return escaped_literal(bytes);
     }

@@ -1,6 +1,6 @@
 ghost use Rattle.std.specs.Prelude.{◌≡◌};
 ghost use Rattle.xc_tokens.specs.Views.{lexeme};
-ghost use Rattle.xc_tokens.specs.Words.{spells as is_spelled, is_sign as is_sign_of, number as number_of_token, number_in};
+ghost use Rattle.xc_tokens.specs.Words.{spells as is_spelled, is_sign as is_sign_of, number as number_of_token, number_spelled};
 ghost use Rattle.xc_tokens.specs.Words.{ident as ident_of_token, ident_in, name as name_of_token, name_in};
 
 use crate::numbers::spelled_number;
@@ -40,7 +40,7 @@ pub fn is_sign(token: &Token, text: &[u8]) -> bool
 /// The number that a word spells.
 #[inline(always)]
 pub fn number_word(word: &[u8]) -> Result<u64, Why>
-    ensures { result ≡ number_in word.now }
+    ensures { result ≡ number_spelled word.now }
 {
     match spelled_number(word) {
         Some(n) => Ok(n),

@@ -16,7 +16,7 @@ use Rattle.xc_world.specs.Fits.{late_answer_of}
 use Rattle.xc_world.specs.Late.{late}
 use Rattle.xc_world.specs.Run.{lates, late_asked_of}
 use Rattle.xc_world.specs.World.{World}
-use Rattle.xc_model.specs.Accounted.{Account, AreAccounted, AreLateEnds, HasCause, IsAccounted, IsLateEnd, account_of, own_part, own_scene, progress_before}
+use Rattle.xc_model.specs.Accounted.{Account, AreAccounted, AreLateEnds, CauseHolds, IsAccounted, IsLateEnd, account_of, own_part, own_scene, progress_before}
 use Rattle.xc_model.specs.Asked.{ScriptJob, lasts_from, next_of}
 use Rattle.xc_model.specs.EntryEnds.{IsCauseOf, cause_in}
 use Rattle.xc_model.specs.Grounds.{Part, IsGrounded, scene_of}
@@ -52,7 +52,7 @@ module _ (a : Account) where
   HasGround c = IsGrounded (own_scene a) a.place (own_part a) c
 
   cause_accounts : (records : List Ending) (c : Cause) → IsCauseOf c a.next
-      → IsStuckIn (saved_records (all_records no_records a.entry.calls a.entry.replies)) 1 records c → HasGround (Some c) → HasCause a records c
+      → IsStuckIn (saved_records (all_records no_records a.entry.calls a.entry.replies)) 1 records c → HasGround (Some c) → CauseHolds a records c
   cause_accounts records (cause.Stuck failed) caused stuck ground = (caused, stuck)
   cause_accounts records cause.Asked caused stuck ground = caused
   cause_accounts records (cause.Conflict object holder at) caused stuck ground = (caused, ground)

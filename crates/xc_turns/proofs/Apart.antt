@@ -18,7 +18,7 @@ use Rattle.xc_turns.proofs.Jobs.{active_is, active_before}
 use Rattle.xc_turns.proofs.HeldClaims.{GoesWith, either_way, goes_all, once_all}
 use Rattle.xc_turns.proofs.Grown.{apart_grown}
 use Rattle.xc_turns.proofs.KindsOfTurns.{HoldsOn, Kind, rests, begins, moves, stays, enters}
-use Rattle.xc_turns.proofs.TurnKinds.{kind_of}
+use Rattle.xc_turns.proofs.TurnKinds.{row_kind}
 
 -- ---- one job changed
 -- its transaction may stand in this place beside the others
@@ -119,4 +119,4 @@ kind_apart s at old new job stands apart (enters k) =
 
 -- a turn keeps apart what active transactions hold
 pub apart_kept : (s : Setting) (at : ℕ) (old new : Moment) (answer : Turn) → IsTurn s at old answer new → AreApart old.jobs → AreApart new.jobs
-apart_kept s at old new answer t apart = kind_apart s at old new t.job t.there apart (kind_of s at old new answer t)
+apart_kept s at old new answer t apart = kind_apart s at old new t.job t.there apart (row_kind s at old new answer t)

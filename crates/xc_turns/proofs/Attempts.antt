@@ -15,8 +15,8 @@ use Rattle.xc_model.specs.Stories.{StoriesHold, IsDoing}
 use Rattle.xc_model.specs.Progress.{Following}
 use Rattle.xc_turns.proofs.Lists.{get_beside}
 use Rattle.xc_turns.proofs.StoryEntries.{entry_following}
-use Rattle.xc_turns.proofs.KindsOfTurns.{Enters, Kind, enters, begins, moves, rests, stays}
-use Rattle.xc_turns.proofs.TurnKinds.{kind_of}
+use Rattle.xc_turns.proofs.KindsOfTurns.{EntersJournal, Kind, enters, begins, moves, rests, stays}
+use Rattle.xc_turns.proofs.TurnKinds.{row_kind}
 
 left_from : (s : Setting) (p : Progress) (journal : List Entry) (e : Entry) → HaveAttemptsLeft s p journal
     → HasAttemptLeft s (following_of (fold (after_entry s.script) p journal) e) → HaveAttemptsLeft s p (journal ++ e ∷ [])
@@ -31,7 +31,7 @@ doing_left s begun f job (Active t) tx active doing = doing.attempts
 doing_left s begun f job Starved tx active doing = cc
 doing_left s begun f job (Ended end) tx active doing = cc
 
-enters_left : (s : Setting) (at : ℕ) (old new : Moment) (job : JobView) → slice_get old.jobs at ≡ Some job → Enters at old job new
+enters_left : (s : Setting) (at : ℕ) (old new : Moment) (job : JobView) → slice_get old.jobs at ≡ Some job → EntersJournal at old job new
     → StoriesHold s (length old.words) old.marks old.journal old.jobs
     → HaveAttemptsLeft s (opening_progress s.script) old.journal → HaveAttemptsLeft s (opening_progress s.script) new.journal
 enters_left s at old new job stands e told have =
@@ -57,4 +57,4 @@ pub turn_leaves_attempts : (s : Setting) (at : ℕ) (old new : Moment) (answer :
     → StoriesHold s (length old.words) old.marks old.journal old.jobs
     → HaveAttemptsLeft s (opening_progress s.script) old.journal → HaveAttemptsLeft s (opening_progress s.script) new.journal
 turn_leaves_attempts s at old new answer turned told have =
-    kind_left s at old new turned.job turned.there (kind_of s at old new answer turned) told have
+    kind_left s at old new turned.job turned.there (row_kind s at old new answer turned) told have

@@ -11,7 +11,7 @@ use Rattle.xc_data.specs.declared.entry.Cause.TheVariants as cause
 use Rattle.xc_data.specs.declared.entry.Entry.{Entry}
 use Rattle.xc_data.specs.declared.entry.JobLine.{JobLine}
 use Rattle.xc_data.specs.declared.entry.Mark.{Mark}
-use Rattle.xc_data.specs.declared.script.Kind.{Kind}
+use Rattle.xc_data.specs.declared.script.HostCallKind.{HostCallKind}
 use Rattle.xc_host.specs.Cause.{times}
 use Rattle.xc_text.specs.declared.script.Script.{Script}
 use Rattle.xc_model.specs.Setting.{Setting}
@@ -134,7 +134,7 @@ all_logged tells log active none g =
 
 -- ---- the journal
 -- where each job has ended the journal is true, both parts of an entry at once
-joint_true : (s : Setting) (words : ℕ) (marks : ℕ → Option Mark) (journal : List Entry) (jobs : List JobView) (calls : Kind → ℕ)
+joint_true : (s : Setting) (words : ℕ) (marks : ℕ → Option Mark) (journal : List Entry) (jobs : List JobView) (calls : HostCallKind → ℕ)
     → (lines : List JobLine)
     → StoriesHold s words marks journal jobs → HandlesAgree s.script journal jobs calls
     → AreLinesOf jobs lines → IsJointJournal s journal
@@ -153,7 +153,7 @@ joint_true s words marks journal jobs calls lines told handled are =
     }
 
 -- so it is true of the machine, and asked by the script
-pub journal_true : (s : Setting) (words : ℕ) (marks : ℕ → Option Mark) (journal : List Entry) (jobs : List JobView) (calls : Kind → ℕ)
+pub journal_true : (s : Setting) (words : ℕ) (marks : ℕ → Option Mark) (journal : List Entry) (jobs : List JobView) (calls : HostCallKind → ℕ)
     → (lines : List JobLine)
     → StoriesHold s words marks journal jobs → HandlesAgree s.script journal jobs calls
     → AreLinesOf jobs lines → IsTrueJournal s journal
@@ -161,7 +161,7 @@ journal_true s words marks journal jobs calls lines told handled are =
     parts_of_joint s journal (joint_true s words marks journal jobs calls lines told handled are)
 
 -- the host was called by its entries, and by nothing else
-pub calls_true : (script : Script) (journal : List Entry) (jobs : List JobView) (calls : Kind → ℕ) (lines : List JobLine)
+pub calls_true : (script : Script) (journal : List Entry) (jobs : List JobView) (calls : HostCallKind → ℕ) (lines : List JobLine)
     → HandlesAgree script journal jobs calls → AreLinesOf jobs lines → AreCalled script journal calls
 calls_true script journal jobs calls lines handled are =
     record {
@@ -207,8 +207,8 @@ ends_told s words marks journal jobs lines told are =
 
 -- ---- the words
 -- where each job has ended the words are those that the journal left
-pub words_left : (before words : List ℕ) (jobs : List JobView) (lines : List JobLine) → WordsAgree before words jobs → AreLinesOf jobs lines
+pub words_are_left : (before words : List ℕ) (jobs : List JobView) (lines : List JobLine) → WordsAgree before words jobs → AreLinesOf jobs lines
     → words ≡ before
-words_left before words jobs lines spoken are =
+words_are_left before words jobs lines spoken are =
     ext_get_or 0 words before spoken.count
     (λ k less. spoken.others k (omega (arith, spoken.count)) (λ j tx w. none_there jobs lines are j tx w.active))

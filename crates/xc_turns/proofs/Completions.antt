@@ -18,12 +18,13 @@ use Rattle.xc_text.specs.declared.script.Script.{Script}
 use Rattle.xc_script.specs.Ask.{Job, fresh_job, block_place, next_body, transactions_at}
 use Rattle.xc_model.specs.Setting.{Setting}
 use Rattle.xc_script.specs.Blocks.{kept_calls}
-use Rattle.xc_model.specs.Progress.{Following, Progress, untried, opening_progress, progress_of, started_blocks, started_job, following_abort, committed_job}
-use Rattle.xc_model.specs.Progress.{after_entry, after_following, after_outcome, following_of, with_job}
+use Rattle.xc_model.specs.Progress.{Following, Progress, untried, opening_progress, progress_of, started_blocks, started_following, following_abort}
+use Rattle.xc_model.specs.Progress.{committed_job}
+use Rattle.xc_model.specs.Progress.{after_entry, after_following, after_outcome, following_of, with_following}
 use Rattle.xc_model.specs.EntryEnds.{is_tried_again}
 use Rattle.xc_model.specs.Joint.{AreTrue}
 use Rattle.xc_model.specs.Serial.{is_asked, is_final}
-use Rattle.xc_model.specs.Ending.{AreEnds, IsEnd, IsComplete, all_done, is_done, is_final_or_tried_again, transactions_of_jobs}
+use Rattle.xc_model.specs.Ending.{AreEnds, IsEnd, IsComplete, all_done, is_done_end, is_final_or_tried_again, transactions_of_jobs}
 use Rattle.xc_turns.proofs.Lists.{sum_set_place}
 
 -- ---- what holds of each
@@ -79,7 +80,7 @@ abbrev one_if : Bool → ℕ
 one_if b = cond b 1 0
 
 cause_passes : (p : Progress) (f : Following) (e : Entry) (c : Cause) → following_of p e ≡ Some f
-    → passed_by (with_job p.jobs e.job (following_abort p.entered f e c)) ≡ passed_by p.jobs + one_if (is_asked c)
+    → passed_by (with_following p.jobs e.job (following_abort p.entered f e c)) ≡ passed_by p.jobs + one_if (is_asked c)
 cause_passes p f e (cause.Stuck failed) started = omega (arith, passed_set p.jobs (e.job - 1) f (following_abort p.entered f e (cause.Stuck failed)) started)
 cause_passes p f e cause.Asked started = omega (arith, passed_set p.jobs (e.job - 1) f (following_abort p.entered f e cause.Asked) started)
 cause_passes p f e cause.NoMemory started = omega (arith, passed_set p.jobs (e.job - 1) f (following_abort p.entered f e cause.NoMemory) started)
@@ -94,8 +95,8 @@ outcome_passes script p f e (Committed late) started =
     let job : Job = committed_job script f.job e.calls e.replies late in
     let mine : Following = untried f.block job (p.entered + 1) in
     let blocks : List (List ℕ) = started_blocks (kept_calls e.calls e.replies) late in
-    let both = sum_by-append (λ (g : Following). g.job.next) (with_job p.jobs e.job mine) (map (started_job script job (p.entered + 1)) blocks) in
-    omega (arith, both, passed_none (started_job script job (p.entered + 1)) blocks (λ b. refl), passed_set p.jobs (e.job - 1) f mine started)
+    let both = sum_by-append (λ (g : Following). g.job.next) (with_following p.jobs e.job mine) (map (started_following script job (p.entered + 1)) blocks) in
+    omega (arith, both, passed_none (started_following script job (p.entered + 1)) blocks (λ b. refl), passed_set p.jobs (e.job - 1) f mine started)
 outcome_passes script p f e (Aborted r) started = cause_passes p f e r.cause started
 
 entry_passes : (script : Script) (p : Progress) (f : Following) (e : Entry) → following_of p e ≡ Some f
@@ -112,8 +113,8 @@ all_pass s p (e ∷ journal) are =
     omega (arith, here, rest, sum_by-cons (λ (x : Entry). one_if (is_final x.outcome)) e journal)
 
 -- ---- no job passes more than its block has
-abbrev IsWithin : Script → Following → Type 0
-IsWithin script f = f.job.next ≤ length (transactions_at script f.job.block)
+abbrev IsWithinBlock : Script → Following → Type 0
+IsWithinBlock script f = f.job.next ≤ length (transactions_at script f.job.block)
 
 some_within : {A : Type 0} (xs : List A) (n : ℕ) → IsSome (slice_get xs n) → n < length xs
 some_within [] n some = cc
@@ -121,80 +122,80 @@ some_within (x ∷ xs) zero some = omega arith
 some_within (x ∷ xs) (suc n) some = let less = some_within xs n some in omega arith
 
 cause_within : (script : Script) (p : Progress) (f : Following) (e : Entry) (c : Cause) → f.job.next < length (transactions_at script f.job.block)
-    → AllByRecursion (IsWithin script) p.jobs → AllByRecursion (IsWithin script) (with_job p.jobs e.job (following_abort p.entered f e c))
+    → AllByRecursion (IsWithinBlock script) p.jobs → AllByRecursion (IsWithinBlock script) (with_following p.jobs e.job (following_abort p.entered f e c))
 cause_within script p f e (cause.Stuck failed) less each =
-    each_set (IsWithin script) p.jobs (e.job - 1) (following_abort p.entered f e (cause.Stuck failed)) each (omega arith)
+    each_set (IsWithinBlock script) p.jobs (e.job - 1) (following_abort p.entered f e (cause.Stuck failed)) each (omega arith)
 cause_within script p f e cause.Asked less each =
-    each_set (IsWithin script) p.jobs (e.job - 1) (following_abort p.entered f e cause.Asked) each (omega arith)
+    each_set (IsWithinBlock script) p.jobs (e.job - 1) (following_abort p.entered f e cause.Asked) each (omega arith)
 cause_within script p f e cause.NoMemory less each =
-    each_set (IsWithin script) p.jobs (e.job - 1) (following_abort p.entered f e cause.NoMemory) each (omega arith)
+    each_set (IsWithinBlock script) p.jobs (e.job - 1) (following_abort p.entered f e cause.NoMemory) each (omega arith)
 cause_within script p f e (cause.Conflict object holder at) less each =
-    each_set (IsWithin script) p.jobs (e.job - 1) (following_abort p.entered f e (cause.Conflict object holder at)) each (omega arith)
+    each_set (IsWithinBlock script) p.jobs (e.job - 1) (following_abort p.entered f e (cause.Conflict object holder at)) each (omega arith)
 cause_within script p f e (cause.Revoked object by at) less each =
-    each_set (IsWithin script) p.jobs (e.job - 1) (following_abort p.entered f e (cause.Revoked object by at)) each (omega arith)
+    each_set (IsWithinBlock script) p.jobs (e.job - 1) (following_abort p.entered f e (cause.Revoked object by at)) each (omega arith)
 
 outcome_within : (script : Script) (p : Progress) (f : Following) (e : Entry) (o : Outcome) → f.job.next < length (transactions_at script f.job.block)
-    → AllByRecursion (IsWithin script) p.jobs → AllByRecursion (IsWithin script) (after_outcome script p f e o).jobs
+    → AllByRecursion (IsWithinBlock script) p.jobs → AllByRecursion (IsWithinBlock script) (after_outcome script p f e o).jobs
 outcome_within script p f e (Committed late) less each =
     let job : Job = committed_job script f.job e.calls e.replies late in
     let mine : Following = untried f.block job (p.entered + 1) in
     let blocks : List (List ℕ) = started_blocks (kept_calls e.calls e.replies) late in
-    each_append (IsWithin script) (with_job p.jobs e.job mine) (map (started_job script job (p.entered + 1)) blocks)
-    (each_set (IsWithin script) p.jobs (e.job - 1) mine each (omega arith))
-    (each_map (IsWithin script) (started_job script job (p.entered + 1)) blocks (λ b. omega arith))
+    each_append (IsWithinBlock script) (with_following p.jobs e.job mine) (map (started_following script job (p.entered + 1)) blocks)
+    (each_set (IsWithinBlock script) p.jobs (e.job - 1) mine each (omega arith))
+    (each_map (IsWithinBlock script) (started_following script job (p.entered + 1)) blocks (λ b. omega arith))
 outcome_within script p f e (Aborted r) less each = cause_within script p f e r.cause less each
 
-all_within : (s : Setting) (p : Progress) (journal : List Entry) → AreTrue s p journal → AllByRecursion (IsWithin s.script) p.jobs
-    → AllByRecursion (IsWithin s.script) (fold (after_entry s.script) p journal).jobs
+all_within : (s : Setting) (p : Progress) (journal : List Entry) → AreTrue s p journal → AllByRecursion (IsWithinBlock s.script) p.jobs
+    → AllByRecursion (IsWithinBlock s.script) (fold (after_entry s.script) p journal).jobs
 all_within s p [] are each = each
 all_within s p (e ∷ journal) are each =
     let f = are.0.following in
     let less = some_within (transactions_at s.script f.job.block) f.job.next are.0.entry.story.left in
     let next = outcome_within s.script p f e e.outcome less each in
     all_within s (after_entry s.script p e) journal are.1
-    (subst (λ o. AllByRecursion (IsWithin s.script) (after_following s.script p e o).jobs) (sym are.0.started) next)
+    (subst (λ o. AllByRecursion (IsWithinBlock s.script) (after_following s.script p e o).jobs) (sym are.0.started) next)
 
 -- ---- where no job is starved at the end none was before, and each entry is settled or tried again
 -- a job isn't starved
-abbrev pub GoesOn : Following → Type 0
-GoesOn f = f.starved ≡ false
+abbrev pub IsNotStarved : Following → Type 0
+IsNotStarved f = f.starved ≡ false
 
-cause_goes : (p : Progress) (f : Following) (e : Entry) (c : Cause) → following_of p e ≡ Some f → GoesOn f
-    → AllByRecursion GoesOn (with_job p.jobs e.job (following_abort p.entered f e c))
-    → AllByRecursion GoesOn p.jobs × ((is_asked c || is_tried_again c) ≡ true)
+cause_goes : (p : Progress) (f : Following) (e : Entry) (c : Cause) → following_of p e ≡ Some f → IsNotStarved f
+    → AllByRecursion IsNotStarved (with_following p.jobs e.job (following_abort p.entered f e c))
+    → AllByRecursion IsNotStarved p.jobs × ((is_asked c || is_tried_again c) ≡ true)
 cause_goes p f e (cause.Stuck failed) started goes each =
-    (each_unset GoesOn p.jobs (e.job - 1) f (following_abort p.entered f e (cause.Stuck failed)) started goes each, refl)
+    (each_unset IsNotStarved p.jobs (e.job - 1) f (following_abort p.entered f e (cause.Stuck failed)) started goes each, refl)
 cause_goes p f e cause.Asked started goes each =
-    (each_unset GoesOn p.jobs (e.job - 1) f (following_abort p.entered f e cause.Asked) started goes each, refl)
+    (each_unset IsNotStarved p.jobs (e.job - 1) f (following_abort p.entered f e cause.Asked) started goes each, refl)
 cause_goes p f e cause.NoMemory started goes each =
-    absurd (let h : true ≡ false = each_own GoesOn p.jobs (e.job - 1) f (following_abort p.entered f e cause.NoMemory) started each in cc)
+    absurd (let h : true ≡ false = each_own IsNotStarved p.jobs (e.job - 1) f (following_abort p.entered f e cause.NoMemory) started each in cc)
 cause_goes p f e (cause.Conflict object holder at) started goes each =
-    (each_unset GoesOn p.jobs (e.job - 1) f (following_abort p.entered f e (cause.Conflict object holder at)) started goes each, refl)
+    (each_unset IsNotStarved p.jobs (e.job - 1) f (following_abort p.entered f e (cause.Conflict object holder at)) started goes each, refl)
 cause_goes p f e (cause.Revoked object by at) started goes each =
-    (each_unset GoesOn p.jobs (e.job - 1) f (following_abort p.entered f e (cause.Revoked object by at)) started goes each, refl)
+    (each_unset IsNotStarved p.jobs (e.job - 1) f (following_abort p.entered f e (cause.Revoked object by at)) started goes each, refl)
 
-outcome_goes : (script : Script) (p : Progress) (f : Following) (e : Entry) (o : Outcome) → following_of p e ≡ Some f → GoesOn f
-    → AllByRecursion GoesOn (after_outcome script p f e o).jobs → AllByRecursion GoesOn p.jobs × (is_final_or_tried_again o ≡ true)
+outcome_goes : (script : Script) (p : Progress) (f : Following) (e : Entry) (o : Outcome) → following_of p e ≡ Some f → IsNotStarved f
+    → AllByRecursion IsNotStarved (after_outcome script p f e o).jobs → AllByRecursion IsNotStarved p.jobs × (is_final_or_tried_again o ≡ true)
 outcome_goes script p f e (Committed late) started goes each =
     let job : Job = committed_job script f.job e.calls e.replies late in
     let mine : Following = untried f.block job (p.entered + 1) in
     let blocks : List (List ℕ) = started_blocks (kept_calls e.calls e.replies) late in (
-      each_unset GoesOn p.jobs (e.job - 1) f mine started goes
-          (each_front GoesOn (with_job p.jobs e.job mine) (map (started_job script job (p.entered + 1)) blocks) each),
+      each_unset IsNotStarved p.jobs (e.job - 1) f mine started goes
+          (each_front IsNotStarved (with_following p.jobs e.job mine) (map (started_following script job (p.entered + 1)) blocks) each),
       refl,
     )
 outcome_goes script p f e (Aborted r) started goes each = cause_goes p f e r.cause started goes each
 
 -- of all entries
 pub all_go : (s : Setting) (p : Progress) (journal : List Entry) → AreTrue s p journal
-    → AllByRecursion GoesOn (fold (after_entry s.script) p journal).jobs
-    → AllByRecursion GoesOn p.jobs × (list_all (λ (e : Entry). is_final_or_tried_again e.outcome) journal ≡ true)
+    → AllByRecursion IsNotStarved (fold (after_entry s.script) p journal).jobs
+    → AllByRecursion IsNotStarved p.jobs × (list_all (λ (e : Entry). is_final_or_tried_again e.outcome) journal ≡ true)
 all_go s p [] are each = (each, refl)
 all_go s p (e ∷ journal) are each =
     let t = are.0 in
     let rest = all_go s (after_entry s.script p e) journal are.1 each in
-    let next : AllByRecursion GoesOn (after_outcome s.script p t.following e e.outcome).jobs =
-    subst (λ o. AllByRecursion GoesOn (after_following s.script p e o).jobs) t.started rest.0 in
+    let next : AllByRecursion IsNotStarved (after_outcome s.script p t.following e e.outcome).jobs =
+    subst (λ o. AllByRecursion IsNotStarved (after_following s.script p e o).jobs) t.started rest.0 in
     let here = outcome_goes s.script p t.following e e.outcome t.started t.entry.story.goes_on next in
     (here.0, and_from (is_final_or_tried_again e.outcome) (list_all (λ (x : Entry). is_final_or_tried_again x.outcome) journal) here.1 rest.1)
 
@@ -204,19 +205,19 @@ past_all [] n e = omega arith
 past_all (x ∷ xs) zero e = cc
 past_all (x ∷ xs) (suc n) e = let le = past_all xs n e in omega arith
 
-done_is : (s : Setting) (entries : ℕ) (f : Following) (end : JobEnd) → is_done end ≡ true → IsEnd s entries f end
-    → GoesOn f × (next_body s.script f.job ≡ None)
+done_is : (s : Setting) (entries : ℕ) (f : Following) (end : JobEnd) → is_done_end end ≡ true → IsEnd s entries f end
+    → IsNotStarved f × (next_body s.script f.job ≡ None)
 done_is s entries f job_end.Done e h = h
 done_is s entries f (job_end.GaveUp c) e h = cc
 done_is s entries f job_end.JournalFull e h = cc
 done_is s entries f job_end.NoMemory e h = cc
 
 ends_done : (s : Setting) (entries : ℕ) (fs : List Following) (lines : List JobLine) → AreEnds s entries fs lines → all_done lines ≡ true
-    → AllByRecursion (IsWithin s.script) fs → AllByRecursion GoesOn fs × (passed_by fs ≡ transactions_of_jobs s.script fs)
+    → AllByRecursion (IsWithinBlock s.script) fs → AllByRecursion IsNotStarved fs × (passed_by fs ≡ transactions_of_jobs s.script fs)
 ends_done s entries [] lines ends done within = (tt, refl)
 ends_done s entries (f ∷ fs) [] ends done within = absurd ends
 ends_done s entries (f ∷ fs) (line ∷ lines) ends done within =
-    let both = and_parts (is_done line.end) (all_done lines) done in
+    let both = and_parts (is_done_end line.end) (all_done lines) done in
     let here = done_is s entries f line.end both.0 ends.0.end in
     let rest = ends_done s entries fs lines ends.1 both.1 within.1 in
     let past = past_all (transactions_at s.script f.job.block) f.job.next here.1 in
@@ -229,7 +230,7 @@ complete s entries lines are ends done =
     let start : Progress = opening_progress s.script in
     let opened : List ℕ → Following = λ name. untried name (fresh_job s.script (block_place s.script name)) 0 in
     let none : passed_by start.jobs ≡ 0 = passed_none opened s.script.outline.jobs (λ name. refl) in
-    let first : AllByRecursion (IsWithin s.script) start.jobs = each_map (IsWithin s.script) opened s.script.outline.jobs (λ name. omega arith) in
+    let first : AllByRecursion (IsWithinBlock s.script) start.jobs = each_map (IsWithinBlock s.script) opened s.script.outline.jobs (λ name. omega arith) in
     let jobs : List Following = (progress_of s.script entries).jobs in
     let end = ends_done s (length entries) jobs lines ends done (all_within s start entries are first) in
     record {

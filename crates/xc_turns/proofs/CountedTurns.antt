@@ -29,7 +29,7 @@ use Rattle.xc_model.specs.declared.phase.Phase.TheVariants.{Running, Committing,
 use Rattle.xc_model.specs.Setting.{Setting}
 use Rattle.xc_model.specs.Progress.{Following, progress_of}
 use Rattle.xc_model.specs.Moment.{TxView, SavedView, JobView, Doing, Idle, Active, Starved, Ended, Moment}
-use Rattle.xc_model.specs.Moment.{active_in, active_of, actives, late_left, revoked, waiting}
+use Rattle.xc_model.specs.Moment.{active_in, active_of, actives, late_left, revoked, asked_to_wait}
 use Rattle.xc_model.specs.Moment.{with_job, entering}
 use Rattle.xc_model.specs.Movers.{asked_at, with_tx}
 use Rattle.xc_model.specs.IdleRows.{beginning_job}
@@ -57,9 +57,9 @@ use Rattle.xc_turns.proofs.CountedSums.{adds, sum_set, fault_as_count}
 
 -- ---- by its phase a transaction has ended records or late ends
 -- the job's story, with what its phase says
-pub in_phase : (s : Setting) (at : ℕ) (now : Moment) (job : JobView) (tx : TxView) → slice_get now.jobs at ≡ Some job → job.doing ≡ Active tx
+pub story_in_phase : (s : Setting) (at : ℕ) (now : Moment) (job : JobView) (tx : TxView) → slice_get now.jobs at ≡ Some job → job.doing ≡ Active tx
     → StoriesHold s (length now.words) now.marks now.journal now.jobs → (f : Following) × IsInPhase s f job.place tx tx.phase
-in_phase s at now job tx stands is told =
+story_in_phase s at now job tx stands is told =
     let f = get_beside (progress_of s.script now.journal).jobs now.jobs at job told.count stands in
     let j = told.jobs_told at f.0 job f.1 stands in
     let doing = subst (IsDoing s (length now.journal + length (actives now.jobs)) f.0 job) is j.doing in
@@ -69,7 +69,7 @@ in_phase s at now job tx stands is told =
 none_ended : (s : Setting) (at : ℕ) (now : Moment) (job : JobView) (tx : TxView) → slice_get now.jobs at ≡ Some job → job.doing ≡ Active tx
     → tx.phase ≡ Committing → StoriesHold s (length now.words) now.marks now.journal now.jobs → tx.undo.ended ≡ []
 none_ended s at now job tx stands is commits told =
-    let phase = in_phase s at now job tx stands is told in
+    let phase = story_in_phase s at now job tx stands is told in
     let committing : IsCommitting s phase.0 job.place tx = subst (IsInPhase s phase.0 job.place tx) commits phase.1 in
     committing.none
 
@@ -77,7 +77,7 @@ none_ended s at now job tx stands is commits told =
 pub none_late : (s : Setting) (at : ℕ) (now : Moment) (job : JobView) (tx : TxView) (c : Cause) → slice_get now.jobs at ≡ Some job → job.doing ≡ Active tx
     → tx.phase ≡ Undoing c → StoriesHold s (length now.words) now.marks now.journal now.jobs → tx.ends ≡ []
 none_late s at now job tx c stands is undoes told =
-    let phase = in_phase s at now job tx stands is told in
+    let phase = story_in_phase s at now job tx stands is told in
     let undoing : IsUndoing s phase.0 tx c = subst (IsInPhase s phase.0 job.place tx) undoes phase.1 in
     undoing.no_ends
 
@@ -134,7 +134,7 @@ module _ (s : Setting) (at from : ℕ) (old : Moment) (job : JobView) (new : Mom
   by_idle is turn.Went row =
       still_counted (beginning_job old job) (ap (λ (n : Moment). n.jobs) row.1) (ap (λ (n : Moment). n.journal) row.1) (ap (λ (n : Moment). n.faults) row.1)
       (ap (λ d. adds tx_faults (active_in d)) (sym is))
-  by_idle is (turn.Busy object number) row = with_counted (waiting job) row.1 refl
+  by_idle is (turn.Busy object number) row = with_counted (asked_to_wait job) row.1 refl
   by_idle is turn.NoMemory row = absurd row
 
   by_starved : job.doing ≡ Starved → (answer : Turn) → StarvedTurn (mover s at old job) answer new → AreCounted from new
@@ -186,7 +186,7 @@ module _ (s : Setting) (at from : ℕ) (old : Moment) (job : JobView) (new : Mom
         (ap (λ (n : Moment). n.journal) row.behind)
         (ap (λ (n : Moment). n.faults) row.behind) recorded
     by_running (turn.Busy object holder) row =
-        still_counted (waiting (with_tx job row.place tx)) (ap (λ (n : Moment). n.jobs) row.behind) (ap (λ (n : Moment). n.journal) row.behind)
+        still_counted (asked_to_wait (with_tx job row.place tx)) (ap (λ (n : Moment). n.jobs) row.behind) (ap (λ (n : Moment). n.journal) row.behind)
         (ap (λ (n : Moment). n.faults) row.behind) recorded
     by_running (turn.Ended end) row = absurd row
 

@@ -62,29 +62,29 @@ counting_above from (suc n) k at =
 abbrev firsts : List (ℕ × ℕ) → List ℕ
 firsts begins = map (λ (b : ℕ × ℕ). b.0) begins
 
-abbrev numbers_in : List TxView → List ℕ
-numbers_in txs = firsts (map active_begin txs)
+abbrev tx_numbers : List TxView → List ℕ
+tx_numbers txs = firsts (map active_begin txs)
 
-number_in : (jobs : List JobView) (i : ℕ) (t : TxView) → IsActiveAt jobs i t → Contains (numbers_in (actives jobs)) t.number
+number_in : (jobs : List JobView) (i : ℕ) (t : TxView) → IsActiveAt jobs i t → Contains (tx_numbers (actives jobs)) t.number
 number_in jobs i t active = contains_map (λ (b : ℕ × ℕ). b.0) (map active_begin (actives jobs)) (active_begin t)
     (contains_map active_begin (actives jobs) t (active_listed jobs i t active))
 
-head_apart : (o : Option TxView) (txs : List TxView) (t u : TxView) → o ≡ Some t → IsDistinct nat_eq (numbers_in (cons_option o txs))
-    → Contains (numbers_in txs) u.number → t.number ≡ u.number → ⊥
+head_apart : (o : Option TxView) (txs : List TxView) (t u : TxView) → o ≡ Some t → IsDistinct nat_eq (tx_numbers (cons_option o txs))
+    → Contains (tx_numbers txs) u.number → t.number ≡ u.number → ⊥
 head_apart None txs t u e differ at same = cc e
 head_apart (Some v) txs t u e differ at same =
     let is : v ≡ t = cc e in
-    apart_from v.number (numbers_in txs) u.number (IsDistinct-head nat_eq v.number (numbers_in txs) differ) at
+    apart_from v.number (tx_numbers txs) u.number (IsDistinct-head nat_eq v.number (tx_numbers txs) differ) at
     (ap (λ (x : TxView). x.number) is ∙ same)
 
-tail_differs : (o : Option TxView) (txs : List TxView) → IsDistinct nat_eq (numbers_in (cons_option o txs)) → IsDistinct nat_eq (numbers_in txs)
+tail_differs : (o : Option TxView) (txs : List TxView) → IsDistinct nat_eq (tx_numbers (cons_option o txs)) → IsDistinct nat_eq (tx_numbers txs)
 tail_differs None txs differ = differ
-tail_differs (Some v) txs differ = IsDistinct-tail nat_eq v.number (numbers_in txs) differ
+tail_differs (Some v) txs differ = IsDistinct-tail nat_eq v.number (tx_numbers txs) differ
 
 first_active : (job : JobView) (jobs : List JobView) (t : TxView) → IsActiveAt (job ∷ jobs) 0 t → active_of job ≡ Some t
 first_active job jobs t (other, there, has) = let same : job ≡ other = cc there in ap active_of same ∙ has
 
-one_place : (jobs : List JobView) (i j : ℕ) (t u : TxView) → IsDistinct nat_eq (numbers_in (actives jobs)) → IsActiveAt jobs i t → IsActiveAt jobs j u
+one_place : (jobs : List JobView) (i j : ℕ) (t u : TxView) → IsDistinct nat_eq (tx_numbers (actives jobs)) → IsActiveAt jobs i t → IsActiveAt jobs j u
     → t.number ≡ u.number → i ≡ j
 one_place [] i j t u differ (job, there, has) b same = cc there
 one_place (job ∷ jobs) zero zero t u differ a b same = refl
@@ -97,7 +97,7 @@ one_place (job ∷ jobs) (suc i) (suc j) t u differ a b same =
 
 -- numbers that are the first ones in some order differ, those of the active transactions too
 numbers_differ : (journal : List Entry) (jobs : List JobView) → AreBegins journal (begins_of journal jobs)
-    → IsDistinct nat_eq (numbers_in (actives jobs))
+    → IsDistinct nat_eq (tx_numbers (actives jobs))
 numbers_differ journal jobs are =
     let begins = begins_of journal jobs in
     let entered = map entry_begin journal in
@@ -105,7 +105,7 @@ numbers_differ journal jobs are =
     let all : IsDistinct nat_eq (firsts begins) =
     IsDistinct-IsPermutation nat_eq test_flips given (firsts begins) (IsPermutation-sym (firsts begins) given are.numbers)
     (counting_differs 1 (length begins)) in
-    differ_behind (firsts entered) (numbers_in (actives jobs))
+    differ_behind (firsts entered) (tx_numbers (actives jobs))
     (subst (IsDistinct nat_eq) (map-append (λ (b : ℕ × ℕ). b.0) entered (map active_begin (actives jobs))) all)
 
 -- two active transactions of one number stand in one place

@@ -26,7 +26,7 @@ use Rattle.xc_turns.proofs.GivenNumbers.{given_once}
 use Rattle.xc_turns.proofs.Jobs.{active_before}
 use Rattle.xc_turns.proofs.GroundReads.{part_read, part_there, part_elsewhere, jobs_elsewhere, wanted_same}
 use Rattle.xc_turns.proofs.Grown.{grown_active}
-use Rattle.xc_turns.proofs.KindsOfTurns.{Enters}
+use Rattle.xc_turns.proofs.KindsOfTurns.{EntersJournal}
 use Rattle.xc_turns.proofs.GroundMoves.{here_before, unmarked_other}
 
 -- all conflicts and revocations of these entries and jobs are grounded
@@ -59,7 +59,7 @@ module _ (s : Setting) (at : ℕ) (old new : Moment) (job : JobView) (stands : s
   abbrev part_here : (ℕ → Option Mark) → TxView → Part
   part_here marks tx = part_under_way (reading s words marks) led_here (at + 1) tx
 
-  module _ (k : Enters at old job new)
+  module _ (k : EntersJournal at old job new)
       (played : IsTrue s.tells → (tx : TxView) → IsActiveAt old.jobs at tx → IsPlayedSoFar s words led at tx) where
     abbrev entry : Entry
     entry = entry_of k.tx at k.outcome

@@ -28,7 +28,7 @@ use Rattle.xc_model.specs.Moment.{TxView, JobView, Doing, Idle, Active, Starved,
 use Rattle.xc_model.specs.Movers.{IsActiveAt, asked_at, mover}
 use Rattle.xc_model.specs.Rivals.{IsFirstRival, IsRival}
 use Rattle.xc_model.specs.PlainSteps.{claims_at}
-use Rattle.xc_model.specs.Grounds.{Part, Other, Holds, Ground, IsGrounded, AreGrounded, scene_of}
+use Rattle.xc_model.specs.Grounds.{Part, Other, HoldsObject, Ground, IsGrounded, AreGrounded, scene_of}
 use Rattle.xc_model.specs.Progress.{Following, Progress, progress_of}
 use Rattle.xc_model.specs.Asked.{next_of}
 use Rattle.xc_model.specs.Joint.{entry_parts}
@@ -211,7 +211,8 @@ module _ (s : Setting) (at : ℕ) (old new : Moment) (job : JobView) (stands : s
       }
 
   -- and holds the object
-  unfoldable pub rival_holds : (c : Claim) (object : Object) (holder : ℕ) → c.object ≡ object → (r : IsRival old.jobs at c holder) → Holds r.rival.held object
+  unfoldable pub rival_holds : (c : Claim) (object : Object) (holder : ℕ) → c.object ≡ object → (r : IsRival old.jobs at c holder)
+      → HoldsObject r.rival.held object
   rival_holds c object holder names r =
       let holds = r.holds in
       record { claim = holds.0; names = holds.2.0 ∙ names; among = holds.1 }

@@ -14,7 +14,7 @@ use Rattle.xc_data.specs.declared.entry.Mark.{Mark}
 use Rattle.xc_model.specs.Setting.{Setting}
 use Rattle.xc_model.specs.Moment.{TxView, JobView, active_of}
 use Rattle.xc_model.specs.Grounds.{Part}
-use Rattle.xc_model.specs.Progress.{Following, Progress, with_job, following_of, after_outcome, after_following, after_entry}
+use Rattle.xc_model.specs.Progress.{Following, Progress, with_following, following_of, after_outcome, after_following, after_entry}
 use Rattle.xc_model.specs.EntryEnds.{next_claims}
 use Rattle.xc_model.specs.Joint.{asked_behind}
 use Rattle.xc_model.specs.Movers.{IsActiveAt}
@@ -100,7 +100,7 @@ part_elsewhere s words marks marks' fs fs' jobs jobs' j same unmarked told =
 jobs_behind : (script : Script) (p : Progress) (f : Following) (e : Entry) (outcome : Outcome) (j : ℕ) → j ≢ e.job - 1 → j < length p.jobs
     → slice_get (after_outcome script p f e outcome).jobs j ≡ slice_get p.jobs j
 jobs_behind script p f e (Committed late) j ne low =
-    get_inside (with_job p.jobs e.job _) _ j (omega (arith, length-set p.jobs (e.job - 1))) ∙ get_set_other p.jobs (e.job - 1) j _ ne
+    get_inside (with_following p.jobs e.job _) _ j (omega (arith, length-set p.jobs (e.job - 1))) ∙ get_set_other p.jobs (e.job - 1) j _ ne
 jobs_behind script p f e (Aborted report) j ne low = get_set_other p.jobs (e.job - 1) j _ ne
 
 jobs_followed : (script : Script) (p : Progress) (e : Entry) (o : Option Following) (j : ℕ) → j ≢ e.job - 1 → j < length p.jobs

@@ -11,9 +11,9 @@ use Rattle.xc_data.specs.declared.claim.Claim.{Claim}
 use Rattle.xc_data.specs.declared.object.Object.{Object}
 use Rattle.xc_data.specs.declared.entry.Cause.{Cause}
 use Rattle.xc_data.specs.declared.entry.Cause.TheVariants.{Conflict, Revoked}
-use Rattle.xc_model.specs.Grounds.{Part, IsPresent, Other, Holds, Clashes, IsGrounded, AreGrounded, scene_of}
+use Rattle.xc_model.specs.Grounds.{Part, IsPresent, Other, HoldsObject, Clashes, IsGrounded, AreGrounded, scene_of}
 use Rattle.xc_turns.proofs.Lists.{get_front, get_last, get_cases, not_both}
-use Rattle.xc_turns.proofs.HeldClaims.{IsCovered, AreCovered, covered_same, either_way}
+use Rattle.xc_turns.proofs.HeldClaims.{IsAsStrong, AreCovered, covered_same, either_way}
 
 -- ---- those that are named
 -- whoever names the first may name the second
@@ -79,15 +79,15 @@ judged_itself : (tells : Bool) (a : Part) → IsJudgedAs tells a a
 judged_itself tells a = record { job = refl; rank = refl; began = refl; held = covered_same a.held a.held refl; wanted = λ t. refl }
 
 -- a holder still holds
-holds_on : (held held' : List Claim) (object : Object) → AreCovered held held' → (h : Holds held object)
-    → (k : Holds held' object) × IsCovered h.claim k.claim
+holds_on : (held held' : List Claim) (object : Object) → AreCovered held held' → (h : HoldsObject held object)
+    → (k : HoldsObject held' object) × IsAsStrong h.claim k.claim
 holds_on held held' object covers h =
     let d = covers.each h.claim h.among in
     let is = d.2 in
     (record { claim = d.0; names = is.object ∙ h.names; among = d.1 }, is)
 
 -- what clashes still does
-clash_on : (wanted wanted' : List Claim) (c d : Claim) → AreCovered wanted wanted' → IsCovered c d → Clashes wanted c → Clashes wanted' d
+clash_on : (wanted wanted' : List Claim) (c d : Claim) → AreCovered wanted wanted' → IsAsStrong c d → Clashes wanted c → Clashes wanted' d
 clash_on wanted wanted' c d more covers clash =
     let w = clash.0 in
     let next = more.each w clash.1 in

@@ -15,7 +15,7 @@ use Rattle.xc_model.specs.Setting.{Setting}
 use Rattle.xc_model.specs.Moment.{TxView, JobView, Moment, revoked}
 use Rattle.xc_model.specs.Movers.{IsActiveAt}
 use Rattle.xc_model.specs.PlainSteps.{claims_at}
-use Rattle.xc_model.specs.RunningRows.{mark_behind, marked}
+use Rattle.xc_model.specs.RunningRows.{mark_behind, marks_with}
 use Rattle.xc_model.specs.Grounds.{Part, IsGrounded, AreGrounded, scene_of}
 use Rattle.xc_model.specs.Progress.{Following, Progress, progress_of}
 use Rattle.xc_model.specs.Joint.{entry_parts}
@@ -31,10 +31,10 @@ use Rattle.xc_turns.proofs.KindsOfTurns.{cause_on}
 use Rattle.xc_turns.proofs.KindsOfTurns.{Stays}
 use Rattle.xc_turns.proofs.GroundMoves.{by_now, here_before, rival_holds, asked_wants, met_listed}
 
-marked_other : (marks : ℕ → Option Mark) (tx : TxView) (new : Mark) (n : ℕ) → (n ≡ tx.number → ⊥) → marked marks tx new n ≡ marks n
+marked_other : (marks : ℕ → Option Mark) (tx : TxView) (new : Mark) (n : ℕ) → (n ≡ tx.number → ⊥) → marks_with marks tx new n ≡ marks n
 marked_other marks tx new n ne = ap (λ (b : Bool). if b then mark_behind tx.phase (marks n) new else marks n) (ne_eqb n tx.number ne)
 
-marked_itself : (marks : ℕ → Option Mark) (tx : TxView) (new : Mark) (n : ℕ) → n ≡ tx.number → marked marks tx new n ≡ mark_behind tx.phase (marks n) new
+marked_itself : (marks : ℕ → Option Mark) (tx : TxView) (new : Mark) (n : ℕ) → n ≡ tx.number → marks_with marks tx new n ≡ mark_behind tx.phase (marks n) new
 marked_itself marks tx new n e = ap (λ (b : Bool). if b then mark_behind tx.phase (marks n) new else marks n) (eq-eqb n tx.number e)
 
 -- a mark stays, or a running transaction takes the new one
@@ -79,7 +79,7 @@ module _ (s : Setting) (at : ℕ) (old new : Moment) (job : JobView) (stands : s
     its_mark = record { object = k.object; by = k.tx.number; at = length old.journal }
 
     abbrev marks_behind : ℕ → Option Mark
-    marks_behind = marked old.marks rival its_mark
+    marks_behind = marks_with old.marks rival its_mark
 
     -- all transactions are as before
     active_still : (j : ℕ) (tx : TxView) → IsActiveAt (slice_set old.jobs at k.behind) j tx → IsActiveAt old.jobs j tx

@@ -15,7 +15,7 @@ use Rattle.xc_model.specs.Played.{IsPlayedSoFar}
 use Rattle.xc_model.specs.Stories.{StoriesHold}
 use Rattle.xc_model.specs.Stories.{reading, scene_at}
 use Rattle.xc_turns.proofs.KindsOfTurns.{Kind, rests, begins, moves, stays, enters}
-use Rattle.xc_turns.proofs.TurnKinds.{kind_of}
+use Rattle.xc_turns.proofs.TurnKinds.{row_kind}
 use Rattle.xc_turns.proofs.GroundMoves.{rests_grounded, begins_grounded, moves_grounded}
 use Rattle.xc_turns.proofs.GroundWaits.{stays_grounded}
 use Rattle.xc_turns.proofs.GroundEntries.{AreAllGrounded, enters_grounded}
@@ -52,4 +52,4 @@ pub grounds_kept : (s : Setting) (at : ℕ) (old new : Moment) (answer : Turn) �
     → StoriesHold s (length old.words) old.marks old.journal old.jobs
     → AreGrounded (scene_at (reading s (length new.words) new.marks) new.journal new.jobs)
 grounds_kept s at old new answer t played told =
-    kind_grounded s at old new t.job t.there played told (kind_of s at old new answer t)
+    kind_grounded s at old new t.job t.there played told (row_kind s at old new answer t)

@@ -16,7 +16,7 @@ use Rattle.xc_script.specs.Blocks.{kept_calls}
 use Rattle.xc_model.specs.Asked.{ScriptJob, after_jobs, job_abort, jobs_behind, jobs_outcome, opening_jobs, script_job_of}
 use Rattle.xc_model.specs.Course.{Course, Standing, after_course, course_outcome, course_standing, opening_course, standing_abort, standing_of}
 use Rattle.xc_model.specs.Progress.{Following, Progress, after_entry, after_following, after_outcome, committed_job, following_abort, following_of}
-use Rattle.xc_model.specs.Progress.{opening_progress, started_blocks, started_job, untried, words_left}
+use Rattle.xc_model.specs.Progress.{opening_progress, started_blocks, started_following, untried, words_left}
 
 -- ---- lists
 -- an image of an image
@@ -70,7 +70,7 @@ outcome_course : (script : Script) (p : Progress) (f : Following) (e : Entry) (o
 outcome_course script p f e (Committed late) =
     let job = committed_job script f.job e.calls e.replies late in
     let blocks = started_blocks (kept_calls e.calls e.replies) late in
-    let same = image standing_in p.jobs (e.job - 1) (untried f.block job (p.entered + 1)) (started_job script job (p.entered + 1)) blocks in
+    let same = image standing_in p.jobs (e.job - 1) (untried f.block job (p.entered + 1)) (started_following script job (p.entered + 1)) blocks in
     ap (λ (js : List Standing). record (course_in (after_outcome script p f e (Committed late))) { jobs = js }) same
 outcome_course script p f e (Aborted report) =
     let g = following_abort p.entered f e report.cause in
@@ -102,7 +102,7 @@ outcome_jobs : (script : Script) (p : Progress) (f : Following) (e : Entry) (o :
 outcome_jobs script p f e (Committed late) =
     let job = committed_job script f.job e.calls e.replies late in
     let blocks = started_blocks (kept_calls e.calls e.replies) late in
-    image script_job_in p.jobs (e.job - 1) (untried f.block job (p.entered + 1)) (started_job script job (p.entered + 1)) blocks
+    image script_job_in p.jobs (e.job - 1) (untried f.block job (p.entered + 1)) (started_following script job (p.entered + 1)) blocks
 outcome_jobs script p f e (Aborted report) =
     let g = following_abort p.entered f e report.cause in
     map_set script_job_in p.jobs (e.job - 1) g ∙ ap (slice_set (jobs_in p) (e.job - 1)) (abort_job p.entered f e report.cause)
@@ -118,15 +118,15 @@ jobs_more script p e =
     following_jobs script p e (following_of p e) ∙ ap (jobs_behind script (jobs_in p) e) (sym (script_job_there p e))
 
 -- ---- the opening
-abbrev opened : Script → List ℕ → Following
-opened script name = untried name (fresh_job script (block_place script name)) 0
+abbrev fresh_following : Script → List ℕ → Following
+fresh_following script name = untried name (fresh_job script (block_place script name)) 0
 
 -- the machine's part of it
 pub course_opened : (script : Script) → course_in (opening_progress script) ≡ opening_course script.outline
 course_opened script =
     let p = opening_progress script in
-    ap (λ (js : List Standing). record (course_in p) { jobs = js }) (map_twice standing_in (opened script) script.outline.jobs)
+    ap (λ (js : List Standing). record (course_in p) { jobs = js }) (map_twice standing_in (fresh_following script) script.outline.jobs)
 
 -- the script's part of it
 pub jobs_opened : (script : Script) → jobs_in (opening_progress script) ≡ opening_jobs script
-jobs_opened script = map_twice script_job_in (opened script) script.outline.jobs
+jobs_opened script = map_twice script_job_in (fresh_following script) script.outline.jobs

@@ -3,7 +3,7 @@ use Rattle.std.proofs.Common.{◌≡◌, ℕ, zero, suc, Option, Some, None, Lis
 use Rattle.std.specs.Prelude.{slice_get, slice_set, sum_by}
 use Rattle.std.proofs.lemmas.List.Sums.{sum_by-append, sum_by-cons}
 use Rattle.xc_data.specs.declared.entry.JobLine.{JobLine}
-use Rattle.xc_data.specs.declared.script.Kind.{Kind}
+use Rattle.xc_data.specs.declared.script.HostCallKind.{HostCallKind}
 use Rattle.xc_host.specs.Cause.{times}
 use Rattle.xc_text.specs.declared.script.Script.{Script}
 use Rattle.xc_model.specs.Consistent.{AreLinesOf, IsLineOf}
@@ -13,13 +13,13 @@ use Rattle.xc_model.specs.Opened.{opened_job}
 use Rattle.xc_turns.proofs.Grown.{AreIdle}
 
 -- those of one job
-pub record MadeAt (script : Script) (job : JobView) (mades : List (List Kind)) (at : ℕ) : Type 0 where
-  pub made : List Kind
+pub record MadeAt (script : Script) (job : JobView) (mades : List (List HostCallKind)) (at : ℕ) : Type 0 where
+  pub made : List HostCallKind
   pub there : slice_get mades at ≡ Some made
   pub by : MadeBy script job (active_of job) made
 
 -- in its place
-pub made_at : (script : Script) (jobs : List JobView) (mades : List (List Kind)) (at : ℕ) (job : JobView) → AreMade script jobs mades
+pub made_at : (script : Script) (jobs : List JobView) (mades : List (List HostCallKind)) (at : ℕ) (job : JobView) → AreMade script jobs mades
     → slice_get jobs at ≡ Some job → MadeAt script job mades at
 made_at script [] mades at job h stands = cc
 made_at script (x ∷ jobs) [] at job h stands = absurd h
@@ -31,7 +31,7 @@ made_at script (x ∷ jobs) (made ∷ mades) (suc at) job h stands =
     record { made = rest.made; there = rest.there; by = rest.by }
 
 -- another job in its place, which made others
-pub made_set : (script : Script) (jobs : List JobView) (mades : List (List Kind)) (at : ℕ) (job job' : JobView) (made' : List Kind)
+pub made_set : (script : Script) (jobs : List JobView) (mades : List (List HostCallKind)) (at : ℕ) (job job' : JobView) (made' : List HostCallKind)
     → AreMade script jobs mades → slice_get jobs at ≡ Some job → MadeBy script job' (active_of job') made'
     → AreMade script (slice_set jobs at job') (slice_set mades at made')
 made_set script [] mades at job job' made' h stands by = cc
@@ -45,7 +45,7 @@ pub idle_made : (script : Script) (job : JobView) → active_of job ≡ None →
 idle_made script job none = subst (λ (o : Option TxView). MadeBy script job o []) (sym none) refl
 
 -- and so do jobs
-abbrev pub no_mades : List JobView → List (List Kind)
+abbrev pub no_mades : List JobView → List (List HostCallKind)
 no_mades [] = []
 no_mades (job ∷ more) = [] ∷ no_mades more
 
@@ -54,15 +54,15 @@ idle_mades script [] idle = refl
 idle_mades script (job ∷ more) idle = (idle_made script job idle.0, idle_mades script more idle.1)
 
 -- more jobs, which have no transactions yet
-pub made_grown : (script : Script) (jobs : List JobView) (mades : List (List Kind)) (more : List JobView) → AreMade script jobs mades → AreIdle more
+pub made_grown : (script : Script) (jobs : List JobView) (mades : List (List HostCallKind)) (more : List JobView) → AreMade script jobs mades → AreIdle more
     → AreMade script (jobs ++ more) (mades ++ no_mades more)
 made_grown script [] mades more h idle =
-    subst (λ (ms : List (List Kind)). AreMade script more (ms ++ no_mades more)) (sym h) (idle_mades script more idle)
+    subst (λ (ms : List (List HostCallKind)). AreMade script more (ms ++ no_mades more)) (sym h) (idle_mades script more idle)
 made_grown script (x ∷ jobs) [] more h idle = absurd h
 made_grown script (x ∷ jobs) (made ∷ mades) more h idle = (h.0, made_grown script jobs mades more h.1 idle)
 
 -- they count for nothing
-no_times : (kind : Kind) (more : List JobView) → sum_by (times kind) (no_mades more) ≡ 0
+no_times : (kind : HostCallKind) (more : List JobView) → sum_by (times kind) (no_mades more) ≡ 0
 no_times kind [] = refl
 no_times kind (job ∷ more) =
     let all = sum_by-cons (times kind) [] (no_mades more) in
@@ -71,7 +71,7 @@ no_times kind (job ∷ more) =
     omega (arith, all, first, rest)
 
 -- so with them the sum is as before
-pub grown_times : (kind : Kind) (mades : List (List Kind)) (more : List JobView)
+pub grown_times : (kind : HostCallKind) (mades : List (List HostCallKind)) (more : List JobView)
     → sum_by (times kind) (mades ++ no_mades more) ≡ sum_by (times kind) mades
 grown_times kind mades more =
     let all = sum_by-append (times kind) mades (no_mades more) in
@@ -86,11 +86,12 @@ opened_made script [] = refl
 opened_made script (name ∷ names) = (refl, opened_made script names)
 
 -- and they made none
-pub opened_times : (kind : Kind) (script : Script) (names : List (List ℕ)) → sum_by (times kind) (no_mades (map (opened_job script) names)) ≡ 0
+pub opened_times : (kind : HostCallKind) (script : Script) (names : List (List ℕ)) → sum_by (times kind) (no_mades (map (opened_job script) names)) ≡ 0
 opened_times kind script names = no_times kind (map (opened_job script) names)
 
 -- a job that has ended
-line_made : (script : Script) (line : JobLine) (job : JobView) (d : Doing) (made : List Kind) → IsLineOf line job d → MadeBy script job (active_in d) made
+line_made : (script : Script) (line : JobLine) (job : JobView) (d : Doing) (made : List HostCallKind) → IsLineOf line job d
+    → MadeBy script job (active_in d) made
     → made ≡ []
 line_made script line job Idle made of h = absurd of
 line_made script line job (Active tx) made of h = absurd of
@@ -98,7 +99,8 @@ line_made script line job Starved made of h = absurd of
 line_made script line job (Ended end) made of h = h
 
 -- jobs that have ended
-pub ended_times : (kind : Kind) (script : Script) (jobs : List JobView) (lines : List JobLine) (mades : List (List Kind)) → AreLinesOf jobs lines
+pub ended_times : (kind : HostCallKind) (script : Script) (jobs : List JobView) (lines : List JobLine) (mades : List (List HostCallKind))
+    → AreLinesOf jobs lines
     → AreMade script jobs mades → sum_by (times kind) mades ≡ 0
 ended_times kind script [] lines mades are h = ap (sum_by (times kind)) h
 ended_times kind script (job ∷ jobs) [] mades are h = absurd are

@@ -10,7 +10,7 @@ use Rattle.xc_data.specs.declared.entry.Outcome.{Outcome}
 use Rattle.xc_data.specs.declared.entry.Outcome.TheVariants.{Committed, Aborted}
 use Rattle.xc_data.specs.declared.entry.Report.{Report}
 use Rattle.xc_data.specs.declared.private.Place.{Place}
-use Rattle.xc_data.specs.declared.script.Kind.{Kind}
+use Rattle.xc_data.specs.declared.script.HostCallKind.{HostCallKind}
 use Rattle.xc_host.specs.Cause.{IsCalled, times}
 use Rattle.xc_host.proofs.Laws.{rises_sum}
 use Rattle.xc_script.specs.declared.ask.Ask.{Ask}
@@ -36,7 +36,7 @@ use Rattle.xc_turns.proofs.Lists.{sum_set_place}
 use Rattle.xc_turns.proofs.StoryEntries.{place_of_number}
 
 -- these handles and these calls
-abbrev reach : List (List Place) → List Kind → Reached
+abbrev reach : List (List Place) → List HostCallKind → Reached
 reach places made = record { places = places; made = made }
 
 -- ---- one entry more
@@ -59,7 +59,8 @@ places_each job_of (name ∷ names) places same =
     ap₂ (λ (p : List Place) (ps : List (List Place)). p ∷ ps) (same name) (places_each job_of names places same)
 
 -- the jobs of a script before their first transactions
-pub opened_handled : (script : Script) (names : List (List ℕ)) (calls : Kind → ℕ) → names ≡ script.outline.jobs → ((kind : Kind) → calls kind ≡ 0)
+pub opened_handled : (script : Script) (names : List (List ℕ)) (calls : HostCallKind → ℕ) → names ≡ script.outline.jobs
+    → ((kind : HostCallKind) → calls kind ≡ 0)
     → HandlesAgree script [] (map (opened_job script) names) calls
 opened_handled script names calls are none =
     let outline = script.outline in
@@ -78,7 +79,8 @@ opened_handled script names calls are none =
           subst (λ n. RisesBy n 0 (calls kind)) all (none kind);
     }
 
-module _ (script : Script) (journal : List Entry) (jobs : List JobView) (calls : Kind → ℕ) (at : ℕ) (job : JobView) (stands : slice_get jobs at ≡ Some job)
+module _ (script : Script) (journal : List Entry) (jobs : List JobView) (calls : HostCallKind → ℕ) (at : ℕ) (job : JobView)
+    (stands : slice_get jobs at ≡ Some job)
     (h : HandlesAgree script journal jobs calls) where
   -- which calls of the host its active transaction made
   abbrev pub there : MadeAt script job h.under_way at
@@ -89,8 +91,9 @@ module _ (script : Script) (journal : List Entry) (jobs : List JobView) (calls :
   places_stay job' same = map_set_same (λ (x : JobView). x.me.places) jobs at job' job stands same
 
   -- the count of calls rises by those that it made
-  more_called : (made' more : List Kind) (calls' : Kind → ℕ) → ((kind : Kind) → times kind made' ≡ times kind there.made + times kind more)
-      → IsCalled more calls calls' → (kind : Kind)
+  more_called : (made' more : List HostCallKind) (calls' : HostCallKind → ℕ)
+      → ((kind : HostCallKind) → times kind made' ≡ times kind there.made + times kind more)
+      → IsCalled more calls calls' → (kind : HostCallKind)
       → RisesBy (times kind h.entered + sum_by (times kind) (slice_set h.under_way at made')) 0 (calls' kind)
   more_called made' more calls' grown used kind =
       let set = sum_set_place (times kind) h.under_way at there.made made' there.there in
@@ -101,8 +104,8 @@ module _ (script : Script) (journal : List Entry) (jobs : List JobView) (calls :
       (rises_sum (times kind h.entered + sum_by (times kind) h.under_way) (times kind more) 0 (calls kind) (calls' kind) (h.called kind) (used kind))
 
   -- it goes on with its handles, and made more calls
-  pub stays_handled : (job' : JobView) (made' more : List Kind) (calls' : Kind → ℕ) → job'.me.places ≡ job.me.places
-      → MadeBy script job' (active_of job') made' → ((kind : Kind) → times kind made' ≡ times kind there.made + times kind more)
+  pub stays_handled : (job' : JobView) (made' more : List HostCallKind) (calls' : HostCallKind → ℕ) → job'.me.places ≡ job.me.places
+      → MadeBy script job' (active_of job') made' → ((kind : HostCallKind) → times kind made' ≡ times kind there.made + times kind more)
       → IsCalled more calls calls' → HandlesAgree script journal (slice_set jobs at job') calls'
   stays_handled job' made' more calls' same by grown used =
       record {
@@ -120,7 +123,7 @@ module _ (script : Script) (journal : List Entry) (jobs : List JobView) (calls :
     last o = asked_behind script (following_of (progress_of script journal) (entry_of tx at o)) tx.replies
 
     -- its entry leads to these handles
-    enters_handled : (o : Outcome) (ends : List Kind) (places : List (List Place)) → EndMakes (last o) tx.late o ends
+    enters_handled : (o : Outcome) (ends : List HostCallKind) (places : List (List Place)) → EndMakes (last o) tx.late o ends
         → places ≡ handles_behind (places_of jobs) (entry_of tx at o) tx.me.places o
         → AreHandled (opened_reach script.outline) (lasts_of script (journal ++ entry_of tx at o ∷ [])) (journal ++ entry_of tx at o ∷ [])
         (reach places (h.entered ++ made.body ++ ends))
@@ -142,8 +145,9 @@ module _ (script : Script) (journal : List Entry) (jobs : List JobView) (calls :
         }))
 
     -- the count of calls is as before where its entry takes its calls over
-    entered_called : (ends : List Kind) (calls' : Kind → ℕ) → ((kind : Kind) → times kind there.made ≡ times kind made.body + times kind ends)
-        → ((kind : Kind) → calls' kind ≡ calls kind) → (kind : Kind)
+    entered_called : (ends : List HostCallKind) (calls' : HostCallKind → ℕ)
+        → ((kind : HostCallKind) → times kind there.made ≡ times kind made.body + times kind ends)
+        → ((kind : HostCallKind) → calls' kind ≡ calls kind) → (kind : HostCallKind)
         → RisesBy (times kind (h.entered ++ made.body ++ ends) + sum_by (times kind) (slice_set h.under_way at [])) 0 (calls' kind)
     entered_called ends calls' all same kind =
         let set = sum_set_place (times kind) h.under_way at there.made [] there.there in
@@ -158,9 +162,9 @@ module _ (script : Script) (journal : List Entry) (jobs : List JobView) (calls :
         (subst (RisesBy (times kind h.entered + sum_by (times kind) h.under_way) 0) (sym (same kind)) (h.called kind))
 
     -- it was aborted: the handles stay
-    pub aborted_handled : (report : Report) (job' : JobView) (ends : List Kind) (calls' : Kind → ℕ) → job'.me.places ≡ job.me.places
+    pub aborted_handled : (report : Report) (job' : JobView) (ends : List HostCallKind) (calls' : HostCallKind → ℕ) → job'.me.places ≡ job.me.places
         → EndMakes (last (Aborted report)) tx.late (Aborted report) ends → MadeBy script job' (active_of job') []
-        → ((kind : Kind) → times kind there.made ≡ times kind made.body + times kind ends) → ((kind : Kind) → calls' kind ≡ calls kind)
+        → ((kind : HostCallKind) → times kind there.made ≡ times kind made.body + times kind ends) → ((kind : HostCallKind) → calls' kind ≡ calls kind)
         → HandlesAgree script (journal ++ entry_of tx at (Aborted report) ∷ []) (slice_set jobs at job') calls'
     aborted_handled report job' ends calls' same uses by all rest =
         record {
@@ -172,8 +176,8 @@ module _ (script : Script) (journal : List Entry) (jobs : List JobView) (calls :
         }
 
     -- it committed: its job has those of its end, and so have the jobs that it started
-    pub committed_handled : (calls' : Kind → ℕ) → map thread_in tx.late ≡ map thread_asked (kept_calls tx.calls tx.replies)
-        → ((kind : Kind) → times kind there.made ≡ times kind made.body + times kind made.lates) → ((kind : Kind) → calls' kind ≡ calls kind)
+    pub committed_handled : (calls' : HostCallKind → ℕ) → map thread_in tx.late ≡ map thread_asked (kept_calls tx.calls tx.replies)
+        → ((kind : HostCallKind) → times kind there.made ≡ times kind made.body + times kind made.lates) → ((kind : HostCallKind) → calls' kind ≡ calls kind)
         → HandlesAgree script (journal ++ entry_of tx at (Committed tx.ends) ∷ [])
         (slice_set jobs at (behind_commit job tx) ++ started_jobs script job tx) calls'
     committed_handled calls' kept all rest =

@@ -15,7 +15,7 @@ use Rattle.xc_data.specs.declared.entry.Outcome.TheVariants.{Aborted}
 use Rattle.xc_data.specs.declared.entry.Report.{Report}
 use Rattle.xc_data.specs.declared.entry.Turn.{Turn}
 use Rattle.xc_data.specs.declared.entry.Turn.TheVariants as turn
-use Rattle.xc_data.specs.declared.script.Kind.{Kind}
+use Rattle.xc_data.specs.declared.script.HostCallKind.{HostCallKind}
 use Rattle.xc_data.specs.declared.undo.Undo.{Undo}
 use Rattle.xc_data.specs.declared.undo.UndoEnd.{UndoEnd}
 use Rattle.xc_data.specs.declared.undo.UndoEnd.TheVariants.{Undone, Failed, Blocked}
@@ -51,7 +51,7 @@ use Rattle.xc_model.specs.Setting.{Setting}
 use Rattle.xc_model.specs.Stories.{StoriesHold, StoryHolds, IsDoing, IsInPhase, IsUnderway}
 use Rattle.xc_model.specs.UndoingRows.{BackTurn, EntersAborted, UndoingTurn}
 use Rattle.xc_turns.proofs.HandledMade.{MadeAt, idle_made}
-use Rattle.xc_turns.proofs.HandledTx.{backed_handled, begun_made, called_handled, lates_more, no_backs, no_ends, other_lates, parts_times, times_append}
+use Rattle.xc_turns.proofs.HandledTx.{backed_handled, begun_made, called_handled, lates_more, no_backs, no_ends_made, other_lates, parts_times, times_append}
 use Rattle.xc_turns.proofs.HandledRows.{aborted_handled, committed_handled, stays_handled, there}
 use Rattle.xc_turns.proofs.Jobs.{behind_abort_none}
 use Rattle.xc_turns.proofs.LateEnds.{Ends, next_ends, next_uses}
@@ -94,15 +94,15 @@ module _ (s : Setting) (at : ℕ) (old : Moment) (job : JobView) (new : Moment) 
       (subst (λ (js : List JobView). HandlesAgree s.script journal js new.calls) (sym q) so)
 
   -- the job goes on, and made more calls
-  goes_on : (job' : JobView) (made' more : List Kind) → job'.me.places ≡ job.me.places → MadeBy s.script job' (active_of job') made'
-      → ((kind : Kind) → times kind made' ≡ times kind was.made + times kind more) → IsCalled more old.calls new.calls
+  goes_on : (job' : JobView) (made' more : List HostCallKind) → job'.me.places ≡ job.me.places → MadeBy s.script job' (active_of job') made'
+      → ((kind : HostCallKind) → times kind made' ≡ times kind was.made + times kind more) → IsCalled more old.calls new.calls
       → new.journal ≡ old.journal → new.jobs ≡ slice_set old.jobs at job' → After
   goes_on job' made' more same by grown used p q =
       become old.journal (slice_set old.jobs at job') p q
       (stays_handled s.script old.journal old.jobs old.calls at job stands h job' made' more new.calls same by grown used)
 
   -- as many as before
-  same_times : (made' : List Kind) → ((kind : Kind) → times kind made' ≡ times kind was.made) → (kind : Kind)
+  same_times : (made' : List HostCallKind) → ((kind : HostCallKind) → times kind made' ≡ times kind was.made) → (kind : HostCallKind)
       → times kind made' ≡ times kind was.made + times kind []
   same_times made' same kind =
       let none : times kind [] ≡ 0 = refl in
@@ -122,12 +122,12 @@ module _ (s : Setting) (at : ℕ) (old : Moment) (job : JobView) (new : Moment) 
     none_made : was.made ≡ []
     none_made = subst (λ (o : Option TxView). MadeBy s.script job o was.made) idle was.by
 
-    none_times : (kind : Kind) → times kind [] ≡ times kind was.made
+    none_times : (kind : HostCallKind) → times kind [] ≡ times kind was.made
     none_times kind = ap (times kind) (sym none_made)
 
     -- from none to none
     rests : (job' : JobView) → job'.me.places ≡ job.me.places → active_of job' ≡ None → new.journal ≡ old.journal → new.jobs ≡ slice_set old.jobs at job'
-        → ((kind : Kind) → new.calls kind ≡ old.calls kind) → After
+        → ((kind : HostCallKind) → new.calls kind ≡ old.calls kind) → After
     rests job' same none p q calls = goes_on job' [] [] same (idle_made s.script job' none) (same_times [] none_times) calls p q
 
     by_idle : job.doing ≡ Idle → (answer : Turn) → IdleTurn (mover s at old job) answer new → After
@@ -169,7 +169,7 @@ module _ (s : Setting) (at : ℕ) (old : Moment) (job : JobView) (new : Moment) 
     each = asks-count (block_from s.script follows.0.job) tx.calls tx.replies under.asked
 
     -- part by part
-    made_times : (kind : Kind)
+    made_times : (kind : HostCallKind)
         → times kind was.made ≡ times kind made.body + times kind made.stops + times kind made.backs + times kind made.lates
     made_times kind = ap (times kind) made.all ∙ parts_times kind made.body made.stops made.backs made.lates
 
@@ -182,14 +182,14 @@ module _ (s : Setting) (at : ℕ) (old : Moment) (job : JobView) (new : Moment) 
     going place busy tx' = record job { place = place; busy = busy; doing = Active tx' }
 
     -- it goes on, and made more calls
-    moves : (place : Position) (busy : ℕ) (tx' : TxView) (made' more : List Kind) → HasMade s.script (going place busy tx') tx' made'
-        → ((kind : Kind) → times kind made' ≡ times kind was.made + times kind more) → IsCalled more old.calls new.calls
+    moves : (place : Position) (busy : ℕ) (tx' : TxView) (made' more : List HostCallKind) → HasMade s.script (going place busy tx') tx' made'
+        → ((kind : HostCallKind) → times kind made' ≡ times kind was.made + times kind more) → IsCalled more old.calls new.calls
         → new.journal ≡ old.journal → new.jobs ≡ slice_set old.jobs at (going place busy tx') → After
     moves place busy tx' made' more by grown used p q = goes_on (going place busy tx') made' more refl by grown used p q
 
     -- it goes over to another phase, and no host is called
     turns : (place : Position) (busy : ℕ) (p : Phase) → made.stops ≡ [] → ((last : Ask) → StopsIn p last [])
-        → ((kind : Kind) → new.calls kind ≡ old.calls kind)
+        → ((kind : HostCallKind) → new.calls kind ≡ old.calls kind)
         → new.journal ≡ old.journal → new.jobs ≡ slice_set old.jobs at (going place busy (record tx { phase = p })) → After
     turns place busy p none stopped calls =
         let tx' = record tx { phase = p } in
@@ -460,7 +460,7 @@ module _ (s : Setting) (at : ℕ) (old : Moment) (job : JobView) (new : Moment) 
         (idle_made s.script (behind_abort job tx c) (behind_abort_none job tx c))
         (λ kind.
         let before = made_times kind in
-        let lates : times kind made.lates ≡ 0 = ap (times kind) (no_ends tx.late tx.ends made.lates phase.no_ends made.ended) in
+        let lates : times kind made.lates ≡ 0 = ap (times kind) (no_ends_made tx.late tx.ends made.lates phase.no_ends made.ended) in
         let own = times_append kind made.stops made.backs in
         omega (arith, before, lates, own))
         (λ kind. ap (λ (n : Moment). n.calls kind) row.behind))

@@ -13,7 +13,7 @@ use Rattle.xc_data.specs.declared.call.Reply.{Reply}
 use Rattle.xc_data.specs.declared.call.Reply.TheVariants as reply
 use Rattle.xc_data.specs.declared.claim.Claim.{Claim}
 use Rattle.xc_data.specs.declared.private.Private.{Private}
-use Rattle.xc_data.specs.declared.script.Kind.{Kind}
+use Rattle.xc_data.specs.declared.script.HostCallKind.{HostCallKind}
 use Rattle.xc_data.specs.declared.undo.Undo.{Undo}
 use Rattle.xc_data.specs.declared.undo.UndoEnd.{UndoEnd}
 use Rattle.xc_host.specs.Cause.{counts_for, times}
@@ -27,7 +27,7 @@ use Rattle.xc_world.specs.World.{beginning}
 use Rattle.xc_model.specs.BackingRows.{backed}
 use Rattle.xc_model.specs.Called.{BacksMake, LatesMake}
 use Rattle.xc_model.specs.Handles.{Handled, IsHandled, HandlesCall, HandlesCalls, handled_anew, handled_back}
-use Rattle.xc_model.specs.Handling.{HasMade, handled_in, saved_in}
+use Rattle.xc_model.specs.Handling.{HasMade, handled_in, handles_at_save}
 use Rattle.xc_model.specs.IdleRows.{new_tx}
 use Rattle.xc_model.specs.Moment.{TxView, SavedView, JobView}
 use Rattle.xc_model.specs.PlainSteps.{Parts, copied, noting, noting_plain}
@@ -50,14 +50,14 @@ plain_call tx c r was is ahead h = h
 
 -- what a save keeps
 saved_kept : (c : Call) (saved : Option SavedView) (copy : SavedView)
-    → option_map saved_in (saved_by c saved copy) ≡ saved_by c (option_map saved_in saved) (saved_in copy)
+    → option_map handles_at_save (saved_by c saved copy) ≡ saved_by c (option_map handles_at_save saved) (handles_at_save copy)
 saved_kept call.Save saved copy = refl
 saved_kept call.Keep saved copy = refl
 saved_kept call.Back saved copy = refl
 saved_kept c saved copy = refl
 
 -- a call is noted
-pub called_handled : (tx : TxView) (c : Call) (r : Reply) (claims : List Claim) (parts : Parts) (was : Handled) (body more : List Kind)
+pub called_handled : (tx : TxView) (c : Call) (r : Reply) (claims : List Claim) (parts : Parts) (was : Handled) (body more : List HostCallKind)
     → is_back c ≡ false → length tx.calls ≡ length tx.replies → IsChecked (refusal_of c tx.me) c r → IsMeAfter tx.number c r tx.me parts.me
     → CallsOf (refusal_of c tx.me) c r more → HandlesCalls tx.number tx.calls tx.replies was (handled_in tx body)
     → HandlesCalls tx.number (tx.calls ++ c ∷ []) (tx.replies ++ r ∷ []) was (handled_in (noting tx c r claims parts) (body ++ more))
@@ -74,7 +74,7 @@ called_handled tx c r claims parts was body more ahead each checked after uses h
     }))
 
 -- its block went back
-pub backed_handled : (tx : TxView) (kept : SavedView) (was : Handled) (body backs : List Kind) → tx.saved ≡ Some kept
+pub backed_handled : (tx : TxView) (kept : SavedView) (was : Handled) (body backs : List HostCallKind) → tx.saved ≡ Some kept
     → length tx.calls ≡ length tx.replies → All (λ e. is_undone e.1 ≡ true) tx.undo.ended → BacksMake tx.undo.ended backs
     → HandlesCalls tx.number tx.calls tx.replies was (handled_in tx body)
     → HandlesCalls tx.number (tx.calls ++ call.Back ∷ []) (tx.replies ++ reply.Undone (sum_by undo_faults tx.undo.ended) ∷ []) was
@@ -93,7 +93,7 @@ backed_handled tx kept was body backs opened each undone made h =
 
 -- ---- a late call's end
 -- that of the first call without one follows those before it
-pub lates_more : (late : List LateCall) (ends : List LateEnd) (c : LateCall) (rest : List LateCall) (end : LateEnd) (lates more : List Kind)
+pub lates_more : (late : List LateCall) (ends : List LateEnd) (c : LateCall) (rest : List LateCall) (end : LateEnd) (lates more : List HostCallKind)
     → drop (length ends) late ≡ c ∷ rest → LatesMake late ends lates → LatesFor c end more → LatesMake late (ends ++ end ∷ []) (lates ++ more)
 lates_more [] [] c rest end lates more is h one = cc is
 lates_more (d ∷ late) [] c rest end lates more is h one =
@@ -104,27 +104,28 @@ lates_more (d ∷ late) (e ∷ ends) c rest end lates more is (first, others, ow
     (first, others ++ more, own, lates_more late ends c rest end others more is before one, ap (λ ks. ks ++ more) all ∙ append_assoc first others more)
 
 -- without an end they made none
-pub no_ends : (late : List LateCall) (ends : List LateEnd) (lates : List Kind) → ends ≡ [] → LatesMake late ends lates → lates ≡ []
-no_ends late [] lates none h = h
-no_ends late (e ∷ ends) lates none h = cc none
+pub no_ends_made : (late : List LateCall) (ends : List LateEnd) (lates : List HostCallKind) → ends ≡ [] → LatesMake late ends lates → lates ≡ []
+no_ends_made late [] lates none h = h
+no_ends_made late (e ∷ ends) lates none h = cc none
 
 -- so whichever they are
-pub other_lates : (late late' : List LateCall) (ends : List LateEnd) (lates : List Kind) → ends ≡ [] → LatesMake late ends lates → LatesMake late' ends lates
+pub other_lates : (late late' : List LateCall) (ends : List LateEnd) (lates : List HostCallKind) → ends ≡ [] → LatesMake late ends lates
+    → LatesMake late' ends lates
 other_lates late late' [] lates none h = h
 other_lates late late' (e ∷ ends) lates none h = cc none
 
 -- without a compensation there are none of it
-pub no_backs : (ended : List (Undo × UndoEnd)) (backs : List Kind) → ended ≡ [] → BacksMake ended backs → backs ≡ []
+pub no_backs : (ended : List (Undo × UndoEnd)) (backs : List HostCallKind) → ended ≡ [] → BacksMake ended backs → backs ≡ []
 no_backs [] backs none h = h
 no_backs (e ∷ ended) backs none h = cc none
 
 -- ---- counts
 -- calls, and others after them
-pub times_append : (kind : Kind) (made more : List Kind) → times kind (made ++ more) ≡ times kind made + times kind more
+pub times_append : (kind : HostCallKind) (made more : List HostCallKind) → times kind (made ++ more) ≡ times kind made + times kind more
 times_append kind made more = sum_by-append (λ k. cond (counts_for kind k) 1 0) made more
 
 -- four parts
-pub parts_times : (kind : Kind) (body stops backs lates : List Kind)
+pub parts_times : (kind : HostCallKind) (body stops backs lates : List HostCallKind)
     → times kind (body ++ stops ++ backs ++ lates) ≡ times kind body + times kind stops + times kind backs + times kind lates
 parts_times kind body stops backs lates =
     let first = times_append kind (body ++ stops ++ backs) lates in

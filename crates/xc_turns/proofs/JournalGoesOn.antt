@@ -7,7 +7,7 @@ use Rattle.xc_model.specs.Moment.{JobView, Moment}
 use Rattle.xc_model.specs.Rows.{IsTurn}
 use Rattle.xc_model.specs.Entering.{entry_of}
 use Rattle.xc_turns.proofs.KindsOfTurns.{Kind, rests, begins, moves, stays, enters}
-use Rattle.xc_turns.proofs.TurnKinds.{kind_of}
+use Rattle.xc_turns.proofs.TurnKinds.{row_kind}
 
 -- it is the old one, with nothing after it
 same : (old new : Moment) → new.journal ≡ old.journal → (more : List Entry) × (new.journal ≡ old.journal ++ more)
@@ -25,4 +25,4 @@ goes_on s at old job new (enters k) = (entry_of k.tx at k.outcome ∷ [], k.jour
 -- so it is after each row
 pub journal_goes_on : (s : Setting) (at : ℕ) (old new : Moment) (answer : Turn) → IsTurn s at old answer new
     → (more : List Entry) × (new.journal ≡ old.journal ++ more)
-journal_goes_on s at old new answer turn = goes_on s at old turn.job new (kind_of s at old new answer turn)
+journal_goes_on s at old new answer turn = goes_on s at old turn.job new (row_kind s at old new answer turn)

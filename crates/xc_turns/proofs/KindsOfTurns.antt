@@ -132,7 +132,7 @@ pub record Stays (s : Setting) (at : ℕ) (old : Moment) (job : JobView) (new : 
   pub waits : Waits (mover s at old job) tx object holder new
 
 -- an active transaction ends, and perhaps more jobs come
-pub record Enters (at : ℕ) (old : Moment) (job : JobView) (new : Moment) : Type 0 where
+pub record EntersJournal (at : ℕ) (old : Moment) (job : JobView) (new : Moment) : Type 0 where
   pub behind : JobView
   pub more : List JobView
   pub idle : AreIdle more
@@ -152,4 +152,4 @@ pub data Kind (s : Setting) (at : ℕ) (old : Moment) (job : JobView) (new : Mom
   begins : Begins at old job new → Kind s at old job new
   moves : Moves s at old job new → Kind s at old job new
   stays : Stays s at old job new → Kind s at old job new
-  enters : Enters at old job new → Kind s at old job new
+  enters : EntersJournal at old job new → Kind s at old job new

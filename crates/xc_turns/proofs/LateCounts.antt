@@ -76,13 +76,18 @@ at_most_one true c = omega arith
 at_most_one false c = omega arith
 
 -- late calls that start what kept calls would are as many
-pub as_many : (late : List LateCall) (kept : List Call) → map thread_in late ≡ map thread_asked kept → length late ≡ length kept
-as_many late kept e = sym (length-map late thread_in) ∙ ap length e ∙ length-map kept thread_asked
+pub late_as_many : (late : List LateCall) (kept : List Call) → map thread_in late ≡ map thread_asked kept → length late ≡ length kept
+late_as_many late kept e = sym (length-map late thread_in) ∙ ap length e ∙ length-map kept thread_asked
 
 -- a call leaves one late call at most
 pub kept_few : (w : World) (me : Private) (number : ℕ) (c : Call) (r : Reply) → IsReplyInTime me number c r → length (kept_call c me r) ≤ 1
 kept_few w me number c r in_time =
-    omega (arith, as_many (kept_call c me r) (if is_late r then c ∷ [] else []) (kept_one me c r (late_one w me number c r in_time)), at_most_one (is_late r) c)
+    omega (
+      arith,
+      late_as_many (kept_call c me r) (if is_late r then c ∷ [] else []) (kept_one me c r (late_one w me number c r in_time)),
+      at_most_one
+          (is_late r) c,
+    )
 
 -- one more call is kept where its reply says so, and a back drops those of its block
 pub kept-more : (k : KeptCalls) (calls : List Call) (replies : List Reply) (c : Call) (r : Reply) → length calls ≡ length replies

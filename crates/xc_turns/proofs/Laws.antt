@@ -16,10 +16,10 @@ pub use Rattle.xc_turns.proofs.Closings.{calls_true}
 -- where each job has ended it has the end of its story
 pub use Rattle.xc_turns.proofs.Closings.{ends_told}
 -- where each job has ended the words are those that the journal left
-pub use Rattle.xc_turns.proofs.Closings.{words_left}
+pub use Rattle.xc_turns.proofs.Closings.{words_are_left}
 -- ---- Completions: Where each job was done, each of its transactions has the one entry by which it was done with.
 -- a job isn't starved
-pub use Rattle.xc_turns.proofs.Completions.{GoesOn}
+pub use Rattle.xc_turns.proofs.Completions.{IsNotStarved}
 -- of all entries
 pub use Rattle.xc_turns.proofs.Completions.{all_go}
 -- where all are done all is complete
@@ -31,7 +31,7 @@ pub use Rattle.xc_turns.proofs.CountedSums.{adds}
 pub use Rattle.xc_turns.proofs.CountedSums.{sum_set}
 -- ---- CountedTurns: Each row of the table of turns keeps the count of the host's faults that of the recorded ones.
 -- the job's story, with what its phase says
-pub use Rattle.xc_turns.proofs.CountedTurns.{in_phase}
+pub use Rattle.xc_turns.proofs.CountedTurns.{story_in_phase}
 -- an undoing one has no end of a late call
 pub use Rattle.xc_turns.proofs.CountedTurns.{none_late}
 -- a turn keeps the count
@@ -83,7 +83,7 @@ pub use Rattle.xc_turns.proofs.LateCounts.{left_some}
 pub use Rattle.xc_turns.proofs.LateEnds.{next_ends}
 -- ---- Lefts: Each turn is one of those that were left.
 -- each turn leaves fewer
-pub use Rattle.xc_turns.proofs.Lefts.{measured}
+pub use Rattle.xc_turns.proofs.Lefts.{leaves_fewer}
 -- ---- Lists: Lists: what stands in one place, one element in another's place, one more after, and what is picked.
 -- the front stays
 pub use Rattle.xc_turns.proofs.Lists.{get_front}
@@ -144,3 +144,14 @@ pub use Rattle.xc_turns.proofs.WordStates.{behind_count}
 -- ---- WordTurns: Each row of the table of turns keeps the words.
 -- a turn keeps the words
 pub use Rattle.xc_turns.proofs.WordTurns.{turn_keeps_words}
+-- ---- Jobs: Active transactions by the place of their jobs.
+-- the active transaction there is the job's
+pub use Rattle.xc_turns.proofs.Jobs.{active_was}
+-- and then the other job's
+pub use Rattle.xc_turns.proofs.Jobs.{active_is}
+-- the other job's is active there
+pub use Rattle.xc_turns.proofs.Jobs.{active_here}
+-- elsewhere those that are active were so
+pub use Rattle.xc_turns.proofs.Jobs.{active_before}
+-- and those that were still are
+pub use Rattle.xc_turns.proofs.Jobs.{active_after}

@@ -20,27 +20,27 @@ use Rattle.xc_model.specs.Measure.{attempt_turns, phase_turns, bodies_turns, doi
 
 -- ---- the bodies that are left
 -- the next one
-abbrev pub first_of : List (List Statement) → List Statement
-first_of [] = []
-first_of (body ∷ bodies) = body
+abbrev pub first_body : List (List Statement) → List Statement
+first_body [] = []
+first_body (body ∷ bodies) = body
 
 -- those after it
-abbrev pub rest_of : List (List Statement) → List (List Statement)
-rest_of [] = []
-rest_of (body ∷ bodies) = bodies
+abbrev pub bodies_after : List (List Statement) → List (List Statement)
+bodies_after [] = []
+bodies_after (body ∷ bodies) = bodies
 
-rest_past : (bodies : List (List Statement)) (n : ℕ) → drop (suc n) bodies ≡ rest_of (drop n bodies)
+rest_past : (bodies : List (List Statement)) (n : ℕ) → drop (suc n) bodies ≡ bodies_after (drop n bodies)
 rest_past [] zero = refl
 rest_past [] (suc n) = refl
 rest_past (body ∷ bodies) zero = refl
 rest_past (body ∷ bodies) (suc n) = rest_past bodies n
 
 -- the bodies after the next one
-pub rest_there : (bodies : List (List Statement)) (n : ℕ) → drop (n + 1) bodies ≡ rest_of (drop n bodies)
+pub rest_there : (bodies : List (List Statement)) (n : ℕ) → drop (n + 1) bodies ≡ bodies_after (drop n bodies)
 rest_there bodies n = ap (λ k. drop k bodies) (let h : n + 1 ≡ suc n = omega arith in h) ∙ rest_past bodies n
 
 -- the next one
-pub first_there : (bodies : List (List Statement)) (n : ℕ) → unwrap_or (slice_get bodies n) [] ≡ first_of (drop n bodies)
+pub first_there : (bodies : List (List Statement)) (n : ℕ) → unwrap_or (slice_get bodies n) [] ≡ first_body (drop n bodies)
 first_there [] zero = refl
 first_there [] (suc n) = refl
 first_there (body ∷ bodies) zero = refl
@@ -104,7 +104,7 @@ begun_falls s failed at (body ∷ bodies) number rank began me few some = omega 
 
 -- the transaction is passed
 pub passed_falls : (s : Setting) (failed at : ℕ) (bodies : List (List Statement)) (tx : TxView)
-    → (s.rules.patience - 0) + doing_turns s 0 0 (rest_of bodies) Idle < doing_turns s failed at bodies (Active tx)
+    → (s.rules.patience - 0) + doing_turns s 0 0 (bodies_after bodies) Idle < doing_turns s failed at bodies (Active tx)
 passed_falls s failed at [] tx = omega (arith, two_left 0 at tx tx.phase)
 passed_falls s failed at (body ∷ bodies) tx = omega (arith, idle_is s 0 bodies, two_left (length body) at tx tx.phase)
 
@@ -122,7 +122,7 @@ stays_below n at later tx Backing runs after = cc
 
 -- it goes on
 pub on_falls : (s : Setting) (failed at later : ℕ) (bodies : List (List Statement)) (tx next : TxView)
-    → ((n : ℕ) → n ≡ length (first_of bodies)
+    → ((n : ℕ) → n ≡ length (first_body bodies)
     → phase_turns n later next next.phase < phase_turns n at tx tx.phase)
     → doing_turns s failed later bodies (Active next) < doing_turns s failed at bodies (Active tx)
 on_falls s failed at later [] tx next falls = omega (arith, falls 0 refl)

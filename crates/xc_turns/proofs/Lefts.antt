@@ -30,7 +30,7 @@ use Rattle.xc_model.specs.declared.phase.Phase.{Phase}
 use Rattle.xc_model.specs.declared.phase.Phase.TheVariants.{Running, Committing, Undoing, Backing}
 use Rattle.xc_model.specs.Setting.{Setting}
 use Rattle.xc_model.specs.Moment.{TxView, JobView, Doing, Idle, Active, Starved, Ended, Moment, failures, begun_count, late_left, rank_of, entering}
-use Rattle.xc_model.specs.Moment.{revoked, waiting}
+use Rattle.xc_model.specs.Moment.{revoked, asked_to_wait}
 use Rattle.xc_model.specs.Rows.{IsTurn, TurnOf, ActiveTurn, StarvedTurn}
 use Rattle.xc_model.specs.IdleRows.{IdleTurn}
 use Rattle.xc_model.specs.RunningRows.{MarkedTurn, RunningTurn, CalledTurn, AskedTurn}
@@ -51,7 +51,7 @@ use Rattle.xc_model.specs.IdleRows.{beginning_job}
 use Rattle.xc_model.specs.Measure.{attempt_turns, bodies_turns, phase_turns, doing_turns, job_turns, most_turns, turns_left}
 use Rattle.xc_turns.proofs.Lists.{sum_set_place}
 use Rattle.xc_turns.proofs.LateCounts.{kept_few, left_less, left_more, left_some}
-use Rattle.xc_turns.proofs.LeftParts.{active_some, ended_is, first_of, first_there, idle_some, rest_there, some_there, starved_is}
+use Rattle.xc_turns.proofs.LeftParts.{active_some, ended_is, first_body, first_there, idle_some, rest_there, some_there, starved_is}
 use Rattle.std.proofs.Common.{◌*◌, zero, suc, map, length-set}
 use Rattle.std.proofs.Math.Nat.{add-mul}
 use Rattle.std.proofs.lemmas.List.Sums.{sum_by-append, sum_by-cons, sum_by-le}
@@ -164,14 +164,14 @@ idle_falls s at old new job (turn.Ended end) stands is (ending, same) =
     (below_same s job Idle 0 is (idle_some s (failures job.attempts) job.place.at bodies)))
 idle_falls s at old new job (turn.Busy object number) stands is (waits, same) =
     let now_left = doing_turns s (failures job.attempts) job.place.at (bodies_at s job.place) job.doing in
-    falls_by s at old new job (waiting job) stands (ap (λ (n : Moment). n.jobs) same)
+    falls_by s at old new job (asked_to_wait job) stands (ap (λ (n : Moment). n.jobs) same)
     (below_waiting s job job.doing now_left refl waits.patient (omega arith))
 idle_falls s at old new job turn.NoMemory stands is h = absurd h
 
 -- ---- a job with an active transaction that goes on
 goes_on : (s : Setting) (at : ℕ) (old new : Moment) (job : JobView) (place : Position) (tx next : TxView) → slice_get old.jobs at ≡ Some job
     → job.doing ≡ Active tx → new.jobs ≡ slice_set old.jobs at (with_tx job place next) → IsSameBegin job.place place
-    → ((n : ℕ) → n ≡ length (first_of (bodies_at s job.place))
+    → ((n : ℕ) → n ≡ length (first_body (bodies_at s job.place))
     → phase_turns n place.at next next.phase < phase_turns n job.place.at tx tx.phase)
     → turns_left s new < turns_left s old
 goes_on s at old new job place tx next stands is jobs begin falls =
@@ -189,10 +189,10 @@ commits_past : (s : Setting) (place : Position) → drop place.at (unwrap_or (bo
 commits_past s place e = rw e
 
 -- a call is asked before the end
-asked_before : (s : Setting) (place : Position) (call : Call) → asked_at s place ≡ ask.Call call → place.at < length (first_of (bodies_at s place))
+asked_before : (s : Setting) (place : Position) (call : Call) → asked_at s place ≡ ask.Call call → place.at < length (first_body (bodies_at s place))
 asked_before s place call e =
     let body = unwrap_or (body_at s place) [] in
-    let there : length body ≡ length (first_of (bodies_at s place)) = ap length (first_there (transactions_at s.script place.block) place.next) in
+    let there : length body ≡ length (first_body (bodies_at s place)) = ap length (first_there (transactions_at s.script place.block) place.next) in
     let within : length body ≤ place.at → ⊥ = λ le. let past = commits_past s place (drop_all place.at body le) in cc in
     omega arith
 
@@ -271,7 +271,7 @@ ask_falls s at old new job tx ask.End stands is runs asked c = absurd c
 
 -- what left a record is a call, whose statement is still to come
 left_before : (m : Mover) (tx : TxView) (a : Ask) (left : List Undo) (held : List Claim) → asked_at m.setting m.job.place ≡ a → length left ≤ 1
-    → HoldsWanting m tx a left held → length left ≤ length (first_of (bodies_at m.setting m.job.place)) - m.job.place.at
+    → HoldsWanting m tx a left held → length left ≤ length (first_body (bodies_at m.setting m.job.place)) - m.job.place.at
 left_before m tx (ask.Call call) left held asked one holds = omega (arith, asked_before m.setting m.job.place call asked)
 left_before m tx ask.Commit left held asked one kept = let none = ap length kept.0 in omega arith
 left_before m tx ask.Abort left held asked one kept = let none = ap length kept.0 in omega arith
@@ -289,7 +289,7 @@ running_falls s at old new job tx (turn.Busy object holder) stands is runs w =
     let moved : doing_turns s (failures job.attempts) w.place.at (bodies_at s w.place) (Active tx)
     ≡ doing_turns s (failures job.attempts) w.place.at (bodies_at s job.place) (Active tx) =
     λ i. doing_turns s (failures job.attempts) w.place.at (drop (w.same.begin.next i) (transactions_at s.script (w.same.begin.block i))) (Active tx) in
-    falls_by s at old new job (waiting (with_tx job w.place tx)) stands (ap (λ (n : Moment). n.jobs) w.behind)
+    falls_by s at old new job (asked_to_wait (with_tx job w.place tx)) stands (ap (λ (n : Moment). n.jobs) w.behind)
     (subst (λ n. (s.rules.patience - (job.busy + 1)) + n < job_turns s job) (sym moved)
     (below_waiting s job (Active tx) (doing_turns s (failures job.attempts) w.place.at (bodies_at s job.place) (Active tx)) is w.patient
     (on_stays s (failures job.attempts) job.place.at w.place.at (bodies_at s job.place) tx runs w.same.at)))
@@ -404,5 +404,5 @@ doing_falls s at old new job Starved answer stands is h = starved_falls s at old
 doing_falls s at old new job (Ended end) answer stands is h = absurd h
 
 -- each turn leaves fewer
-pub measured : (s : Setting) (at : ℕ) (old new : Moment) (answer : Turn) → IsTurn s at old answer new → turns_left s new < turns_left s old
-measured s at old new answer h = doing_falls s at old new h.job h.job.doing answer h.there refl h.row
+pub leaves_fewer : (s : Setting) (at : ℕ) (old new : Moment) (answer : Turn) → IsTurn s at old answer new → turns_left s new < turns_left s old
+leaves_fewer s at old new answer h = doing_falls s at old new h.job h.job.doing answer h.there refl h.row

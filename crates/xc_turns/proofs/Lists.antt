@@ -49,7 +49,7 @@ get_cases (z ∷ xs) y zero x e = inl e
 get_cases (z ∷ xs) y (suc k) x e = elim (get_cases xs y k x e) [ inl at ↦ inl at | inr last ↦ inr (ap suc last.0, last.1) ]
 
 -- ---- what is picked around one place
-pub record Around {A B : Type 0} (h : A → Option B) (xs : List A) (i : ℕ) (x : A) : Type 0 where
+pub record PickedAround {A B : Type 0} (h : A → Option B) (xs : List A) (i : ℕ) (x : A) : Type 0 where
   pub front : List B
   pub back : List B
   pub was : filter_map h xs ≡ front ++ cons_option (h x) back
@@ -60,7 +60,7 @@ option_front None xs ys = refl
 option_front (Some b) xs ys = refl
 
 -- it stands in its place among what is picked
-pub around : {A B : Type 0} → (h : A → Option B) (xs : List A) (i : ℕ) (x : A) → slice_get xs i ≡ Some x → Around h xs i x
+pub around : {A B : Type 0} → (h : A → Option B) (xs : List A) (i : ℕ) (x : A) → slice_get xs i ≡ Some x → PickedAround h xs i x
 around h [] i x e = cc
 around h (z ∷ xs) zero x e = let same : z ≡ x = cc in
     record { front = []; back = filter_map h xs; was = ap (λ a. cons_option (h a) (filter_map h xs)) same; is = λ y. refl }

@@ -12,8 +12,8 @@ use Rattle.xc_data.specs.declared.entry.Entry.{Entry}
 use Rattle.xc_data.specs.declared.entry.JobEnd.TheVariants as job_end
 use Rattle.xc_host.specs.Contents.{Contents}
 use Rattle.xc_data.specs.declared.entry.Mark.{Mark}
-use Rattle.xc_model.specs.Serial.{AreInOrder, JobsRise, IsSerial, is_alone}
-use Rattle.xc_model.specs.Moment.{TxView, JobView, Doing, Idle, Active, Ended, Moment, active_in, active_of, joined}
+use Rattle.xc_model.specs.Serial.{AreSerial, JobsRise, IsSerial, is_alone}
+use Rattle.xc_model.specs.Moment.{TxView, JobView, Doing, Idle, Active, Ended, Moment, active_in, active_of, jobs_joined}
 use Rattle.xc_model.specs.Moment.{entering, unmarked}
 use Rattle.xc_model.specs.Movers.{IsActiveAt}
 use Rattle.xc_model.specs.Alone.{AreAlone, IsFullAt, MeetsNobody}
@@ -23,8 +23,8 @@ use Rattle.xc_turns.proofs.Grown.{AreIdle, grown_active}
 use Rattle.xc_turns.proofs.Jobs.{active_is, active_before}
 
 -- ---- a journal with one entry more
-order_more : (n : ℕ) (journal : List Entry) (e : Entry) → AreInOrder n journal → e.tx ≡ n + length journal + 1 → e.began ≡ n + length journal
-    → is_alone e.outcome ≡ true → AreInOrder n (journal ++ e ∷ [])
+order_more : (n : ℕ) (journal : List Entry) (e : Entry) → AreSerial n journal → e.tx ≡ n + length journal + 1 → e.began ≡ n + length journal
+    → is_alone e.outcome ≡ true → AreSerial n (journal ++ e ∷ [])
 order_more n [] e order number began alone =
     (let h : e.tx ≡ n + 1 = number ∙ ap (λ k. k + 1) (let z : n + 0 ≡ n = omega arith in z) in h, began ∙ (let z : n + 0 ≡ n = omega arith in z), alone, tt)
 order_more n (first ∷ journal) e order number began alone =
@@ -51,8 +51,8 @@ rise_more journal e most rise before last i j a b ea eb less =
 
 -- ---- what a row leaves
 -- this is the next transaction
-abbrev IsNext : ℕ → TxView → Type 0
-IsNext entered tx = (tx.number ≡ entered + 1) × (tx.began ≡ entered) × MeetsNobody tx.phase × (entered < 10000)
+abbrev IsNextTx : ℕ → TxView → Type 0
+IsNextTx entered tx = (tx.number ≡ entered + 1) × (tx.began ≡ entered) × MeetsNobody tx.phase × (entered < 10000)
 
 -- no transaction is marked
 abbrev HasNoMarks : Moment → Type 0
@@ -71,9 +71,9 @@ none_left marks number none n = by_test (nat_eq n number)
     by_test false = none n
 
 -- a job's active transaction is the next
-pub next_of : (at : ℕ) (old : Moment) (job : JobView) (tx : TxView) → slice_get old.jobs at ≡ Some job → job.doing ≡ Active tx → AreAlone old at
-    → IsNext (length old.journal) tx
-next_of at old job tx stands is alone = alone.mine tx (job, stands, ap active_in is)
+pub active_is_next : (at : ℕ) (old : Moment) (job : JobView) (tx : TxView) → slice_get old.jobs at ≡ Some job → job.doing ≡ Active tx → AreAlone old at
+    → IsNextTx (length old.journal) tx
+active_is_next at old job tx stands is alone = alone.mine tx (job, stands, ap active_in is)
 
 others_stay : (at : ℕ) (old new : Moment) (was is : JobView) → new.jobs ≡ slice_set old.jobs at is → AreAlone old at → (j : ℕ) (tx : TxView)
     → IsActiveAt new.jobs j tx → j ≡ at
@@ -131,25 +131,25 @@ of_joined P (x ∷ jobs) more front back (suc j) job there =
 
 -- the job stands otherwise, and nothing enters
 stays_so : (at : ℕ) (old new : Moment) (was is : JobView) → slice_get old.jobs at ≡ Some was → new.jobs ≡ slice_set old.jobs at is
-    → new.journal ≡ old.journal → HasNoMarks new → ((tx : TxView) → active_of is ≡ Some tx → IsNext (length old.journal) tx)
+    → new.journal ≡ old.journal → HasNoMarks new → ((tx : TxView) → active_of is ≡ Some tx → IsNextTx (length old.journal) tx)
     → MayBeFull old.journal at is → AreAlone old at → AreAlone new at
 stays_so at old new was is stands jobs journal marks next own alone =
     record {
       serial = subst (λ j. IsSerial j) (sym journal) alone.serial;
       before = subst (λ j. All (λ (e : Entry). e.job ≤ at + 1) j) (sym journal) alone.before;
       others = others_stay at old new was is jobs alone;
-      mine = λ tx active. subst (λ (j : List Entry). IsNext (length j) tx) (sym journal) (next tx (own_is at old new was is tx stands jobs active));
+      mine = λ tx active. subst (λ (j : List Entry). IsNextTx (length j) tx) (sym journal) (next tx (own_is at old new was is tx stands jobs active));
       unmarked = marks;
       full = subst (λ js. AreFull new.journal js) (sym jobs) (subst (λ j. AreFull j (slice_set old.jobs at is)) (sym journal)
           (full_set old.journal old.jobs at was is stands own alone.full));
     }
 
 -- its transaction is this one
-pub goes_on : (at : ℕ) (old new : Moment) (was is : JobView) (tx : TxView) → slice_get old.jobs at ≡ Some was → new.jobs ≡ slice_set old.jobs at is
-    → new.journal ≡ old.journal → HasNoMarks new → is.doing ≡ Active tx → IsNext (length old.journal) tx → AreAlone old at → AreAlone new at
-goes_on at old new was is tx stands jobs journal marks has next alone =
+pub alone_goes_on : (at : ℕ) (old new : Moment) (was is : JobView) (tx : TxView) → slice_get old.jobs at ≡ Some was → new.jobs ≡ slice_set old.jobs at is
+    → new.journal ≡ old.journal → HasNoMarks new → is.doing ≡ Active tx → IsNextTx (length old.journal) tx → AreAlone old at → AreAlone new at
+alone_goes_on at old new was is tx stands jobs journal marks has next alone =
     stays_so at old new was is stands jobs journal marks
-    (λ other e. let same : tx ≡ other = let h = ap active_in has in cc in subst (IsNext (length old.journal)) same next)
+    (λ other e. let same : tx ≡ other = let h = ap active_in has in cc in subst (IsNextTx (length old.journal)) same next)
     (goes_unfull old.journal at is (Active tx) has (λ e. cc)) alone
 
 -- it has none
@@ -160,11 +160,11 @@ rests at old new was is stands jobs journal marks none own alone =
     own alone
 
 -- its transaction enters
-pub enters : (at : ℕ) (old new : Moment) (was is : JobView) (e : Entry) (contents : Contents) (kept : List KeptItem)
+pub enters_alone : (at : ℕ) (old new : Moment) (was is : JobView) (e : Entry) (contents : Contents) (kept : List KeptItem)
     → slice_get old.jobs at ≡ Some was → new ≡ record (entering old at is e) { contents = contents; kept = kept } → active_of is ≡ None
     → (e.tx ≡ length old.journal + 1) × (e.began ≡ length old.journal) × (is_alone e.outcome ≡ true) × (e.job ≡ at + 1) → length old.journal < 10000
     → (is.doing ≡ Ended job_end.JournalFull → ⊥) → AreAlone old at → AreAlone new at
-enters at old new was is e contents kept stands same none fits room goes alone =
+enters_alone at old new was is e contents kept stands same none fits room goes alone =
     let jobs : new.jobs ≡ slice_set old.jobs at is = ap (λ (n : Moment). n.jobs) same in
     let journal : new.journal ≡ old.journal ++ e ∷ [] = ap (λ (n : Moment). n.journal) same in
     let P : Entry → Type 0 = λ x. x.job ≤ at + 1 in
@@ -187,7 +187,7 @@ enters at old new was is e contents kept stands same none fits room goes alone =
 
 -- jobs without transactions come after
 pub alone_joined : (at : ℕ) (now : Moment) (more : List JobView) → AreIdle more
-    → ((j i : ℕ) (job : JobView) → slice_get more j ≡ Some job → MayBeFull now.journal i job) → AreAlone now at → AreAlone (joined now more) at
+    → ((j i : ℕ) (job : JobView) → slice_get more j ≡ Some job → MayBeFull now.journal i job) → AreAlone now at → AreAlone (jobs_joined now more) at
 alone_joined at now more idle unfull alone =
     record {
       serial = alone.serial;

@@ -25,7 +25,7 @@ use Rattle.xc_model.specs.Setting.{Setting}
 use Rattle.xc_model.specs.Serial.{IsSerial}
 use Rattle.xc_model.specs.EntryEnds.{is_tried_again}
 use Rattle.xc_model.specs.Moment.{TxView, JobView, Doing, Idle, Active, Starved, Ended, Moment, active_in, active_of, actives, begun_count, late_left}
-use Rattle.xc_model.specs.Moment.{rank_of, entering, waiting}
+use Rattle.xc_model.specs.Moment.{rank_of, entering, asked_to_wait}
 use Rattle.xc_model.specs.Rows.{IsTurn, TurnOf, ActiveTurn, StarvedTurn}
 use Rattle.xc_model.specs.IdleRows.{IdleTurn}
 use Rattle.xc_model.specs.RunningRows.{MarkedTurn, RunningTurn, CalledTurn, AskedTurn}
@@ -55,8 +55,8 @@ use Rattle.xc_model.specs.Movers.{mover}
 use Rattle.xc_turns.proofs.Grown.{started_idle}
 use Rattle.xc_turns.proofs.LateEnds.{next_ends}
 use Rattle.xc_turns.proofs.Jobs.{behind_abort_none, none_active, opened_rests}
-use Rattle.xc_turns.proofs.OrderParts.{none_marked, none_left, next_of, MayBeFull, AreFull, goes_unfull, idle_unfull, goes_on}
-use Rattle.xc_turns.proofs.OrderParts.{rests, enters, alone_joined}
+use Rattle.xc_turns.proofs.OrderParts.{none_marked, none_left, active_is_next, MayBeFull, AreFull, goes_unfull, idle_unfull, alone_goes_on}
+use Rattle.xc_turns.proofs.OrderParts.{rests, enters_alone, alone_joined}
 
 -- ---- each row
 -- where the job is idle no transaction is active
@@ -85,29 +85,29 @@ idle_row s at old new job turn.Went stands is (ready, same) alone =
     let first = idle_alone at old job stands is alone in
     let room = ready.room in
     let tx : TxView = new_tx (begun_count old + 1) (rank_of job.attempts (begun_count old + 1)) (length old.journal) job.me in
-    goes_on at old new job (beginning_job old job) tx stands (ap (λ (n : Moment). n.jobs) same) (ap (λ (n : Moment). n.journal) same)
+    alone_goes_on at old new job (beginning_job old job) tx stands (ap (λ (n : Moment). n.jobs) same) (ap (λ (n : Moment). n.journal) same)
     (λ n. ap (λ (now : Moment). now.marks n) same ∙ none_left old.marks (begun_count old + 1) alone.unmarked n) refl
     (omega (arith, first), refl, tt, omega (arith, first)) alone
 idle_row s at old new job (turn.Ended end) stands is (ending, same) alone =
     rests at old new job (record job { doing = Ended end }) stands (ap (λ (n : Moment). n.jobs) same) (ap (λ (n : Moment). n.journal) same)
     (none_marked old new (ap (λ (n : Moment). n.marks) same) alone.unmarked) refl (ended_full s at old job end stands is ending alone) alone
 idle_row s at old new job (turn.Busy object number) stands is (waits, same) alone =
-    rests at old new job (waiting job) stands (ap (λ (n : Moment). n.jobs) same) (ap (λ (n : Moment). n.journal) same)
+    rests at old new job (asked_to_wait job) stands (ap (λ (n : Moment). n.jobs) same) (ap (λ (n : Moment). n.journal) same)
     (none_marked old new (ap (λ (n : Moment). n.marks) same) alone.unmarked) (ap active_in is)
-    (goes_unfull old.journal at (waiting job) Idle is (λ e. cc)) alone
+    (goes_unfull old.journal at (asked_to_wait job) Idle is (λ e. cc)) alone
 idle_row s at old new job turn.NoMemory stands is h alone = absurd h
 
 call_row : (s : Setting) (at : ℕ) (old new : Moment) (job : JobView) (tx : TxView) (c : Call) → slice_get old.jobs at ≡ Some job → job.doing ≡ Active tx
     → CalledTurn (mover s at old job) tx c new → AreAlone old at → AreAlone new at
 call_row s at old new job tx call.Back stands is c alone =
-    let next = next_of at old job tx stands is alone in
+    let next = active_is_next at old job tx stands is alone in
     let tx' : TxView = record tx { phase = Backing } in
-    goes_on at old new job (with_tx job c.place tx') tx' stands (ap (λ (n : Moment). n.jobs) c.behind) (ap (λ (n : Moment). n.journal) c.behind)
+    alone_goes_on at old new job (with_tx job c.place tx') tx' stands (ap (λ (n : Moment). n.jobs) c.behind) (ap (λ (n : Moment). n.journal) c.behind)
     (none_marked old new (ap (λ (n : Moment). n.marks) c.behind) alone.unmarked) refl (next.0, next.1, tt, next.3) alone
 call_row s at old new job tx asked stands is (inl c) alone =
-    let next = next_of at old job tx stands is alone in
+    let next = active_is_next at old job tx stands is alone in
     let noted : TxView = noting tx asked c.reply (claims_at old tx asked) c.parts in
-    goes_on at old new job (with_tx job c.place noted) noted stands (ap (λ (n : Moment). n.jobs) c.behind) (ap (λ (n : Moment). n.journal) c.behind)
+    alone_goes_on at old new job (with_tx job c.place noted) noted stands (ap (λ (n : Moment). n.jobs) c.behind) (ap (λ (n : Moment). n.journal) c.behind)
     (none_marked old new (ap (λ (n : Moment). n.marks) c.behind) alone.unmarked) refl next alone
 call_row s at old new job tx asked stands is (inr c) alone =
     let r = c.met.rival in absurd (r.other (alone.others r.place r.rival r.active))
@@ -120,16 +120,16 @@ meets_nobody n (Blocked by) = refl
 one_back_row : (s : Setting) (at : ℕ) (old new : Moment) (job : JobView) (tx : TxView) (kept : SavedView) (b : Bool) → slice_get old.jobs at ≡ Some job
     → job.doing ≡ Active tx → BackingRow (mover s at old job) tx kept b new → AreAlone old at → AreAlone new at
 one_back_row s at old new job tx kept true stands is t alone =
-    let next = next_of at old job tx stands is alone in
+    let next = active_is_next at old job tx stands is alone in
     let tx' : TxView = record tx {
       phase = phase_after (length t.older + 1) t.end;
       undo = record { pending = t.older; ended = (t.tried, t.end) ∷ tx.undo.ended };
     } in
-    goes_on at old new job (with_tx job job.place tx') tx' stands (ap (λ (n : Moment). n.jobs) t.behind) (ap (λ (n : Moment). n.journal) t.behind)
+    alone_goes_on at old new job (with_tx job job.place tx') tx' stands (ap (λ (n : Moment). n.jobs) t.behind) (ap (λ (n : Moment). n.journal) t.behind)
     (none_marked old new (ap (λ (n : Moment). n.marks) t.behind) alone.unmarked) refl (next.0, next.1, meets_nobody (length t.older + 1) t.end, next.3) alone
 one_back_row s at old new job tx kept false stands is t alone =
-    let next = next_of at old job tx stands is alone in
-    goes_on at old new job (with_tx job t.place (backed tx kept)) (backed tx kept) stands (ap (λ (n : Moment). n.jobs) t.behind)
+    let next = active_is_next at old job tx stands is alone in
+    alone_goes_on at old new job (with_tx job t.place (backed tx kept)) (backed tx kept) stands (ap (λ (n : Moment). n.jobs) t.behind)
     (ap (λ (n : Moment). n.journal) t.behind)
     (none_marked old new (ap (λ (n : Moment). n.marks) t.behind) alone.unmarked) refl (next.0, next.1, tt, next.3) alone
 
@@ -150,15 +150,15 @@ ask_row : (s : Setting) (at : ℕ) (old new : Moment) (job : JobView) (tx : TxVi
     → AskedTurn (mover s at old job) tx a new → AreAlone old at → AreAlone new at
 ask_row s at old new job tx (ask.Call c) stands is h alone = call_row s at old new job tx c stands is h alone
 ask_row s at old new job tx ask.Commit stands is c alone =
-    let next = next_of at old job tx stands is alone in
+    let next = active_is_next at old job tx stands is alone in
     let tx' : TxView = record tx { phase = Committing } in
-    goes_on at old new job (with_tx job c.place tx') tx' stands (ap (λ (n : Moment). n.jobs) c.behind) (ap (λ (n : Moment). n.journal) c.behind)
+    alone_goes_on at old new job (with_tx job c.place tx') tx' stands (ap (λ (n : Moment). n.jobs) c.behind) (ap (λ (n : Moment). n.journal) c.behind)
     (none_marked old new (ap (λ (n : Moment). n.marks) c.behind) alone.unmarked) refl
     (next.0, next.1, tt, next.3) alone
 ask_row s at old new job tx ask.Abort stands is c alone =
-    let next = next_of at old job tx stands is alone in
+    let next = active_is_next at old job tx stands is alone in
     let tx' : TxView = record tx { phase = Undoing cause.Asked } in
-    goes_on at old new job (with_tx job c.place tx') tx' stands (ap (λ (n : Moment). n.jobs) c.behind) (ap (λ (n : Moment). n.journal) c.behind)
+    alone_goes_on at old new job (with_tx job c.place tx') tx' stands (ap (λ (n : Moment). n.jobs) c.behind) (ap (λ (n : Moment). n.journal) c.behind)
     (none_marked old new (ap (λ (n : Moment). n.marks) c.behind) alone.unmarked) refl
     (next.0, next.1, refl, next.3) alone
 ask_row s at old new job tx ask.End stands is h alone = absurd h
@@ -167,9 +167,9 @@ running_row : (s : Setting) (at : ℕ) (old new : Moment) (job : JobView) (tx : 
     → job.doing ≡ Active tx → RunningTurn (mover s at old job) tx answer new → AreAlone old at → AreAlone new at
 running_row s at old new job tx turn.Went stands is h alone = ask_row s at old new job tx (asked_at s job.place) stands is h alone
 running_row s at old new job tx turn.NoMemory stands is c alone =
-    let next = next_of at old job tx stands is alone in
+    let next = active_is_next at old job tx stands is alone in
     let tx' : TxView = wanting tx c.left c.held in
-    goes_on at old new job (with_tx job c.place tx') tx' stands (ap (λ (n : Moment). n.jobs) c.behind) (ap (λ (n : Moment). n.journal) c.behind)
+    alone_goes_on at old new job (with_tx job c.place tx') tx' stands (ap (λ (n : Moment). n.jobs) c.behind) (ap (λ (n : Moment). n.journal) c.behind)
     (none_marked old new (ap (λ (n : Moment). n.marks) c.behind) alone.unmarked) refl
     (next.0, next.1, refl, next.3) alone
 running_row s at old new job tx (turn.Busy object holder) stands is w alone =
@@ -185,20 +185,20 @@ marked_row s at old new job tx (Some m) answer stands is has h alone =
 late_row : (s : Setting) (at : ℕ) (old new : Moment) (job : JobView) (tx : TxView) (calls : List LateCall) → slice_get old.jobs at ≡ Some job
     → job.doing ≡ Active tx → LateTurn (mover s at old job) tx calls new → AreAlone old at → AreAlone new at
 late_row s at old new job tx [] stands is same alone =
-    let next = next_of at old job tx stands is alone in
+    let next = active_is_next at old job tx stands is alone in
     let mid = entering old at (behind_commit job tx) (entry_of tx at (Committed tx.ends)) in
     let more = started_jobs s.script job tx in
     subst (λ n. AreAlone n at) (sym same.0)
     (alone_joined at mid more (started_idle s.script (behind_commit job tx) (started_late tx.late tx.ends))
     (idle_unfull mid.journal (started_job s.script (behind_commit job tx)) (λ block. refl) (started_late tx.late tx.ends))
-    (enters at old mid job (behind_commit job tx) (entry_of tx at (Committed tx.ends)) old.contents old.kept stands refl refl (next.0, next.1, refl, refl)
+    (enters_alone at old mid job (behind_commit job tx) (entry_of tx at (Committed tx.ends)) old.contents old.kept stands refl refl (next.0, next.1, refl, refl)
     next.3
     (λ e. cc) alone))
 late_row s at old new job tx (call ∷ calls) stands is row alone =
     let t = next_ends s at old job tx new call row in
-    let next = next_of at old job tx stands is alone in
+    let next = active_is_next at old job tx stands is alone in
     let tx' : TxView = record tx { ends = tx.ends ++ t.end ∷ [] } in
-    goes_on at old new job (with_tx job job.place tx') tx' stands t.jobs t.journal (none_marked old new t.marks alone.unmarked) refl next alone
+    alone_goes_on at old new job (with_tx job job.place tx') tx' stands t.jobs t.journal (none_marked old new t.marks alone.unmarked) refl next alone
 
 commit_row : (s : Setting) (at : ℕ) (old new : Moment) (job : JobView) (tx : TxView) (answer : Turn) → slice_get old.jobs at ≡ Some job
     → job.doing ≡ Active tx → CommittingTurn (mover s at old job) tx answer new → AreAlone old at → AreAlone new at
@@ -218,14 +218,14 @@ back_goes job tx (cause.Revoked object by at) e = cc
 back_row : (s : Setting) (at : ℕ) (old new : Moment) (job : JobView) (tx : TxView) (c : Cause) (pending : List Undo) → slice_get old.jobs at ≡ Some job
     → job.doing ≡ Active tx → tx.phase ≡ Undoing c → BackTurn (mover s at old job) tx c pending new → AreAlone old at → AreAlone new at
 back_row s at old new job tx c [] stands is undoes same alone =
-    let next = next_of at old job tx stands is alone in
+    let next = active_is_next at old job tx stands is alone in
     let lone : is_tried_again c ≡ false = subst MeetsNobody undoes next.2 in
-    enters at old new job (behind_abort job tx c) (entry_of tx at (Aborted (record { cause = c; records = tx.undo.ended }))) new.contents new.kept stands
+    enters_alone at old new job (behind_abort job tx c) (entry_of tx at (Aborted (record { cause = c; records = tx.undo.ended }))) new.contents new.kept stands
     same.behind (behind_abort_none job tx c) (next.0, next.1, ap not lone, refl) next.3 (back_goes job tx c) alone
 back_row s at old new job tx c (u ∷ pending) stands is undoes t alone =
-    let next = next_of at old job tx stands is alone in
+    let next = active_is_next at old job tx stands is alone in
     let tx' : TxView = record tx { undo = record { pending = t.older; ended = (t.tried, t.end) ∷ tx.undo.ended } } in
-    goes_on at old new job (with_tx job job.place tx') tx' stands (ap (λ (n : Moment). n.jobs) t.behind) (ap (λ (n : Moment). n.journal) t.behind)
+    alone_goes_on at old new job (with_tx job job.place tx') tx' stands (ap (λ (n : Moment). n.jobs) t.behind) (ap (λ (n : Moment). n.journal) t.behind)
     (none_marked old new (ap (λ (n : Moment). n.marks) t.behind) alone.unmarked) refl next alone
 
 undoing_row : (s : Setting) (at : ℕ) (old new : Moment) (job : JobView) (tx : TxView) (c : Cause) (answer : Turn) → slice_get old.jobs at ≡ Some job

@@ -23,7 +23,7 @@ use Rattle.xc_model.specs.Stories.{cause_of_phase}
 use Rattle.xc_turns.proofs.Grown.{grown_active}
 use Rattle.xc_turns.proofs.Jobs.{active_before, active_is}
 use Rattle.xc_turns.proofs.KindsOfTurns.{CauseOn, IsNoConflict, Kind, begins, cause_on, enters, free, meets, moves, rests, same, stays}
-use Rattle.xc_turns.proofs.TurnKinds.{kind_of}
+use Rattle.xc_turns.proofs.TurnKinds.{row_kind}
 
 -- what undoes for a cause has it, marked or not
 undoing_has : (mark : Option Mark) (c : Cause) → cause_of_phase mark (Undoing c) ≡ Some c
@@ -126,4 +126,4 @@ module _ (s : Setting) (at : ℕ) (old new : Moment) (job : JobView) (stands : s
 pub turn_revokes_none : (s : Setting) (at : ℕ) (old new : Moment) (answer : Turn) → IsTurn s at old answer new → s.rules.patience ≡ 0
     → NoneIsRevoked old → NoneIsRevoked new
 turn_revokes_none s at old new answer turned zero none =
-    kind_revokes_none s at old new turned.job turned.there none zero (kind_of s at old new answer turned)
+    kind_revokes_none s at old new turned.job turned.there none zero (row_kind s at old new answer turned)

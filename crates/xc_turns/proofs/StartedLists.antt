@@ -17,9 +17,9 @@ use Rattle.xc_model.specs.Started.{blocks, is_start, keeps_start, started_by}
 
 -- ---- of one transaction
 -- what it has started, where there is one
-abbrev pub started_in : Option TxView → List (List ℕ)
-started_in None = []
-started_in (Some tx) = started_by tx
+abbrev pub started_of : Option TxView → List (List ℕ)
+started_of None = []
+started_of (Some tx) = started_by tx
 
 -- a call without a block starts none
 pub no_thread : (e : LateEnd) → started_with None e ≡ []
@@ -59,31 +59,31 @@ started_keeps tx some = by_test (keeps_start tx) refl
 abbrev pub all_started : List JobView → List (List ℕ)
 all_started jobs = flat_map started_by (actives jobs)
 
-started_first : (o : Option TxView) (txs : List TxView) → flat_map started_by (cons_option o txs) ≡ started_in o ++ flat_map started_by txs
+started_first : (o : Option TxView) (txs : List TxView) → flat_map started_by (cons_option o txs) ≡ started_of o ++ flat_map started_by txs
 started_first None txs = refl
 started_first (Some tx) txs = refl
 
-none_in : (o : Option TxView) → ((tx : TxView) → o ≡ Some tx → started_by tx ≡ []) → started_in o ≡ []
+none_in : (o : Option TxView) → ((tx : TxView) → o ≡ Some tx → started_by tx ≡ []) → started_of o ≡ []
 none_in None none = refl
 none_in (Some tx) none = none tx refl
 
 -- where none has started any there are none
-pub nobody_started : (jobs : List JobView) → ((j : ℕ) (tx : TxView) → IsActiveAt jobs j tx → started_by tx ≡ []) → all_started jobs ≡ []
-nobody_started [] none = refl
-nobody_started (job ∷ jobs) none =
+pub none_started_any : (jobs : List JobView) → ((j : ℕ) (tx : TxView) → IsActiveAt jobs j tx → started_by tx ≡ []) → all_started jobs ≡ []
+none_started_any [] none = refl
+none_started_any (job ∷ jobs) none =
     started_first (active_of job) (actives jobs)
     ∙ ap₂ (λ a b. a ++ b) (none_in (active_of job) (λ tx e. none 0 tx (job, refl, e)))
-    (nobody_started jobs (λ j tx (there, at, has). none (suc j) tx (there, at, has)))
+    (none_started_any jobs (λ j tx (there, at, has). none (suc j) tx (there, at, has)))
 
 -- where no other has, they are those of the job that is set
 pub only_here : (jobs : List JobView) (at : ℕ) (job job' : JobView) → slice_get jobs at ≡ Some job
-    → ((j : ℕ) (u : TxView) → j ≢ at → IsActiveAt jobs j u → started_by u ≡ []) → all_started (slice_set jobs at job') ≡ started_in (active_of job')
+    → ((j : ℕ) (u : TxView) → j ≢ at → IsActiveAt jobs j u → started_by u ≡ []) → all_started (slice_set jobs at job') ≡ started_of (active_of job')
 only_here [] at job job' stands others = cc
 only_here (x ∷ jobs) zero job job' stands others =
     started_first (active_of job') (actives jobs)
-    ∙ ap (λ bs. started_in (active_of job') ++ bs)
-    (nobody_started jobs (λ j u (there, at, has). others (suc j) u (λ e. omega (arith, e)) (there, at, has)))
-    ∙ append-nil (started_in (active_of job'))
+    ∙ ap (λ bs. started_of (active_of job') ++ bs)
+    (none_started_any jobs (λ j u (there, at, has). others (suc j) u (λ e. omega (arith, e)) (there, at, has)))
+    ∙ append-nil (started_of (active_of job'))
 only_here (x ∷ jobs) (suc at) job job' stands others =
     started_first (active_of x) (actives (slice_set jobs at job'))
     ∙ ap₂ (λ a b. a ++ b) (none_in (active_of x) (λ u e. others 0 u (λ z. omega (arith, z)) (x, refl, e)))
@@ -97,21 +97,21 @@ set_itself (x ∷ jobs) (suc at) job stands = ap (λ ys. x ∷ ys) (set_itself j
 
 -- and then they are those of the job there
 pub only_there : (jobs : List JobView) (at : ℕ) (job : JobView) → slice_get jobs at ≡ Some job
-    → ((j : ℕ) (u : TxView) → j ≢ at → IsActiveAt jobs j u → started_by u ≡ []) → all_started jobs ≡ started_in (active_of job)
+    → ((j : ℕ) (u : TxView) → j ≢ at → IsActiveAt jobs j u → started_by u ≡ []) → all_started jobs ≡ started_of (active_of job)
 only_there jobs at job stands others = sym (ap all_started (set_itself jobs at job stands)) ∙ only_here jobs at job job stands others
 
 -- where the job that is set has started as the one before, they stay
 pub same_started : (jobs : List JobView) (at : ℕ) (job job' : JobView) → slice_get jobs at ≡ Some job
-    → started_in (active_of job') ≡ started_in (active_of job) → all_started (slice_set jobs at job') ≡ all_started jobs
+    → started_of (active_of job') ≡ started_of (active_of job) → all_started (slice_set jobs at job') ≡ all_started jobs
 same_started [] at job job' stands same = cc
 same_started (x ∷ jobs) zero job job' stands same =
     let here : x ≡ job = cc in
     started_first (active_of job') (actives jobs)
-    ∙ ap (λ bs. bs ++ all_started jobs) (same ∙ sym (ap (λ (y : JobView). started_in (active_of y)) here))
+    ∙ ap (λ bs. bs ++ all_started jobs) (same ∙ sym (ap (λ (y : JobView). started_of (active_of y)) here))
     ∙ sym (started_first (active_of x) (actives jobs))
 same_started (x ∷ jobs) (suc at) job job' stands same =
     started_first (active_of x) (actives (slice_set jobs at job'))
-    ∙ ap (λ bs. started_in (active_of x) ++ bs) (same_started jobs at job job' stands same)
+    ∙ ap (λ bs. started_of (active_of x) ++ bs) (same_started jobs at job job' stands same)
     ∙ sym (started_first (active_of x) (actives jobs))
 
 -- ---- blocks
@@ -124,6 +124,6 @@ blocks_set (x ∷ jobs) zero job job' stands same =
 blocks_set (x ∷ jobs) (suc at) job job' stands same = ap (λ bs. x.block ∷ bs) (blocks_set jobs at job job' stands same)
 
 -- jobs of these blocks
-pub started_blocks : (script : Script) (starter : JobView) (names : List (List ℕ)) → blocks (map (started_job script starter) names) ≡ names
-started_blocks script starter [] = refl
-started_blocks script starter (name ∷ names) = ap (λ bs. name ∷ bs) (started_blocks script starter names)
+pub started_job_blocks : (script : Script) (starter : JobView) (names : List (List ℕ)) → blocks (map (started_job script starter) names) ≡ names
+started_job_blocks script starter [] = refl
+started_job_blocks script starter (name ∷ names) = ap (λ bs. name ∷ bs) (started_job_blocks script starter names)

@@ -35,8 +35,8 @@ use Rattle.xc_model.specs.Setting.{Setting}
 use Rattle.xc_model.specs.LateCalls.{started_late, started_with}
 use Rattle.xc_model.specs.Stories.{StoriesHold, IsInPhase, IsRunning}
 use Rattle.xc_model.specs.Holding.{AreApart}
-use Rattle.xc_model.specs.Moment.{TxView, JobView, Doing, Idle, Active, Starved, Ended, Moment, active_in, active_of, actives, late_left, waiting}
-use Rattle.xc_model.specs.Started.{AreStarted, HasStarts, blocks, is_start, keeps_start, started_by, starting}
+use Rattle.xc_model.specs.Moment.{TxView, JobView, Doing, Idle, Active, Starved, Ended, Moment, active_in, active_of, actives, late_left, asked_to_wait}
+use Rattle.xc_model.specs.Started.{AreStarted, HasStartEnds, blocks, is_start, keeps_start, started_by, start_count}
 use Rattle.xc_model.specs.Movers.{IsActiveAt, with_tx}
 use Rattle.xc_model.specs.RunningRows.{Calls, CalledTurn, HoldsWanting}
 use Rattle.xc_model.specs.BackingRows.{BackingRow, OpenRow, MarkedBack, backed}
@@ -55,13 +55,13 @@ use Rattle.xc_model.specs.CommittingRows.{CommittingTurn}
 use Rattle.xc_model.specs.UndoingRows.{BackTurn, UndoingTurn}
 use Rattle.xc_model.specs.Rows.{StarvedTurn, ActiveTurn, TurnOf, IsTurn}
 use Rattle.xc_turns.proofs.CountedSums.{adds, sum_set}
-use Rattle.xc_turns.proofs.CountedTurns.{in_phase, none_late}
+use Rattle.xc_turns.proofs.CountedTurns.{story_in_phase, none_late}
 use Rattle.xc_turns.proofs.Grown.{AreIdle, grown_active, grown_actives, started_idle}
 use Rattle.xc_turns.proofs.Jobs.{active_before, active_is, behind_abort_none}
 use Rattle.xc_turns.proofs.Lists.{not_both}
-use Rattle.xc_turns.proofs.StartedLists.{all_started, blocks_set, keeps_none, no_thread, only_here, only_there, same_started, started_blocks, started_in}
+use Rattle.xc_turns.proofs.StartedLists.{all_started, blocks_set, keeps_none, no_thread, only_here, only_there, same_started, started_job_blocks, started_of}
 use Rattle.xc_turns.proofs.StartEnds.{EndsAsStart, no_starts, none_yet, one_more_start}
-use Rattle.xc_turns.proofs.StartersAlone.{left_keeps, starter_alone}
+use Rattle.xc_turns.proofs.StartersAlone.{left_keeps_start, starter_alone}
 use Rattle.xc_turns.proofs.StartsHeld.{HoldsStart, noted_holds, others_keep_none, owns_further}
 
 -- ---- late calls and their ends
@@ -94,7 +94,7 @@ abort_block job tx (cause.Revoked object by at) = refl
 -- where it keeps a start it owns the jobs, and its starts ended so far as they must after these blocks
 record KeepsStarts (script : Script) (was : List (List ℕ)) (tx : TxView) : Type 0 where
   holds : HoldsStart tx
-  right : HasStarts script was tx
+  right : HasStartEnds script was tx
 
 -- a job without a transaction keeps no start
 none_holds : {script : Script} {was : List (List ℕ)} (job : JobView) → active_of job ≡ None → (t : TxView) → active_of job ≡ Some t
@@ -113,7 +113,7 @@ module _ (s : Setting) (at : ℕ) (old : Moment) (job : JobView) (new : Moment) 
 
   -- the starts of the other jobs' transactions ended as they must after these blocks
   abbrev OthersKeep : List (List ℕ) → Type 0
-  OthersKeep was = (j : ℕ) (t : TxView) → j ≢ at → IsActiveAt old.jobs j t → HasStarts s.script was t
+  OthersKeep was = (j : ℕ) (t : TxView) → j ≢ at → IsActiveAt old.jobs j t → HasStartEnds s.script was t
 
   -- what is kept where one job is set
   set_holds : (was : List (List ℕ)) (job' : JobView) → ((t : TxView) → active_of job' ≡ Some t → KeepsStarts s.script was t) → OthersKeep was
@@ -140,7 +140,7 @@ module _ (s : Setting) (at : ℕ) (old : Moment) (job : JobView) (new : Moment) 
         order = started ∙ sym (ap₂ (λ a b. a ++ b) names rest);
         few = few;
         holds = λ j t a. (all j t a).holds;
-        starts = λ j t a. subst (λ bs. HasStarts s.script bs t) (sym names) (all j t a).right;
+        starts = λ j t a. subst (λ bs. HasStartEnds s.script bs t) (sym names) (all j t a).right;
       }
 
   -- only a job changed
@@ -152,14 +152,14 @@ module _ (s : Setting) (at : ℕ) (old : Moment) (job : JobView) (new : Moment) 
       changed job' [] tt (jobs ∙ sym (append-nil (slice_set old.jobs at job'))) block
       (started ∙ ap (λ bs. bs ++ all_started (slice_set old.jobs at job')) nil) few
       (λ t has. subst (λ bs. KeepsStarts s.script bs t) nil (mine t has))
-      (λ j t away a. subst (λ bs. HasStarts s.script bs t) nil (h.starts j t a))
+      (λ j t away a. subst (λ bs. HasStartEnds s.script bs t) nil (h.starts j t a))
 
   few_as_before : new.started ≡ old.started → length new.started ≤ 1000
   few_as_before same = let few = h.few in let as_many = ap length same in omega (arith, as_many, few)
 
   -- and it has started the same
   still_started : (job' : JobView) → new.jobs ≡ slice_set old.jobs at job' → new.started ≡ old.started → job'.block ≡ job.block
-      → started_in (active_of job') ≡ started_in (active_of job)
+      → started_of (active_of job') ≡ started_of (active_of job)
       → ((t : TxView) → active_of job' ≡ Some t → KeepsStarts s.script (blocks old.jobs) t) → AreStarted s.script new
   still_started job' jobs started block same mine =
       only_changed job' jobs block
@@ -168,19 +168,19 @@ module _ (s : Setting) (at : ℕ) (old : Moment) (job : JobView) (new : Moment) 
   by_idle : job.doing ≡ Idle → (answer : Turn) → IdleTurn (mover s at old job) answer new → AreStarted s.script new
   by_idle is (turn.Ended end) row =
       still_started (record job { doing = Ended end }) (ap (λ (n : Moment). n.jobs) row.1) (ap (λ (n : Moment). n.started) row.1) refl
-      (ap (λ d. started_in (active_in d)) (sym is)) (none_holds (record job { doing = Ended end }) refl)
+      (ap (λ d. started_of (active_in d)) (sym is)) (none_holds (record job { doing = Ended end }) refl)
   by_idle is turn.Went row =
       still_started (beginning_job old job) (ap (λ (n : Moment). n.jobs) row.1) (ap (λ (n : Moment). n.started) row.1) refl
-      (ap (λ d. started_in (active_in d)) (sym is)) (λ t has. one_holds _ t has (record { holds = λ keeps. cc keeps; right = tt }))
+      (ap (λ d. started_of (active_in d)) (sym is)) (λ t has. one_holds _ t has (record { holds = λ keeps. cc keeps; right = tt }))
   by_idle is (turn.Busy object number) row =
-      still_started (waiting job) (ap (λ (n : Moment). n.jobs) row.1) (ap (λ (n : Moment). n.started) row.1) refl refl
-      (none_holds (waiting job) (ap active_in is))
+      still_started (asked_to_wait job) (ap (λ (n : Moment). n.jobs) row.1) (ap (λ (n : Moment). n.started) row.1) refl refl
+      (none_holds (asked_to_wait job) (ap active_in is))
   by_idle is turn.NoMemory row = absurd row
 
   by_starved : job.doing ≡ Starved → (answer : Turn) → StarvedTurn (mover s at old job) answer new → AreStarted s.script new
   by_starved is (turn.Ended job_end.NoMemory) row =
       still_started (record job { doing = Ended job_end.NoMemory }) (ap (λ (n : Moment). n.jobs) row) (ap (λ (n : Moment). n.started) row) refl
-      (ap (λ d. started_in (active_in d)) (sym is)) (none_holds (record job { doing = Ended job_end.NoMemory }) refl)
+      (ap (λ d. started_of (active_in d)) (sym is)) (none_holds (record job { doing = Ended job_end.NoMemory }) refl)
   by_starved is (turn.Ended job_end.Done) row = absurd row
   by_starved is (turn.Ended (job_end.GaveUp c)) row = absurd row
   by_starved is (turn.Ended job_end.JournalFull) row = absurd row
@@ -189,8 +189,8 @@ module _ (s : Setting) (at : ℕ) (old : Moment) (job : JobView) (new : Moment) 
   by_starved is turn.NoMemory row = absurd row
 
   module _ (tx : TxView) (is : job.doing ≡ Active tx) where
-    mine : started_by tx ≡ started_in (active_of job)
-    mine = ap (λ d. started_in (active_in d)) (sym is)
+    mine : started_by tx ≡ started_of (active_of job)
+    mine = ap (λ d. started_of (active_in d)) (sym is)
 
     -- it is active in its place
     here : IsActiveAt old.jobs at tx
@@ -203,13 +203,13 @@ module _ (s : Setting) (at : ℕ) (old : Moment) (job : JobView) (new : Moment) 
     keeps_here = record { holds = holds_here; right = h.starts at tx here }
 
     -- a transaction without ends has no wrong one
-    without_ends : (t : TxView) → t.ends ≡ [] → HasStarts s.script (blocks old.jobs) t
+    without_ends : (t : TxView) → t.ends ≡ [] → HasStartEnds s.script (blocks old.jobs) t
     without_ends t none =
         subst (AreStarts s.script (blocks old.jobs) (map thread_in t.late)) (sym none)
         (none_yet s.script (blocks old.jobs) (map thread_in t.late))
 
     -- nor has one with the same late calls and ends
-    same_ends : (tx' : TxView) → tx'.late ≡ tx.late → tx'.ends ≡ tx.ends → HasStarts s.script (blocks old.jobs) tx'
+    same_ends : (tx' : TxView) → tx'.late ≡ tx.late → tx'.ends ≡ tx.ends → HasStartEnds s.script (blocks old.jobs) tx'
     same_ends tx' late ends =
         subst (AreStarts s.script (blocks old.jobs) (map thread_in tx'.late)) (sym ends)
         (subst (λ cs. AreStarts s.script (blocks old.jobs) (map thread_in cs) tx.ends) (sym late) keeps_here.right)
@@ -230,7 +230,7 @@ module _ (s : Setting) (at : ℕ) (old : Moment) (job : JobView) (new : Moment) 
     -- a running one has no ends
     runs_none : tx.phase ≡ Running → tx.ends ≡ []
     runs_none runs =
-        let phase = in_phase s at old job tx stands is told in
+        let phase = story_in_phase s at old job tx stands is told in
         let running : IsRunning s phase.0 job.place tx = subst (IsInPhase s phase.0 job.place tx) runs phase.1 in
         running.no_ends
 
@@ -279,7 +279,7 @@ module _ (s : Setting) (at : ℕ) (old : Moment) (job : JobView) (new : Moment) 
         goes row.place _ refl refl (wanting_owns (asked_at s job.place) row.left row.held row.holds) (ap (λ (n : Moment). n.jobs) row.behind)
         (ap (λ (n : Moment). n.started) row.behind)
     by_running runs (turn.Busy object holder) row =
-        still_started (waiting (with_tx job row.place tx)) (ap (λ (n : Moment). n.jobs) row.behind) (ap (λ (n : Moment). n.started) row.behind) refl mine
+        still_started (asked_to_wait (with_tx job row.place tx)) (ap (λ (n : Moment). n.jobs) row.behind) (ap (λ (n : Moment). n.started) row.behind) refl mine
         (λ t has. one_holds tx t has keeps_here)
     by_running runs (turn.Ended end) row = absurd row
 
@@ -349,7 +349,7 @@ module _ (s : Setting) (at : ℕ) (old : Moment) (job : JobView) (new : Moment) 
     by_next : (c : LateCall) (rest : List LateCall) → late_left tx ≡ c ∷ rest → NextLate (mover s at old job) tx c new → AreStarted s.script new
     by_next (Thread block) rest left row =
         let one = adds_one block row.end new.started row.starts in
-        let alone : old.started ≡ blocks old.jobs ++ started_by tx = starter_alone old at tx h apart here (left_keeps tx block rest left) in
+        let alone : old.started ≡ blocks old.jobs ++ started_by tx = starter_alone old at tx h apart here (left_keeps_start tx block rest left) in
         ended row.end (Thread block) rest left (ap (λ (n : Moment). n.jobs) row.behind) one.0 one.1
         (subst (λ was. IsStart s.script was block row.end (was ++ started_with (Some block) row.end)) alone
         (subst (IsStart s.script old.started block row.end) one.0 row.starts))
@@ -376,7 +376,7 @@ module _ (s : Setting) (at : ℕ) (old : Moment) (job : JobView) (new : Moment) 
         (others_keep_none old.jobs at tx apart h.holds here (holds_here keeps) j t away a)
     others_keep more names false keeps j t away a =
         let nil = ap (λ bs. blocks old.jobs ++ bs) (names ∙ keeps_none tx keeps) ∙ append-nil (blocks old.jobs) in
-        subst (λ bs. HasStarts s.script bs t) (sym nil) (h.starts j t a)
+        subst (λ bs. HasStartEnds s.script bs t) (sym nil) (h.starts j t a)
 
     by_late : (calls : List LateCall) → late_left tx ≡ calls → LateTurn (mover s at old job) tx calls new → AreStarted s.script new
     by_late [] left row =
@@ -385,7 +385,7 @@ module _ (s : Setting) (at : ℕ) (old : Moment) (job : JobView) (new : Moment) 
         let rest = all_started (slice_set old.jobs at job') in
         let jobs : new.jobs ≡ slice_set old.jobs at job' ++ more = ap (λ (n : Moment). n.jobs) row.0 in
         let same : new.started ≡ old.started = ap (λ (n : Moment). n.started) row.0 in
-        let names : blocks more ≡ started_by tx = started_blocks s.script job' (started_by tx) in
+        let names : blocks more ≡ started_by tx = started_job_blocks s.script job' (started_by tx) in
         changed job' more (started_idle s.script job' (started_by tx)) jobs refl
         (same ∙ h.order ∙ ap (λ bs. blocks old.jobs ++ bs) (leads (keeps_start tx) refl) ∙ sym (append_assoc (blocks old.jobs) (started_by tx) rest)
         ∙ ap (λ bs. (blocks old.jobs ++ bs) ++ rest) (sym names)) (few_as_before same) (none_holds job' refl)
@@ -403,7 +403,7 @@ module _ (s : Setting) (at : ℕ) (old : Moment) (job : JobView) (new : Moment) 
     by_records c undoes [] row =
         let none : tx.ends ≡ [] = none_late s at old job tx c stands is undoes told in
         still_started (behind_abort job tx c) (ap (λ (n : Moment). n.jobs) row.behind) (ap (λ (n : Moment). n.started) row.behind) (abort_block job tx c)
-        (ap started_in (behind_abort_none job tx c) ∙ sym (no_ends tx none) ∙ mine) (none_holds (behind_abort job tx c) (behind_abort_none job tx c))
+        (ap started_of (behind_abort_none job tx c) ∙ sym (no_ends tx none) ∙ mine) (none_holds (behind_abort job tx c) (behind_abort_none job tx c))
     by_records c undoes (u ∷ pending) row =
         goes job.place _ refl refl (λ o. o) (ap (λ (n : Moment). n.jobs) row.behind) (ap (λ (n : Moment). n.started) row.behind)
 
@@ -416,7 +416,7 @@ module _ (s : Setting) (at : ℕ) (old : Moment) (job : JobView) (new : Moment) 
     -- ---- one whose block goes back
     backs_none : tx.phase ≡ Backing → tx.ends ≡ []
     backs_none backs =
-        let phase = in_phase s at old job tx stands is told in
+        let phase = story_in_phase s at old job tx stands is told in
         let backing : IsBacking s phase.0 job.place tx = subst (IsInPhase s phase.0 job.place tx) backs phase.1 in
         backing.no_ends
 
@@ -464,7 +464,7 @@ turn_keeps_started s at old new answer t told apart h = by_doing s at old t.job 
 
 -- ---- what the order says
 -- as many are started as are live or have ended and as active transactions have started
-pub started_count : {script : Script} (now : Moment) → AreStarted script now → length now.started ≡ length now.jobs + sum_by starting (actives now.jobs)
+pub started_count : {script : Script} (now : Moment) → AreStarted script now → length now.started ≡ length now.jobs + sum_by start_count (actives now.jobs)
 started_count now h =
     let sum = ap length h.order ∙ length-append (blocks now.jobs) (all_started now.jobs) in
     let first = length-map now.jobs (λ (job : JobView). job.block) in
@@ -473,11 +473,11 @@ started_count now h =
 
 -- so there is room for the jobs that an entry makes live
 pub entry_room : {script : Script} (now : Moment) (at : ℕ) (tx : TxView) → AreStarted script now → IsActiveAt now.jobs at tx
-    → length now.jobs + starting tx ≤ 1000
+    → length now.jobs + start_count tx ≤ 1000
 entry_room now at tx h (job, there, has) =
     let rests : JobView = record job { doing = Ended job_end.Done } in
-    let sums = sum_set starting now.jobs at job rests there in
-    let mine : adds starting (active_of job) ≡ starting tx = ap (adds starting) has in
+    let sums = sum_set start_count now.jobs at job rests there in
+    let mine : adds start_count (active_of job) ≡ start_count tx = ap (adds start_count) has in
     let was = started_count now h in
     let few = h.few in
     omega (arith, sums, mine, was, few)

@@ -13,7 +13,7 @@ use Rattle.xc_model.specs.Holding.{AreApart}
 use Rattle.xc_model.specs.Movers.{IsActiveAt}
 use Rattle.xc_model.specs.Moment.{TxView, Moment, late_left}
 use Rattle.xc_model.specs.Started.{AreStarted, blocks, is_start, keeps_start, started_by}
-use Rattle.xc_turns.proofs.StartedLists.{keeps_none, nobody_started, only_there, started_in}
+use Rattle.xc_turns.proofs.StartedLists.{keeps_none, none_started_any, only_there, started_of}
 use Rattle.xc_turns.proofs.StartsHeld.{others_keep_none}
 
 -- ---- one that owns the jobs
@@ -24,7 +24,7 @@ owner_alone now at tx h apart (job, there, has) owns =
     h.order
     ∙ ap (λ bs. blocks now.jobs ++ bs)
     (only_there now.jobs at job there (λ j u ne a. keeps_none u (others_keep_none now.jobs at tx apart h.holds (job, there, has) owns j u ne a))
-    ∙ ap started_in has)
+    ∙ ap started_of has)
 
 -- and so where it keeps a start
 pub starter_alone : {script : Script} (now : Moment) (at : ℕ) (tx : TxView) → AreStarted script now → AreApart now.jobs → IsActiveAt now.jobs at tx
@@ -40,11 +40,11 @@ left_start (c ∷ late) [] block rest left =
 left_start (c ∷ late) (e ∷ ends) block rest left = or_right (is_start c) (list_any is_start late) (left_start late ends block rest left)
 
 -- one whose next late call starts a job keeps a start
-pub left_keeps : (tx : TxView) (block : List ℕ) (rest : List LateCall) → late_left tx ≡ Thread block ∷ rest → keeps_start tx ≡ true
-left_keeps tx block rest left = left_start tx.late tx.ends block rest left
+pub left_keeps_start : (tx : TxView) (block : List ℕ) (rest : List LateCall) → late_left tx ≡ Thread block ∷ rest → keeps_start tx ≡ true
+left_keeps_start tx block rest left = left_start tx.late tx.ends block rest left
 
 -- ---- nobody
 -- where none has started any, all are live or have ended
 pub none_waits : {script : Script} (now : Moment) → AreStarted script now → ((at : ℕ) (tx : TxView) → IsActiveAt now.jobs at tx → started_by tx ≡ [])
     → now.started ≡ blocks now.jobs
-none_waits now h none = h.order ∙ ap (λ bs. blocks now.jobs ++ bs) (nobody_started now.jobs none) ∙ append-nil (blocks now.jobs)
+none_waits now h none = h.order ∙ ap (λ bs. blocks now.jobs ++ bs) (none_started_any now.jobs none) ∙ append-nil (blocks now.jobs)

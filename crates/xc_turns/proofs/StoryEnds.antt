@@ -16,7 +16,7 @@ use Rattle.xc_script.specs.Blocks.{BlockWalk, kept_calls}
 use Rattle.xc_model.specs.declared.phase.Attempts.{Attempts}
 use Rattle.xc_model.specs.declared.phase.Phase.TheVariants.{Committing}
 use Rattle.xc_model.specs.Setting.{Setting}
-use Rattle.xc_model.specs.Progress.{Following, Progress, after_entry, following_abort, progress_of, started_from, started_job as progress_started}
+use Rattle.xc_model.specs.Progress.{Following, Progress, after_entry, following_abort, progress_of, started_from, started_following as progress_started}
 use Rattle.xc_model.specs.Joint.{IsTrueEntry}
 use Rattle.xc_model.specs.Moment.{TxView, JobView, Active, Idle, active_of}
 use Rattle.xc_model.specs.Entering.{attempts_with, behind_abort, behind_commit, entry_of, started_job}

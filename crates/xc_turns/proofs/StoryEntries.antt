@@ -22,10 +22,10 @@ use Rattle.xc_model.specs.declared.phase.Phase.TheVariants.{Committing, Undoing}
 use Rattle.xc_model.specs.Setting.{Setting}
 use Rattle.xc_model.specs.WordCalls.{AreWordReplies}
 use Rattle.xc_model.specs.Progress.{Following, Progress, after_entry, after_following, following_abort, following_of}
-use Rattle.xc_model.specs.Progress.{committed_job, started_job, untried}
+use Rattle.xc_model.specs.Progress.{committed_job, started_following, untried}
 use Rattle.xc_model.specs.Recorded.{HasRecords, IsStuckIn, all_records, no_records, saved_records}
 use Rattle.xc_model.specs.Asked.{next_of}
-use Rattle.xc_model.specs.EntryEnds.{AreRecords, IsCaused, IsHeldAt, IsReport, is_tried_again}
+use Rattle.xc_model.specs.EntryEnds.{AreRecords, HasAbortCause, IsHeldAt, IsReport, is_tried_again}
 use Rattle.xc_model.specs.Joint.{IsPlayed, IsTrueEntry}
 use Rattle.xc_model.specs.Moment.{TxView, late_left}
 use Rattle.xc_model.specs.LateCalls.{started_late}
@@ -33,10 +33,10 @@ use Rattle.xc_data.specs.Calls.{thread_asked, thread_in}
 use Rattle.xc_model.specs.Entering.{entry_of}
 use Rattle.xc_model.specs.Stories.{HasRecordsIn, IsCommitting, IsInPhase, IsUndoing, IsUnderway, asked_of_tx}
 use Rattle.xc_model.specs.Played.{HoldsFor, IsPlayedSoFar, RecordsFor, ran_behind}
-use Rattle.xc_model.specs.Started.{HasStarts}
+use Rattle.xc_model.specs.Started.{HasStartEnds}
 use Rattle.xc_model.specs.Starts.{AreStarts}
 use Rattle.xc_model.proofs.Laws.{started_same}
-use Rattle.xc_turns.proofs.LateCounts.{as_many, left_none, take_all}
+use Rattle.xc_turns.proofs.LateCounts.{late_as_many, left_none, take_all}
 
 -- ---- the entry of the job in one place
 -- the number after a place leads back to it
@@ -67,7 +67,7 @@ commit_played s words p at tx next commits all so =
 -- the entry of a commit is true after a true journal
 pub commit_true : (s : Setting) (words : ℕ) (p : Progress) (f : Following) (at : ℕ) (place : Position) (tx : TxView) → slice_get p.jobs at ≡ Some f
     → tx.phase ≡ Committing → late_left tx ≡ [] → IsUnderway s f place tx → tx.began ≤ p.entered → AreWordReplies p.words tx.calls tx.replies
-    → HasStarts s.script (map (λ (g : Following). g.block) p.jobs) tx → (IsTrue s.tells → IsPlayedSoFar s words p at tx)
+    → HasStartEnds s.script (map (λ (g : Following). g.block) p.jobs) tx → (IsTrue s.tells → IsPlayedSoFar s words p at tx)
     → IsTrueEntry s p (entry_of tx at (Committed tx.ends))
 commit_true s words p f at place tx got commits none under began said starts played =
     let committing : IsCommitting s f place tx = subst (IsInPhase s f place tx) commits under.phase in
@@ -87,7 +87,7 @@ commit_true s words p f at place tx got commits none under began said starts pla
           calls = under.asked;
           asked = (
             ap (λ (b : BlockWalk). asks b.walk) (sym committing.ahead) ∙ committing.asked,
-            all ∙ as_many tx.late (kept_calls tx.calls tx.replies) under.kept.0,
+            all ∙ late_as_many tx.late (kept_calls tx.calls tx.replies) under.kept.0,
           );
           faults = under.faults;
         };
@@ -105,7 +105,7 @@ gone_on script entered f tx = untried f.block (committed_job script f.job tx.cal
 -- the jobs that it started
 abbrev pub started_on : Script → ℕ → Following → TxView → List Following
 started_on script entered f tx =
-    map (started_job script (committed_job script f.job tx.calls tx.replies tx.ends) (entered + 1)) (started_late tx.late tx.ends)
+    map (started_following script (committed_job script f.job tx.calls tx.replies tx.ends) (entered + 1)) (started_late tx.late tx.ends)
 
 -- it goes on in its place after a commit, and those that it started stand after
 pub commit_leads : (script : Script) (p : Progress) (f : Following) (at : ℕ) (tx : TxView) → slice_get p.jobs at ≡ Some f
@@ -115,7 +115,7 @@ pub commit_leads : (script : Script) (p : Progress) (f : Following) (at : ℕ) (
 commit_leads script p f at tx got kept =
     let e = entry_of tx at (Committed tx.ends) in
     let g = gone_on script p.entered f tx in
-    let more = started_job script (committed_job script f.job tx.calls tx.replies tx.ends) (p.entered + 1) in
+    let more = started_following script (committed_job script f.job tx.calls tx.replies tx.ends) (p.entered + 1) in
     ap (λ o. (after_following script p e o).jobs) (entry_following p at tx (Committed tx.ends) f got)
     ∙ ap (λ bs. slice_set p.jobs (at + 1 - 1) g ++ map more bs) (sym (started_same tx.late (kept_calls tx.calls tx.replies) tx.ends kept))
     ∙ ap (λ i. slice_set p.jobs i g ++ started_on script p.entered f tx) (place_of_number at)
@@ -177,7 +177,7 @@ report_so s f place tx c undoes none under undoing =
 
 -- and its cause is what it was asked, or a way back that got stuck
 caused_so : (s : Setting) (f : Following) (tx : TxView) (c : Cause) → tx.undo.pending ≡ [] → IsUndoing s f tx c
-    → IsCaused (all_records no_records tx.calls tx.replies) (next_of s.script f tx.replies) (record { cause = c; records = tx.undo.ended })
+    → HasAbortCause (all_records no_records tx.calls tx.replies) (next_of s.script f tx.replies) (record { cause = c; records = tx.undo.ended })
 caused_so s f tx c none undoing =
     let k = all_records no_records tx.calls tx.replies in
     record {

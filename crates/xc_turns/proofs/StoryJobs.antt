@@ -113,11 +113,11 @@ told_append s begun entered (f ∷ fs) gs (job ∷ jobs) more count told rest =
 
 -- ---- a turn that enters nothing
 -- one that begins nothing either
-pub goes_on : (s : Setting) (journal : List Entry) (jobs : List JobView) (at : ℕ) (job next : JobView) → slice_get jobs at ≡ Some job
+pub story_goes_on : (s : Setting) (journal : List Entry) (jobs : List JobView) (at : ℕ) (job next : JobView) → slice_get jobs at ≡ Some job
     → option_map active_begin (active_of next) ≡ option_map active_begin (active_of job)
     → ((f : Following) → StoryHolds s (begun_in journal jobs) (length journal) f job → StoryHolds s (begun_in journal jobs) (length journal) f next)
     → StoriesHoldBut s journal jobs → StoriesHoldBut s journal (slice_set jobs at next)
-goes_on s journal jobs at job next stands same moves told =
+story_goes_on s journal jobs at job next stands same moves told =
     let fs = (progress_of s.script journal).jobs in
     let n = begun_in journal jobs in
     let e = length journal in

@@ -19,7 +19,7 @@ use Rattle.xc_data.specs.declared.undo.UndoEnd.{UndoEnd}
 use Rattle.xc_compensate.specs.Records.{Records, way_of}
 use Rattle.xc_script.specs.declared.ask.Ask.TheVariants as ask
 use Rattle.xc_script.specs.Answers.{answered}
-use Rattle.xc_script.specs.Blocks.{BlockWalk, replied, all_replied, after_ask, after_call, block_from, none_kept, all_kept}
+use Rattle.xc_script.specs.Blocks.{BlockWalk, replied, all_replied, after_ask, block_after_call, block_from, none_kept, all_kept}
 use Rattle.xc_script.specs.Asking.{asks}
 use Rattle.xc_script.specs.Position.{Position, at_begin, walk_of, IsPastSilent}
 use Rattle.xc_world.specs.World.{beginning}
@@ -48,8 +48,9 @@ use Rattle.xc_model.specs.Progress.{Following}
 use Rattle.xc_model.specs.Asked.{next_of}
 use Rattle.xc_model.specs.EntryEnds.{IsCauseOf}
 use Rattle.xc_model.specs.Ending.{IsEnd}
-use Rattle.xc_model.specs.Moment.{TxView, SavedView, JobView, Doing, Idle, Active, Starved, Ended, Moment, begun_count, failures, rank_of, revoked, waiting}
-use Rattle.xc_model.specs.IdleRows.{IsEnding, IsReady, IsSpent, beginning_job}
+use Rattle.xc_model.specs.Moment.{TxView, SavedView, JobView, Doing, Idle, Active, Starved, Ended, Moment, begun_count, failures, rank_of, revoked}
+use Rattle.xc_model.specs.Moment.{asked_to_wait}
+use Rattle.xc_model.specs.IdleRows.{IsEnding, MayBegin, IsSpent, beginning_job}
 use Rattle.xc_model.specs.Movers.{IsSameBegin, IsSamePosition, Mover, asked_at, body_at}
 use Rattle.xc_model.specs.IdleRows.{new_tx}
 use Rattle.xc_model.specs.PlainSteps.{claims_at, noting, noting_plain, copied, saved_by}
@@ -106,7 +107,7 @@ ended_told s now entered f job end idle ending told =
 
 -- a job that is told to wait
 pub waiting_told : (s : Setting) (begun entered : ℕ) (f : Following) (job : JobView) → StoryHolds s begun entered f job
-    → StoryHolds s begun entered f (waiting job)
+    → StoryHolds s begun entered f (asked_to_wait job)
 waiting_told s begun entered f job told =
     record {
       block = told.block;
@@ -118,7 +119,7 @@ waiting_told s begun entered f job told =
       doing = waiting_doing job.doing told.doing;
     }
   where
-    waiting_doing : (d : Doing) → IsDoing s begun f job d → IsDoing s begun f (waiting job) d
+    waiting_doing : (d : Doing) → IsDoing s begun f job d → IsDoing s begun f (asked_to_wait job) d
     waiting_doing Idle h = h
     waiting_doing (Active tx) h = h
     waiting_doing Starved h = h
@@ -129,8 +130,8 @@ abbrev stands_at : Setting → Position → BlockWalk
 stands_at s place = record { walk = walk_of s.script place; saved = place.saved }
 
 -- which calls of a transaction left a record
-abbrev left_of : TxView → Recorded
-left_of tx = all_records no_records tx.calls tx.replies
+abbrev left_records : TxView → Recorded
+left_records tx = all_records no_records tx.calls tx.replies
 
 -- the records that have an end
 abbrev tried : List Ending → List Undo
@@ -150,7 +151,7 @@ newest_tried : (older pending : List Undo) (u : Undo) (e : UndoEnd) (ended : Lis
 newest_tried older pending u e ended newest = ap (λ us. us ++ tried ended) newest ∙ append_assoc older (u ∷ []) (tried ended)
 
 -- a transaction that begins
-begun_underway : (s : Setting) (now : Moment) (f : Following) (job : JobView) → IsReady s now job → AreAttempts f job.attempts
+begun_underway : (s : Setting) (now : Moment) (f : Following) (job : JobView) → MayBegin s now job → AreAttempts f job.attempts
     → f.starved ≡ false → job.place ≡ at_begin f.job → f.since ≤ length now.journal → job.me ≡ beginning job.me.places → All IsSided job.me.places
     → IsUnderway s f (record job.place { begun = job.place.variables })
     (new_tx (begun_count now + 1) (rank_of job.attempts (begun_count now + 1)) (length now.journal) job.me)
@@ -185,7 +186,7 @@ begun_underway s now f job ready are goes place since fresh sided =
     }
 
 -- an idle job whose next transaction begins
-pub begun_told : (s : Setting) (now : Moment) (f : Following) (job : JobView) → job.doing ≡ Idle → IsReady s now job
+pub begun_told : (s : Setting) (now : Moment) (f : Following) (job : JobView) → job.doing ≡ Idle → MayBegin s now job
     → StoryHolds s (begun_count now) (length now.journal) f job → StoryHolds s (begun_count now + 1) (length now.journal) f (beginning_job now job)
 begun_told s now f job idle ready told =
     let (goes, place) = subst (IsDoing s (begun_count now) f job) idle told.doing in
@@ -226,8 +227,8 @@ running_phase s f place tx runs under = subst (IsInPhase s f place tx) runs unde
 
 -- its records, by its phase
 records_in : (s : Setting) (f : Following) (place : Position) (tx : TxView) (ph : Phase) → tx.phase ≡ ph → IsUnderway s f place tx
-    → HasRecordsIn (left_of tx) ph (all_of tx)
-records_in s f place tx ph is under = subst (λ p. HasRecordsIn (left_of tx) p (all_of tx)) is under.counted.now
+    → HasRecordsIn (left_records tx) ph (all_of tx)
+records_in s f place tx ph is under = subst (λ p. HasRecordsIn (left_records tx) p (all_of tx)) is under.counted.now
 
 -- past silent statements it stands on the same way
 same_way : (s : Setting) (old new : Position) → IsSamePosition s old new → stands_at s new ≡ stands_at s old
@@ -236,7 +237,7 @@ same_way s old new same = λ i. record { walk = same.walk i; saved = same.saved 
 -- ---- after a call
 -- where it doesn't go back, the walk is answered, and the block is opened or closed
 after_noted : (c : Call) (b : BlockWalk) (reply : Reply) → is_back c ≡ false
-    → record { walk = answered b.walk reply; saved = saved_by c b.saved b.walk.variables.values } ≡ after_call b c reply
+    → record { walk = answered b.walk reply; saved = saved_by c b.saved b.walk.variables.values } ≡ block_after_call b c reply
 after_noted call.Save b reply ahead = refl
 after_noted call.Keep b reply ahead = refl
 after_noted call.Back b reply ahead = cc ahead
@@ -276,8 +277,8 @@ called_underway m f tx call now ahead runs asked row under =
     let is : asks (all_replied begin tx.replies).walk ≡ ask.Call call = ap (λ (b : BlockWalk). asks b.walk) (sym running.ahead) ∙ asked in
     let count = asks-count begin tx.calls tx.replies under.asked in
     let pending : row.parts.undo.pending ≡ tx.undo.pending ++ row.made = ap (λ (u : Records). u.pending) row.undo in
-    let answers : after_call was call row.reply ≡ replied was row.reply = ap (λ a. after_ask was a row.reply) (sym asked) in
-    let stepped : stands_at s row.place ≡ after_call was call row.reply =
+    let answers : block_after_call was call row.reply ≡ replied was row.reply = ap (λ a. after_ask was a row.reply) (sym asked) in
+    let stepped : stands_at s row.place ≡ block_after_call was call row.reply =
     (λ i. record { walk = row.walk i; saved = row.saved i }) ∙ after_noted call was row.reply ahead in
     let w = world_of m.old.contents in
     let phase : IsRunning s f row.place next = record {
@@ -287,7 +288,7 @@ called_underway m f tx call now ahead runs asked row under =
       within = subst (IsWithinSave next.saved) (sym pending) (noted_within call tx.saved copy tx.undo.pending row.made pending running.within);
     } in
     let sided = sided_after tx.number call tx.me row.reply row.parts.me.places row.after.places under.sided in
-    let k = left_of tx in
+    let k = left_records tx in
     let more = records-more no_records tx.calls tx.replies call row.reply count in
     let calls = k.now ++ left_by call row.reply in
     let had : AreRecordsOf k.now tx.undo.pending =
@@ -394,7 +395,7 @@ backs_one_underway s f place tx kept older u end backs is above newest legal und
       saved_sided = under.saved_sided;
       together = under.together;
       counted = record {
-        now = counted_so end (subst (AreRecordsOf (left_of tx).now) (newest_tried older tx.undo.pending u end tx.undo.ended newest)
+        now = counted_so end (subst (AreRecordsOf (left_records tx).now) (newest_tried older tx.undo.pending u end tx.undo.ended newest)
             (records_in s f place tx Backing backs under));
         saved = under.counted.saved;
       };
@@ -402,14 +403,14 @@ backs_one_underway s f place tx kept older u end backs is above newest legal und
       phase = by_end end all_legal asked backing count;
     }
   where
-    counted_so : (e : UndoEnd) → AreRecordsOf (left_of tx).now (older ++ tried ((u, e) ∷ tx.undo.ended))
-        → HasRecordsIn (left_of tx) (phase_after (length older + 1) e) (older ++ tried ((u, e) ∷ tx.undo.ended))
+    counted_so : (e : UndoEnd) → AreRecordsOf (left_records tx).now (older ++ tried ((u, e) ∷ tx.undo.ended))
+        → HasRecordsIn (left_records tx) (phase_after (length older + 1) e) (older ++ tried ((u, e) ∷ tx.undo.ended))
     counted_so (Undone faults) so = so
     counted_so (Failed done faults) so = so
     counted_so (Blocked by) so = so
 
-    saved_count : IsCountedSave (Some kept) (left_of tx).saved
-    saved_count = subst (λ o. IsCountedSave o (left_of tx).saved) is under.counted.saved
+    saved_count : IsCountedSave (Some kept) (left_records tx).saved
+    saved_count = subst (λ o. IsCountedSave o (left_records tx).saved) is under.counted.saved
 
     by_end : (e : UndoEnd) → AreLegal s.rules.undo_tries (length older + 1) ((u, e) ∷ tx.undo.ended) → next_of s.script f tx.replies ≡ ask.Call call.Back
         → IsBacking s f place tx → length tx.undo.pending ≡ length older + 1
@@ -431,7 +432,7 @@ backs_one_underway s f place tx kept older u end backs is above newest legal und
           caused = asked;
           legal = all_legal;
           stuck = (
-            of_block kept (left_of tx) (length older + 1) saved_count (omega (arith, above, count)),
+            of_block kept (left_records tx) (length older + 1) saved_count (omega (arith, above, count)),
             record {
               older = [];
               stuck = u;
@@ -464,9 +465,9 @@ ends_back_underway m f tx kept now backs is few row under =
     let was = stands_at s m.job.place in
     let next_is : asks (all_replied begin tx.replies).walk ≡ ask.Call call.Back = ap (λ (b : BlockWalk). asks b.walk) (sym backing.ahead) ∙ backing.asked in
     let count = asks-count begin tx.calls tx.replies under.asked in
-    let answers : after_call was call.Back reply ≡ replied was reply = ap (λ a. after_ask was a reply) (sym backing.asked) in
-    let stepped : stands_at s row.place ≡ after_call was call.Back reply = λ i. record { walk = row.walk i; saved = row.closed i } in
-    let k = left_of tx in
+    let answers : block_after_call was call.Back reply ≡ replied was reply = ap (λ a. after_ask was a reply) (sym backing.asked) in
+    let stepped : stands_at s row.place ≡ block_after_call was call.Back reply = λ i. record { walk = row.walk i; saved = row.closed i } in
+    let k = left_records tx in
     let saved_count : IsCountedSave (Some kept) k.saved = subst (λ o. IsCountedSave o k.saved) is under.counted.saved in
     let above : length kept.trail ≤ length tx.undo.pending = subst (λ o. IsAboveSave o tx.undo.pending) is backing.within in
     let left : length tx.undo.pending ≡ length kept.trail = omega (arith, above, few) in
@@ -534,15 +535,15 @@ cut_underway s f place tx m backs under =
 pub back_underway : (s : Setting) (f : Following) (old new : Position) (tx : TxView) (c : Cause) (undo : Records) (held : List Claim)
     → undo.ended ≡ tx.undo.ended → tx.phase ≡ Running → IsSamePosition s old new
     → (next_of s.script f tx.replies ≡ asked_at s old → IsCauseOf c (next_of s.script f tx.replies))
-    → (AreRecordsOf (left_of tx).now tx.undo.pending → HasRecords (left_of tx) c undo.pending)
-    → IsStuckIn (saved_records (left_of tx)) (length undo.pending + 1) undo.ended c
+    → (AreRecordsOf (left_records tx).now tx.undo.pending → HasRecords (left_records tx) c undo.pending)
+    → IsStuckIn (saved_records (left_records tx)) (length undo.pending + 1) undo.ended c
     → IsUnderway s f old tx → IsUnderway s f new (record tx { phase = Undoing c; undo = undo; held = held })
 back_underway s f old new tx c undo held ended runs same caused count stuck under =
     let running = running_phase s f old tx runs under in
-    let had : AreRecordsOf (left_of tx).now tx.undo.pending =
-    subst (AreRecordsOf (left_of tx).now) (none_tried tx.undo.pending tx.undo.ended running.none) (records_in s f old tx Running runs under) in
-    let has : HasRecords (left_of tx) c (undo.pending ++ tried undo.ended) =
-    subst (HasRecords (left_of tx) c) (sym (none_tried undo.pending undo.ended (ended ∙ running.none))) (count had) in
+    let had : AreRecordsOf (left_records tx).now tx.undo.pending =
+    subst (AreRecordsOf (left_records tx).now) (none_tried tx.undo.pending tx.undo.ended running.none) (records_in s f old tx Running runs under) in
+    let has : HasRecords (left_records tx) c (undo.pending ++ tried undo.ended) =
+    subst (HasRecords (left_records tx) c) (sym (none_tried undo.pending undo.ended (ended ∙ running.none))) (count had) in
     record {
       goes_on = under.goes_on;
       left = under.left;
@@ -694,7 +695,7 @@ tried_underway s f place tx c older u end undoes newest legal under =
     let phase : IsUndoing s f next c = record {
       caused = undoing.caused;
       legal = (legal, subst (λ n. AreLegal s.rules.undo_tries (n + 1) tx.undo.ended) count undoing.legal);
-      stuck = stuck_on (saved_records (left_of tx)) c (length tx.undo.pending + 1) (length older + 1) (u, end) tx.undo.ended (omega (arith, count))
+      stuck = stuck_on (saved_records (left_records tx)) c (length tx.undo.pending + 1) (length older + 1) (u, end) tx.undo.ended (omega (arith, count))
           undoing.stuck;
       no_ends = undoing.no_ends;
     } in
@@ -712,7 +713,7 @@ tried_underway s f place tx c older u end undoes newest legal under =
       sided = under.sided;
       saved_sided = under.saved_sided;
       together = under.together;
-      counted = record { now = subst (HasRecordsIn (left_of tx) tx.phase) as_before under.counted.now; saved = under.counted.saved };
+      counted = record { now = subst (HasRecordsIn (left_records tx) tx.phase) as_before under.counted.now; saved = under.counted.saved };
       faults = under.faults;
       phase = subst (IsInPhase s f place next) (sym undoes) phase;
     }

@@ -17,14 +17,15 @@ use Rattle.xc_data.specs.declared.object.Object.{Object}
 use Rattle.xc_data.specs.declared.undo.Undo.{Undo}
 use Rattle.xc_script.specs.declared.ask.Ask.{Ask}
 use Rattle.xc_script.specs.declared.ask.Ask.TheVariants as ask
-use Rattle.xc_script.specs.Position.{Position, is_call}
+use Rattle.xc_script.specs.Position.{Position, is_call_asked}
 use Rattle.xc_data.specs.declared.entry.Mark.{Mark}
 use Rattle.xc_model.specs.declared.phase.Phase.{Phase}
 use Rattle.xc_model.specs.declared.phase.Phase.TheVariants.{Running, Committing, Undoing, Backing}
 use Rattle.xc_model.specs.Setting.{Setting}
 use Rattle.xc_model.specs.WordCalls.{AreWordReplies}
 use Rattle.xc_model.specs.Progress.{Following, following_abort, progress_of}
-use Rattle.xc_model.specs.Moment.{TxView, JobView, Doing, Idle, Active, Starved, Ended, Moment, active_in, begun_count, late_left, rank_of, revoked, waiting}
+use Rattle.xc_model.specs.Moment.{TxView, JobView, Doing, Idle, Active, Starved, Ended, Moment, active_in, begun_count, late_left, rank_of, revoked}
+use Rattle.xc_model.specs.Moment.{asked_to_wait}
 use Rattle.xc_model.specs.Rows.{ActiveTurn, IsTurn}
 use Rattle.xc_model.specs.RunningRows.{BeginsBack, CalledTurn, AskedTurn, Calls, Commits, Conflicts}
 use Rattle.xc_model.specs.BackingRows.{phase_after, backed, BacksOne, EndsBack, BackingRow, OpenRow, MarkedBack}
@@ -33,7 +34,7 @@ use Rattle.xc_world.specs.Fits.{is_back}
 use Rattle.xc_model.specs.Moment.{SavedView}
 use Rattle.std.specs.Prelude.{Bool, true, false, nat_lt}
 use Rattle.xc_model.specs.UndoingRows.{BackTurn, Compensates}
-use Rattle.xc_model.specs.IdleRows.{IdleTurn, IsEnding, IsReady}
+use Rattle.xc_model.specs.IdleRows.{IdleTurn, IsEnding, MayBegin}
 use Rattle.xc_model.specs.Movers.{IsActiveAt}
 use Rattle.xc_model.specs.RunningRows.{MarkedTurn, Revokes, RunningTurn, Waits}
 use Rattle.xc_model.specs.CommittingRows.{LateTurn, NextLate}
@@ -51,13 +52,13 @@ use Rattle.xc_model.specs.Movers.{with_tx}
 use Rattle.xc_model.specs.Grounds.{AreGrounded}
 use Rattle.xc_model.specs.Stories.{StoriesHold, IsDoing, IsUnderway, active_begin, reading, scene_at}
 use Rattle.xc_model.specs.Played.{IsPlayedSoFar}
-use Rattle.xc_model.specs.Started.{AreStarted, HasStarts, blocks}
+use Rattle.xc_model.specs.Started.{AreStarted, HasStartEnds, blocks}
 use Rattle.xc_model.specs.Words.{WordsAgree}
 use Rattle.xc_turns.proofs.Lists.{get_beside}
 use Rattle.xc_turns.proofs.Jobs.{behind_abort_none}
 use Rattle.xc_turns.proofs.Progressing.{entered-all}
 use Rattle.xc_turns.proofs.StoryBegins.{active_begun}
-use Rattle.xc_turns.proofs.StoryJobs.{StoriesHoldBut, begins_in, goes_on, told_but, told_whole}
+use Rattle.xc_turns.proofs.StoryJobs.{StoriesHoldBut, begins_in, story_goes_on, told_but, told_whole}
 use Rattle.xc_turns.proofs.StoryRows.{begins_back_underway, backs_one_underway, ends_back_underway, cut_underway}
 use Rattle.xc_turns.proofs.StoryRows.{active_told, back_underway, begun_told, called_underway, commits_underway, ended_told, ended_underway, starved_told}
 use Rattle.xc_turns.proofs.StoryRows.{same_underway, tried_underway, waiting_told}
@@ -66,7 +67,7 @@ use Rattle.xc_turns.proofs.StoryEntries.{started_on, abort_leads, abort_true, ab
 use Rattle.std.proofs.Common.{append-nil}
 use Rattle.std.proofs.lemmas.List.{length-map}
 use Rattle.xc_model.specs.LateCalls.{started_late}
-use Rattle.xc_model.specs.Progress.{committed_job, started_job as progress_started}
+use Rattle.xc_model.specs.Progress.{committed_job, started_following as progress_started}
 use Rattle.xc_turns.proofs.Grown.{started_idle}
 use Rattle.xc_turns.proofs.LateEnds.{next_ends}
 use Rattle.xc_turns.proofs.StoryEnds.{started_told, aborted_told, committed_told, enters}
@@ -107,10 +108,10 @@ module _ (s : Setting) (at : ℕ) (old new : Moment) (job : JobView) (b : Before
       → new.jobs ≡ slice_set old.jobs at (record job { doing = Ended end }) → After
   ended_row end idle ending journal jobs =
       told_as s old.journal new.journal (slice_set old.jobs at (record job { doing = Ended end })) new.jobs journal jobs
-      (goes_on s old.journal old.jobs at job (record job { doing = Ended end }) b.there (ap (option_map active_begin) (sym (ap active_in idle)))
+      (story_goes_on s old.journal old.jobs at job (record job { doing = Ended end }) b.there (ap (option_map active_begin) (sym (ap active_in idle)))
       (λ f told. ended_told s old (length old.journal) f job end idle ending told) b.told)
 
-  begun_row : job.doing ≡ Idle → IsReady s old job → new.journal ≡ old.journal → new.jobs ≡ slice_set old.jobs at (beginning_job old job) → After
+  begun_row : job.doing ≡ Idle → MayBegin s old job → new.journal ≡ old.journal → new.jobs ≡ slice_set old.jobs at (beginning_job old job) → After
   begun_row idle ready journal jobs =
       let tx = new_tx (begun_count old + 1) (rank_of job.attempts (begun_count old + 1)) (length old.journal) job.me in
       told_as s old.journal new.journal (slice_set old.jobs at (beginning_job old job)) new.jobs journal jobs
@@ -121,9 +122,9 @@ module _ (s : Setting) (at : ℕ) (old new : Moment) (job : JobView) (b : Before
   idle_row (turn.Ended end) idle row = ended_row end idle row.0 (ap (λ (n : Moment). n.journal) row.1) (ap (λ (n : Moment). n.jobs) row.1)
   idle_row turn.Went idle row = begun_row idle row.0 (ap (λ (n : Moment). n.journal) row.1) (ap (λ (n : Moment). n.jobs) row.1)
   idle_row (turn.Busy object number) idle row =
-      told_as s old.journal new.journal (slice_set old.jobs at (waiting job)) new.jobs (ap (λ (n : Moment). n.journal) row.1)
+      told_as s old.journal new.journal (slice_set old.jobs at (asked_to_wait job)) new.jobs (ap (λ (n : Moment). n.journal) row.1)
       (ap (λ (n : Moment). n.jobs) row.1)
-      (goes_on s old.journal old.jobs at job (waiting job) b.there refl
+      (story_goes_on s old.journal old.jobs at job (asked_to_wait job) b.there refl
       (λ f told. waiting_told s (begun_count old) (length old.journal) f job told) b.told)
   idle_row turn.NoMemory idle row = absurd row
 
@@ -131,7 +132,7 @@ module _ (s : Setting) (at : ℕ) (old new : Moment) (job : JobView) (b : Before
   starved_row (turn.Ended job_end.NoMemory) starved row =
       let next : JobView = record job { doing = Ended job_end.NoMemory } in
       told_as s old.journal new.journal (slice_set old.jobs at next) new.jobs (ap (λ (n : Moment). n.journal) row) (ap (λ (n : Moment). n.jobs) row)
-      (goes_on s old.journal old.jobs at job next b.there (ap (option_map active_begin) (sym (ap active_in starved)))
+      (story_goes_on s old.journal old.jobs at job next b.there (ap (option_map active_begin) (sym (ap active_in starved)))
       (λ f told. starved_told s (begun_count old) (length old.journal) f job starved told) b.told)
   starved_row (turn.Ended job_end.Done) starved row = absurd row
   starved_row (turn.Ended (job_end.GaveUp c)) starved row = absurd row
@@ -146,7 +147,7 @@ module _ (s : Setting) (at : ℕ) (old new : Moment) (job : JobView) (b : Before
       → new.journal ≡ old.journal → new.jobs ≡ slice_set old.jobs at (with_tx job place next) → After
   active_row place tx next active same moves journal jobs =
       told_as s old.journal new.journal (slice_set old.jobs at (with_tx job place next)) new.jobs journal jobs
-      (goes_on s old.journal old.jobs at job (with_tx job place next) b.there
+      (story_goes_on s old.journal old.jobs at job (with_tx job place next) b.there
       (ap Some same ∙ ap (option_map active_begin) (sym (ap active_in active)))
       (λ f told. active_told s (begun_count old) (length old.journal) f job place tx next active (moves f) told) b.told)
 
@@ -162,7 +163,7 @@ module _ (s : Setting) (at : ℕ) (old new : Moment) (job : JobView) (b : Before
   conflict_row tx call active runs asked row =
       let c = cause.Conflict row.object row.holder (length old.journal) in
       active_row row.place tx (record tx { phase = Undoing c }) active refl
-      (λ f under. back_underway s f job.place row.place tx c tx.undo tx.held refl runs row.same (λ next. ap is_call (next ∙ asked)) (λ are. are) tt under)
+      (λ f under. back_underway s f job.place row.place tx c tx.undo tx.held refl runs row.same (λ next. ap is_call_asked (next ∙ asked)) (λ are. are) tt under)
       (ap (λ (n : Moment). n.journal) row.behind) (ap (λ (n : Moment). n.jobs) row.behind)
 
   -- it is told to wait
@@ -170,9 +171,9 @@ module _ (s : Setting) (at : ℕ) (old new : Moment) (job : JobView) (b : Before
       → After
   waits_row tx object holder active runs row =
       let next : JobView = with_tx job row.place tx in
-      told_as s old.journal new.journal (slice_set old.jobs at (waiting next)) new.jobs (ap (λ (n : Moment). n.journal) row.behind)
+      told_as s old.journal new.journal (slice_set old.jobs at (asked_to_wait next)) new.jobs (ap (λ (n : Moment). n.journal) row.behind)
       (ap (λ (n : Moment). n.jobs) row.behind)
-      (goes_on s old.journal old.jobs at job (waiting next) b.there (ap (option_map active_begin) (sym (ap active_in active)))
+      (story_goes_on s old.journal old.jobs at job (asked_to_wait next) b.there (ap (option_map active_begin) (sym (ap active_in active)))
       (λ f told. waiting_told s (begun_count old) (length old.journal) f next
       (active_told s (begun_count old) (length old.journal) f job row.place tx tx active (same_underway s f job.place row.place tx runs row.same) told)) b.told)
 
@@ -314,9 +315,9 @@ module _ (s : Setting) (at : ℕ) (old new : Moment) (job : JobView) (b : Before
   follows = get_beside (progress_of s.script old.journal).jobs old.jobs at job b.told.count b.there
 
   -- its starts ended after those that the journal tells of
-  starts_told : (tx : TxView) → job.doing ≡ Active tx → HasStarts s.script (map (λ (f : Following). f.block) (progress_of s.script old.journal).jobs) tx
+  starts_told : (tx : TxView) → job.doing ≡ Active tx → HasStartEnds s.script (map (λ (f : Following). f.block) (progress_of s.script old.journal).jobs) tx
   starts_told tx active =
-      subst (λ was. HasStarts s.script was tx)
+      subst (λ was. HasStartEnds s.script was tx)
       (sym (told_blocks (progress_of s.script old.journal).jobs old.jobs b.told.count (λ i f j got there. (b.told.jobs_told i f j got there).block)))
       (b.started.starts at tx (is_active tx active))
 

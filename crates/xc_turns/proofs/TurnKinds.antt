@@ -24,7 +24,7 @@ use Rattle.xc_model.specs.declared.phase.Phase.{Phase}
 use Rattle.xc_model.specs.declared.phase.Phase.TheVariants.{Running, Committing, Undoing, Backing}
 use Rattle.xc_model.specs.Setting.{Setting}
 use Rattle.xc_model.specs.Moment.{TxView, JobView, Doing, Idle, Active, Starved, Ended, Moment, active_in, active_of, entering, late_left}
-use Rattle.xc_model.specs.Moment.{revoked, waiting}
+use Rattle.xc_model.specs.Moment.{revoked, asked_to_wait}
 use Rattle.xc_model.specs.Stories.{cause_of_phase}
 use Rattle.xc_model.specs.EntryEnds.{cause_in}
 use Rattle.xc_model.specs.Rows.{IsTurn, TurnOf, StarvedTurn, ActiveTurn}
@@ -89,7 +89,7 @@ module _ (s : Setting) (at : ℕ) (old : Moment) (job : JobView) (new : Moment) 
       })
   idle_kind e (turn.Busy object number) row =
       rests (record {
-        behind = waiting job;
+        behind = asked_to_wait job;
         sets = record { jobs = ap (λ (n : Moment). n.jobs) row.1; words = ap (λ (n : Moment). length n.words) row.1 };
         journal = ap (λ (n : Moment). n.journal) row.1;
         marks = ap (λ (n : Moment). n.marks) row.1;
@@ -202,7 +202,7 @@ module _ (s : Setting) (at : ℕ) (old : Moment) (job : JobView) (new : Moment) 
     waits_kind : (object : Object) (holder : ℕ) → Waits (mover s at old job) tx object holder new → tx.phase ≡ Running → Kind s at old job new
     waits_kind object holder row e =
         stays (record {
-          behind = waiting (with_tx job row.place tx);
+          behind = asked_to_wait (with_tx job row.place tx);
           sets = record { jobs = ap (λ (n : Moment). n.jobs) row.behind; words = ap (λ (n : Moment). length n.words) row.behind };
           journal = ap (λ (n : Moment). n.journal) row.behind;
           tx = tx;
@@ -515,5 +515,5 @@ module _ (s : Setting) (at : ℕ) (old : Moment) (job : JobView) (new : Moment) 
   doing_kind (Ended end) e answer row = absurd row
 
 -- each row is of one kind
-pub kind_of : (s : Setting) (at : ℕ) (old new : Moment) (answer : Turn) → (t : IsTurn s at old answer new) → Kind s at old t.job new
-kind_of s at old new answer t = doing_kind s at old t.job new t.job.doing refl answer t.row
+pub row_kind : (s : Setting) (at : ℕ) (old new : Moment) (answer : Turn) → (t : IsTurn s at old answer new) → Kind s at old t.job new
+row_kind s at old new answer t = doing_kind s at old t.job new t.job.doing refl answer t.row

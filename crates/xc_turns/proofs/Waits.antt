@@ -23,7 +23,7 @@ use Rattle.xc_model.specs.declared.phase.Phase.{Phase}
 use Rattle.xc_model.specs.declared.phase.Phase.TheVariants.{Running, Committing, Undoing, Backing}
 use Rattle.xc_model.specs.Setting.{Setting}
 use Rattle.xc_model.specs.Moment.{TxView, JobView, Doing, Idle, Active, Starved, Ended, Moment, active_in, active_of, begun_count, entering, late_left}
-use Rattle.xc_model.specs.Moment.{revoked, unmarked, waiting}
+use Rattle.xc_model.specs.Moment.{revoked, unmarked, asked_to_wait}
 use Rattle.xc_model.specs.Rows.{ActiveTurn, IsTurn}
 use Rattle.xc_model.specs.RunningRows.{AskedTurn, CalledTurn, MarkedTurn, RunningTurn}
 use Rattle.xc_model.specs.BackingRows.{BackingRow, OpenRow, MarkedBack}
@@ -52,7 +52,7 @@ module _ (s : Setting) (at : ℕ) (old new : Moment) (job : JobView) (stands : s
   -- ---- the row of an answer Busy
   -- an idle job waits, or a running transaction
   data BusyRow (object : Object) (number : ℕ) : Type 0 where
-    idles : job.doing ≡ Idle → IsWaiting s old job object number → new.jobs ≡ slice_set old.jobs at (waiting job) → new.marks ≡ old.marks
+    idles : job.doing ≡ Idle → IsWaiting s old job object number → new.jobs ≡ slice_set old.jobs at (asked_to_wait job) → new.marks ≡ old.marks
         → BusyRow object number
     runs : (tx : TxView) → job.doing ≡ Active tx → tx.phase ≡ Running → Waits (mover s at old job) tx object number new → BusyRow object number
 
@@ -105,9 +105,9 @@ module _ (s : Setting) (at : ℕ) (old new : Moment) (job : JobView) (stands : s
       let both : Some behind ≡ Some is = sym here ∙ got in cc both
 
   row_counts : (object : Object) (number : ℕ) → BusyRow object number → (is : JobView) → slice_get new.jobs at ≡ Some is → is.busy ≡ job.busy + 1
-  row_counts object number (idles idle waits jobs marks) is got = ap (λ (j : JobView). j.busy) (sym (is_behind (waiting job) is jobs got))
+  row_counts object number (idles idle waits jobs marks) is got = ap (λ (j : JobView). j.busy) (sym (is_behind (asked_to_wait job) is jobs got))
   row_counts object number (runs tx active e w) is got =
-      ap (λ (j : JobView). j.busy) (sym (is_behind (waiting (with_tx job w.place tx)) is (ap (λ (n : Moment). n.jobs) w.behind) got))
+      ap (λ (j : JobView). j.busy) (sym (is_behind (asked_to_wait (with_tx job w.place tx)) is (ap (λ (n : Moment). n.jobs) w.behind) got))
 
   -- ---- marks
   -- a mark was there, or the row made it
@@ -318,7 +318,7 @@ module _ (s : Setting) (at : ℕ) (old new : Moment) (job : JobView) where
   running_so : (tx : TxView) → job.doing ≡ Active tx → (answer : Turn) → RunningTurn (mover s at old job) tx answer new → Changed answer
   running_so tx is turn.Went row = asked_so turn.Went tx is (asked_at s job.place) row
   running_so tx is turn.NoMemory row = goes turn.NoMemory tx is row.place _ (ap (λ (n : Moment). n.jobs) row.behind)
-  running_so tx is (turn.Busy object number) w = told_so object number (waiting (with_tx job w.place tx)) (ap (λ (n : Moment). n.jobs) w.behind)
+  running_so tx is (turn.Busy object number) w = told_so object number (asked_to_wait (with_tx job w.place tx)) (ap (λ (n : Moment). n.jobs) w.behind)
   running_so tx is (turn.Ended end) row = absurd row
 
   marked_so : (tx : TxView) → job.doing ≡ Active tx → (m : Option Mark) (answer : Turn) → MarkedTurn (mover s at old job) tx m answer new → Changed answer
@@ -348,7 +348,7 @@ module _ (s : Setting) (at : ℕ) (old new : Moment) (job : JobView) where
   doing_so Idle is turn.Went row =
       turns_so turn.Went (beginning_job old job) [] (ap (λ (n : Moment). n.jobs) row.1 ∙ sym (append-nil (slice_set old.jobs at (beginning_job old job)))) refl
       (sym (ap (λ d. not (is_some (active_in d))) is))
-  doing_so Idle is (turn.Busy object number) row = told_so object number (waiting job) (ap (λ (n : Moment). n.jobs) row.1)
+  doing_so Idle is (turn.Busy object number) row = told_so object number (asked_to_wait job) (ap (λ (n : Moment). n.jobs) row.1)
   doing_so Idle is turn.NoMemory row = absurd row
   doing_so (Active tx) is answer row = active_so tx is tx.phase answer row
   doing_so Starved is (turn.Ended job_end.NoMemory) row =

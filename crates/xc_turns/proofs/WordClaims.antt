@@ -17,7 +17,7 @@ use Rattle.xc_data.specs.declared.private.Private.{Private}
 use Rattle.xc_data.specs.Claims.{is_object, claim, is_exclusive, exclusive, compatible, objects, owned, stronger, merged, holding_one, holding}
 use Rattle.xc_world.specs.Modes.{mode_of, claims_of}
 use Rattle.xc_world.specs.Own.{Sees, Owns}
-use Rattle.xc_world.proofs.Laws.{objects_append, owned_append, has, found}
+use Rattle.xc_world.proofs.Laws.{objects_append, owned_append, contains_object, found}
 use Rattle.xc_data.proofs.Laws.{same_object}
 use Rattle.xc_model.specs.Moment.{TxView, JobView}
 use Rattle.xc_model.specs.Movers.{IsActiveAt}
@@ -32,13 +32,14 @@ merged_object_if : (new h : Claim) (b : Bool) → (if b then record h { mode = s
 merged_object_if new h true = refl
 merged_object_if new h false = refl
 
-seen_still_one : (held : List Claim) (new : Claim) (o : Object) → has (objects held) o ≡ true → has (objects (holding_one held new)) o ≡ true
-seen_still_one held new o is = by_test (has (objects held) new.object)
+seen_still_one : (held : List Claim) (new : Claim) (o : Object) → contains_object (objects held) o ≡ true
+    → contains_object (objects (holding_one held new)) o ≡ true
+seen_still_one held new o is = by_test (contains_object (objects held) new.object)
   where
-    by_test : (b : Bool) → has (objects (if b then map (merged new) held else held ++ new ∷ [])) o ≡ true
-    by_test true = ap (λ l. has l o) (objects_merged new held) ∙ is
-    by_test false = ap (λ l. has l o) (objects_append held (new ∷ [])) ∙ list_any-append (is_object o) (objects held) (new.object ∷ [])
-        ∙ or_left (has (objects held) o) (has (new.object ∷ []) o) is
+    by_test : (b : Bool) → contains_object (objects (if b then map (merged new) held else held ++ new ∷ [])) o ≡ true
+    by_test true = ap (λ l. contains_object l o) (objects_merged new held) ∙ is
+    by_test false = ap (λ l. contains_object l o) (objects_append held (new ∷ [])) ∙ list_any-append (is_object o) (objects held) (new.object ∷ [])
+        ∙ or_left (contains_object (objects held) o) (contains_object (new.object ∷ []) o) is
 
 stronger_first : (m n : Mode) → is_exclusive m ≡ true → is_exclusive (stronger m n) ≡ true
 stronger_first Exclusive n is = refl
@@ -53,31 +54,34 @@ merged_exclusive new h true is = stronger_first h.mode new.mode is
 merged_exclusive new h false is = is
 
 -- a claim in front that owns no less, before claims that own no less
-kept_in_front : (h k o : Object) (os ps : List Object) (b d : Bool) → k ≡ h → (b ≡ true → d ≡ true) → (has os o ≡ true → has ps o ≡ true)
-    → has (cons_option (if b then Some h else None) os) o ≡ true → has (cons_option (if d then Some k else None) ps) o ≡ true
+kept_in_front : (h k o : Object) (os ps : List Object) (b d : Bool) → k ≡ h → (b ≡ true → d ≡ true)
+    → (contains_object os o ≡ true → contains_object ps o ≡ true)
+    → contains_object (cons_option (if b then Some h else None) os) o ≡ true → contains_object (cons_option (if d then Some k else None) ps) o ≡ true
 kept_in_front h k o os ps true true same more later is = by_test (is_object o h) refl is
   where
-    by_test : (t : Bool) → is_object o h ≡ t → (t || has os o) ≡ true → (is_object o k || has ps o) ≡ true
-    by_test true e is = or_left (is_object o k) (has ps o) (ap (is_object o) same ∙ e)
-    by_test false e is = or_right (is_object o k) (has ps o) (later is)
+    by_test : (t : Bool) → is_object o h ≡ t → (t || contains_object os o) ≡ true → (is_object o k || contains_object ps o) ≡ true
+    by_test true e is = or_left (is_object o k) (contains_object ps o) (ap (is_object o) same ∙ e)
+    by_test false e is = or_right (is_object o k) (contains_object ps o) (later is)
 kept_in_front h k o os ps true false same more later is = let no : false ≡ true = more refl in cc no
-kept_in_front h k o os ps false true same more later is = or_right (is_object o k) (has ps o) (later is)
+kept_in_front h k o os ps false true same more later is = or_right (is_object o k) (contains_object ps o) (later is)
 kept_in_front h k o os ps false false same more later is = later is
 
-owned_still_merged : (new : Claim) (held : List Claim) (o : Object) → has (owned held) o ≡ true → has (owned (map (merged new) held)) o ≡ true
+owned_still_merged : (new : Claim) (held : List Claim) (o : Object) → contains_object (owned held) o ≡ true
+    → contains_object (owned (map (merged new) held)) o ≡ true
 owned_still_merged new [] o is = is
 owned_still_merged new (h ∷ held) o is =
     kept_in_front h.object (merged new h).object o (owned held) (owned (map (merged new) held)) (exclusive h) (exclusive (merged new h))
     (merged_object_if new h (is_object new.object h.object)) (merged_exclusive new h (is_object new.object h.object))
     (owned_still_merged new held o) is
 
-owned_still_one : (held : List Claim) (new : Claim) (o : Object) → has (owned held) o ≡ true → has (owned (holding_one held new)) o ≡ true
-owned_still_one held new o is = by_test (has (objects held) new.object)
+owned_still_one : (held : List Claim) (new : Claim) (o : Object) → contains_object (owned held) o ≡ true
+    → contains_object (owned (holding_one held new)) o ≡ true
+owned_still_one held new o is = by_test (contains_object (objects held) new.object)
   where
-    by_test : (b : Bool) → has (owned (if b then map (merged new) held else held ++ new ∷ [])) o ≡ true
+    by_test : (b : Bool) → contains_object (owned (if b then map (merged new) held else held ++ new ∷ [])) o ≡ true
     by_test true = owned_still_merged new held o is
-    by_test false = ap (λ l. has l o) (owned_append held (new ∷ [])) ∙ list_any-append (is_object o) (owned held) (owned (new ∷ []))
-        ∙ or_left (has (owned held) o) (has (owned (new ∷ [])) o) is
+    by_test false = ap (λ l. contains_object l o) (owned_append held (new ∷ [])) ∙ list_any-append (is_object o) (owned held) (owned (new ∷ []))
+        ∙ or_left (contains_object (owned held) o) (contains_object (owned (new ∷ [])) o) is
 
 -- ---- the new one is held
 itself : (o : Object) → is_object o o ≡ true
@@ -87,54 +91,59 @@ itself o = by_any (is_object o o) refl (found (o ∷ []) o (0, omega arith, refl
     by_any true e is = e
     by_any false e is = cc is
 
-seen_one : (held : List Claim) (new : Claim) → has (objects (holding_one held new)) new.object ≡ true
-seen_one held new = by_test (has (objects held) new.object) refl
+seen_one : (held : List Claim) (new : Claim) → contains_object (objects (holding_one held new)) new.object ≡ true
+seen_one held new = by_test (contains_object (objects held) new.object) refl
   where
-    by_test : (b : Bool) → has (objects held) new.object ≡ b → has (objects (if b then map (merged new) held else held ++ new ∷ [])) new.object ≡ true
-    by_test true e = ap (λ l. has l new.object) (objects_merged new held) ∙ e
-    by_test false e = ap (λ l. has l new.object) (objects_append held (new ∷ []))
+    by_test : (b : Bool) → contains_object (objects held) new.object ≡ b
+        → contains_object (objects (if b then map (merged new) held else held ++ new ∷ [])) new.object ≡ true
+    by_test true e = ap (λ l. contains_object l new.object) (objects_merged new held) ∙ e
+    by_test false e = ap (λ l. contains_object l new.object) (objects_append held (new ∷ []))
         ∙ list_any-append (is_object new.object) (objects held) (new.object ∷ [])
-        ∙ or_right (has (objects held) new.object) (has (new.object ∷ []) new.object)
+        ∙ or_right (contains_object (objects held) new.object) (contains_object (new.object ∷ []) new.object)
         (or_left (is_object new.object new.object) false (itself new.object))
 
-owned_in_front : (h o : Object) (os : List Object) (b : Bool) → b ≡ true → is_object o h ≡ true → has (cons_option (if b then Some h else None) os) o ≡ true
-owned_in_front h o os true is same = or_left (is_object o h) (has os o) same
+owned_in_front : (h o : Object) (os : List Object) (b : Bool) → b ≡ true → is_object o h ≡ true
+    → contains_object (cons_option (if b then Some h else None) os) o ≡ true
+owned_in_front h o os true is same = or_left (is_object o h) (contains_object os o) same
 owned_in_front h o os false is same = cc is
 
-owned_behind : (h o : Object) (os : List Object) (b : Bool) → has os o ≡ true → has (cons_option (if b then Some h else None) os) o ≡ true
-owned_behind h o os true is = or_right (is_object o h) (has os o) is
+owned_behind : (h o : Object) (os : List Object) (b : Bool) → contains_object os o ≡ true
+    → contains_object (cons_option (if b then Some h else None) os) o ≡ true
+owned_behind h o os true is = or_right (is_object o h) (contains_object os o) is
 owned_behind h o os false is = is
 
-owned_merged : (new : Claim) (held : List Claim) → exclusive new ≡ true → has (objects held) new.object ≡ true
-    → has (owned (map (merged new) held)) new.object ≡ true
+owned_merged : (new : Claim) (held : List Claim) → exclusive new ≡ true → contains_object (objects held) new.object ≡ true
+    → contains_object (owned (map (merged new) held)) new.object ≡ true
 owned_merged new [] alone is = is
 owned_merged new (h ∷ held) alone is = by_test (is_object new.object h.object) refl is (owned_merged new held alone)
   where
-    by_test : (b : Bool) → is_object new.object h.object ≡ b → (b || has (objects held) new.object) ≡ true
-        → (has (objects held) new.object ≡ true → has (owned (map (merged new) held)) new.object ≡ true)
+    by_test : (b : Bool) → is_object new.object h.object ≡ b → (b || contains_object (objects held) new.object) ≡ true
+        → (contains_object (objects held) new.object ≡ true → contains_object (owned (map (merged new) held)) new.object ≡ true)
         → (let k = if b then record h { mode = stronger h.mode new.mode } else h in
-        has (cons_option (if exclusive k then Some k.object else None) (owned (map (merged new) held))) new.object ≡ true)
+        contains_object (cons_option (if exclusive k then Some k.object else None) (owned (map (merged new) held))) new.object ≡ true)
     by_test true e is later = owned_in_front h.object new.object (owned (map (merged new) held)) (is_exclusive (stronger h.mode new.mode))
         (stronger_later h.mode new.mode alone) e
     by_test false e is later = owned_behind h.object new.object (owned (map (merged new) held)) (exclusive h) (later is)
 
 -- what is claimed exclusively is owned
-pub owned_one : (held : List Claim) (new : Claim) → exclusive new ≡ true → has (owned (holding_one held new)) new.object ≡ true
-owned_one held new alone = by_test (has (objects held) new.object) refl
+pub owned_one : (held : List Claim) (new : Claim) → exclusive new ≡ true → contains_object (owned (holding_one held new)) new.object ≡ true
+owned_one held new alone = by_test (contains_object (objects held) new.object) refl
   where
-    by_test : (b : Bool) → has (objects held) new.object ≡ b → has (owned (if b then map (merged new) held else held ++ new ∷ [])) new.object ≡ true
+    by_test : (b : Bool) → contains_object (objects held) new.object ≡ b
+        → contains_object (owned (if b then map (merged new) held else held ++ new ∷ [])) new.object ≡ true
     by_test true e = owned_merged new held alone e
-    by_test false e = ap (λ l. has l new.object) (owned_append held (new ∷ [])) ∙ list_any-append (is_object new.object) (owned held) (owned (new ∷ []))
-        ∙ or_right (has (owned held) new.object) (has (owned (new ∷ [])) new.object)
+    by_test false e =
+        ap (λ l. contains_object l new.object) (owned_append held (new ∷ [])) ∙ list_any-append (is_object new.object) (owned held) (owned (new ∷ []))
+        ∙ or_right (contains_object (owned held) new.object) (contains_object (owned (new ∷ [])) new.object)
         (owned_in_front new.object new.object [] (exclusive new) alone (itself new.object))
 
 -- ---- all claims
-seen_still : (held claims : List Claim) (o : Object) → has (objects held) o ≡ true → has (objects (holding held claims)) o ≡ true
+seen_still : (held claims : List Claim) (o : Object) → contains_object (objects held) o ≡ true → contains_object (objects (holding held claims)) o ≡ true
 seen_still held [] o is = is
 seen_still held (c ∷ claims) o is = seen_still (holding_one held c) claims o (seen_still_one held c o is)
 
 -- what was owned still is
-pub owned_still : (held claims : List Claim) (o : Object) → has (owned held) o ≡ true → has (owned (holding held claims)) o ≡ true
+pub owned_still : (held claims : List Claim) (o : Object) → contains_object (owned held) o ≡ true → contains_object (owned (holding held claims)) o ≡ true
 owned_still held [] o is = is
 owned_still held (c ∷ claims) o is = owned_still (holding_one held c) claims o (owned_still_one held c o is)
 
@@ -173,11 +182,12 @@ held_further c cs o h = (h.0, contains_later c cs h.0 h.1, h.2)
 owned_further : (c : Claim) (cs : List Claim) (o : Object) → OwnsIt cs o → OwnsIt (c ∷ cs) o
 owned_further c cs o h = (h.0, contains_later c cs h.0 h.1, h.2, h.3)
 
-holder_of : (held : List Claim) (o : Object) → has (objects held) o ≡ true → HoldsIt held o
+holder_of : (held : List Claim) (o : Object) → contains_object (objects held) o ≡ true → HoldsIt held o
 holder_of [] o is = cc is
 holder_of (c ∷ held) o is = by_test (is_object o c.object) refl is (λ later. held_further c held o (holder_of held o later))
   where
-    by_test : (b : Bool) → is_object o c.object ≡ b → (b || has (objects held) o) ≡ true → (has (objects held) o ≡ true → HoldsIt (c ∷ held) o)
+    by_test : (b : Bool) → is_object o c.object ≡ b → (b || contains_object (objects held) o) ≡ true
+        → (contains_object (objects held) o ≡ true → HoldsIt (c ∷ held) o)
         → HoldsIt (c ∷ held) o
     by_test true e is later = (c, contains_first c held, sym (same_object o c.object e))
     by_test false e is later = later is
@@ -187,21 +197,21 @@ exclusive_mode Exclusive is = refl
 exclusive_mode Shared is = cc is
 
 -- what is owned is claimed exclusively
-pub owner_of : (held : List Claim) (o : Object) → has (owned held) o ≡ true → OwnsIt held o
+pub owner_of : (held : List Claim) (o : Object) → contains_object (owned held) o ≡ true → OwnsIt held o
 owner_of [] o is = cc is
 owner_of (c ∷ held) o is = by_mode (exclusive c) refl is (λ later. owned_further c held o (owner_of held o later))
   where
-    by_test : (b : Bool) → exclusive c ≡ true → is_object o c.object ≡ b → (b || has (owned held) o) ≡ true
-        → (has (owned held) o ≡ true → OwnsIt (c ∷ held) o) → OwnsIt (c ∷ held) o
+    by_test : (b : Bool) → exclusive c ≡ true → is_object o c.object ≡ b → (b || contains_object (owned held) o) ≡ true
+        → (contains_object (owned held) o ≡ true → OwnsIt (c ∷ held) o) → OwnsIt (c ∷ held) o
     by_test true alone e is later = (c, contains_first c held, sym (same_object o c.object e), exclusive_mode c.mode alone)
     by_test false alone e is later = later is
 
-    by_mode : (b : Bool) → exclusive c ≡ b → has (cons_option (if b then Some c.object else None) (owned held)) o ≡ true
-        → (has (owned held) o ≡ true → OwnsIt (c ∷ held) o) → OwnsIt (c ∷ held) o
+    by_mode : (b : Bool) → exclusive c ≡ b → contains_object (cons_option (if b then Some c.object else None) (owned held)) o ≡ true
+        → (contains_object (owned held) o ≡ true → OwnsIt (c ∷ held) o) → OwnsIt (c ∷ held) o
     by_mode true e is later = by_test (is_object o c.object) e refl is later
     by_mode false e is later = later is
 
-owned_seen : (cs : List Claim) (o : Object) → has (owned cs) o ≡ true → has (objects cs) o ≡ true
+owned_seen : (cs : List Claim) (o : Object) → contains_object (owned cs) o ≡ true → contains_object (objects cs) o ≡ true
 owned_seen [] o is = is
 owned_seen (c ∷ cs) o is =
     kept_in_front c.object c.object o (owned cs) (objects cs) (exclusive c) true refl (λ _. refl) (owned_seen cs o) is

@@ -47,16 +47,16 @@ module _ (R : List ℕ → List ℕ → Type 0) where
 
 -- ---- how many
 -- both are so many
-abbrev AreCounted : ℕ → List ℕ → List ℕ → Type 0
-AreCounted count xs ys = (length xs ≡ count) × (length ys ≡ count)
+abbrev HaveLength : ℕ → List ℕ → List ℕ → Type 0
+HaveLength count xs ys = (length xs ≡ count) × (length ys ≡ count)
 
-after_counted : (count : ℕ) (xs ys : List ℕ) (c : Call) → AreCounted count xs ys → AreCounted count (words_after xs c) (words_after ys c)
+after_counted : (count : ℕ) (xs ys : List ℕ) (c : Call) → HaveLength count xs ys → HaveLength count (words_after xs c) (words_after ys c)
 after_counted count xs ys c h = (after_count xs c ∙ h.0, after_count ys c ∙ h.1)
 
 -- calls change no count of words
 pub behind_count : (xs : List ℕ) (calls : List Call) → length (words_behind xs calls) ≡ length xs
 behind_count xs calls =
-    (steps_related (AreCounted (length xs)) (after_counted (length xs)) (begin_words xs) (begin_words xs) calls ((refl, refl), tt)).0.0
+    (steps_related (HaveLength (length xs)) (after_counted (length xs)) (begin_words xs) (begin_words xs) calls ((refl, refl), tt)).0.0
 
 -- ---- at one place
 -- the first have this value there
@@ -90,7 +90,7 @@ behind_alike xs ys calls at n e = (steps_related (AgreeThere at) (after_agree at
 
 -- ---- replies
 -- calls reply the same from two states that agree where they speak of the words
-replied_alike : (count : ℕ) (s t : WordState) (calls : List Call) (replies : List Reply) → AreRelated (AreCounted count) s t
+replied_alike : (count : ℕ) (s t : WordState) (calls : List Call) (replies : List Reply) → AreRelated (HaveLength count) s t
     → ((at : ℕ) → at < count → list_any (speaks_of at) calls ≡ true → AreRelated (AgreeThere at) s t)
     → AreWordRepliesFrom s calls replies → AreWordRepliesFrom t calls replies
 replied_alike count s t [] replies n agree h = h
@@ -103,7 +103,7 @@ replied_alike count s t (c ∷ calls) (r ∷ replies) n agree h =
     (agree at lt (or_right (speaks_of at c) (list_any (speaks_of at) calls) is)) in (
       λ word. h.0 word ∙ reply_alike s.words t.words c (n.0.0 ∙ sym n.0.1) first,
       replied_alike count (word_step s c) (word_step t c) calls replies
-          (step_related (AreCounted count) s t c (after_counted count s.words t.words c) n) later h.1,
+          (step_related (HaveLength count) s t c (after_counted count s.words t.words c) n) later h.1,
     )
 
 -- and on words that do

@@ -29,7 +29,7 @@ use Rattle.xc_model.specs.declared.phase.Phase.TheVariants.{Running, Committing,
 use Rattle.xc_model.specs.Setting.{Setting}
 use Rattle.xc_model.specs.Progress.{words_left, progress_of}
 use Rattle.xc_model.specs.Moment.{TxView, SavedView, JobView, Doing, Idle, Active, Starved, Ended, Moment, active_in, active_of, begun_count, late_left}
-use Rattle.xc_model.specs.Moment.{rank_of, revoked, waiting, with_job}
+use Rattle.xc_model.specs.Moment.{rank_of, revoked, asked_to_wait, with_job}
 use Rattle.xc_model.specs.Movers.{asked_at, with_tx}
 use Rattle.xc_model.specs.IdleRows.{new_tx, beginning_job}
 use Rattle.xc_model.specs.PlainSteps.{claims_at, noting, wanting}
@@ -120,7 +120,7 @@ module _ (s : Setting) (at : ℕ) (old : Moment) (job : JobView) (new : Moment) 
       kept_words s old new _ (ap (λ (n : Moment). n.jobs) row.1) (ap (λ (n : Moment). n.words) row.1) (ap (λ (n : Moment). n.journal) row.1)
       (quiet_turn before old.words old.jobs at job stands h job' (idle_quiet job (ap active_in is))
       (active_quiet job' tx refl (running_is_none Running refl)) (active_speaks before job' tx refl (begun_spoken before _ _ _ _)))
-  by_idle is (turn.Busy object number) row = subst (KeepsWords s) (sym row.1) (idles (waiting job) (ap active_in is) (ap active_in is))
+  by_idle is (turn.Busy object number) row = subst (KeepsWords s) (sym row.1) (idles (asked_to_wait job) (ap active_in is) (ap active_in is))
   by_idle is turn.NoMemory row = absurd row
 
   by_starved : job.doing ≡ Starved → (answer : Turn) → StarvedTurn (mover s at old job) answer new → KeepsWords s new
@@ -220,7 +220,7 @@ module _ (s : Setting) (at : ℕ) (old : Moment) (job : JobView) (new : Moment) 
     by_running runs turn.Went row = by_ask runs (asked_at s job.place) row
     by_running runs turn.NoMemory row = want_kept (asked_at s job.place) runs row row.holds
     by_running runs (turn.Busy object holder) row =
-        let job' = waiting (with_tx job row.place tx) in
+        let job' = asked_to_wait (with_tx job row.place tx) in
         kept_words s old new _ (ap (λ (n : Moment). n.jobs) row.behind) (ap (λ (n : Moment). n.words) row.behind) (ap (λ (n : Moment). n.journal) row.behind)
         (quiet_turn before old.words old.jobs at job stands h job' (active_quiet job tx active (running_is_none tx.phase runs))
         (active_quiet job' tx refl (running_is_none tx.phase runs)) (active_speaks before job' tx refl said))

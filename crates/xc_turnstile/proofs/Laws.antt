@@ -18,4 +18,4 @@ pub use Rattle.xc_turnstile.proofs.Passes.{gains}
 -- a pass that goes on waiting
 pub use Rattle.xc_turnstile.proofs.Passes.{outside_further}
 -- one way after another
-pub use Rattle.xc_turnstile.proofs.Passes.{goes_further}
+pub use Rattle.xc_turnstile.proofs.Passes.{pass_goes_further}

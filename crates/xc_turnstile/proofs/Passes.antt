@@ -70,8 +70,8 @@ outside_further a b c p q =
 -- ---- several
 
 -- one way after another
-pub goes_further : (a b c : Known) → PassGoesOn a b → PassGoesOn b c → PassGoesOn a c
-goes_further a b c p q =
+pub pass_goes_further : (a b c : Known) → PassGoesOn a b → PassGoesOn b c → PassGoesOn a c
+pass_goes_further a b c p q =
     record {
       table = q.table ∙ p.table;
       shares = q.shares ∙ p.shares;

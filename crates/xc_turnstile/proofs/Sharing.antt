@@ -9,7 +9,7 @@ use Rattle.atomic_table.specs.Table.{State, Me, keeps, Allows, Splits, Joins, Se
 use Rattle.atomic_table.proofs.Lists.{at_set, at_snoc, at_longer, set_else, set_again}
 use Rattle.xc_data.specs.declared.entry.Entry.{Entry}
 use Rattle.xc_turnstile.specs.declared.view.View.{View}
-use Rattle.xc_turnstile.specs.Views.{BeginsWith, PlacesRise, HasPlace, kept_half, given_half, both, spent}
+use Rattle.xc_turnstile.specs.Views.{BeginsWith, PlacesRise, HasPlace, kept_half, given_half, views_met, spent}
 use Rattle.xc_model.specs.declared.origin.Origin.{Origin}
 use Rattle.xc_turnstile.specs.Meanings.{Meaning}
 use Rattle.xc_turnstile.specs.Rules.{IsTrueView, AreTrueViews, IsOpen, IsTaken, IsRuled}
@@ -58,11 +58,11 @@ one_split log from views id v c at two =
 -- and where two become one
 pub two_joined : (log : List Entry) (from : Origin) (views : List View) (id other : ℕ) (v w : View) → AreTrueViews log from views
     → get_elem? views id ≡ some v → other ≢ id → get_elem? views other ≡ some w
-    → 0 < v.shares → 0 < w.shares → AreTrueViews log from (set (set views id (both v w)) other spent)
+    → 0 < v.shares → 0 < w.shares → AreTrueViews log from (set (set views id (views_met v w)) other spent)
 two_joined log from views id other v w c at ne there pos more =
     let f = c.true_view id v at pos in
     let h = c.true_view other w there more in
-    let b = both v w in
+    let b = views_met v w in
     let at' : get_elem? (set views id b) other ≡ some w = set_else views id other b ne ∙ there in
     let look : (i : ℕ) (u : View) → get_elem? (set (set views id b) other spent) i ≡ some u
     → ((i ≡ other) × (spent ≡ u)) ⊎ (((i ≡ id) × (b ≡ u)) ⊎ ((i ≢ id) × (i ≢ other) × (get_elem? views i ≡ some u))) =
@@ -157,11 +157,11 @@ module _ {X : Type 0} (m : Meaning X) where
 
   -- a join keeps the rule
   pub may_join : (id other : ℕ) (v w : View) → v.inside ≡ false → w.inside ≡ false → 0 < v.shares → 0 < w.shares
-      → Joins (IsRuled m) id v other w (both v w) spent
+      → Joins (IsRuled m) id v other w (views_met v w) spent
   may_join id other v w out out' pos more s law at ne at' =
       let log = law.0 in
       let from = law.1 in
-      let b = both v w in
+      let b = views_met v w in
       let there : get_elem? s.views other ≡ some w = sym (set_else s.views id other b ne) ∙ at' in
       let closed : (i : ℕ) (u : View) → get_elem? (set (set s.views id b) other spent) i ≡ some u → (u.inside ≡ false) ⊎ (get_elem? s.views i ≡ some u) =
       λ i u e. ⊎_elim (λ (x : (i ≡ other) × (spent ≡ u)). inl (ap (λ (y : View). y.inside) (sym x.1)))

@@ -5,7 +5,7 @@ use Rattle.std.specs.Fn.{Mut}
 use Rattle.xc_turnstile.specs.Insides.{MayFollow}
 use Rattle.xc_turnstile.specs.Known.{Known}
 use Rattle.xc_turnstile.specs.Meanings.{Meaning}
-use Rattle.xc_turnstile.specs.Views.{BeginsWith, HasPlace, PlacesRise, added, both, entered_view, left_view, lost_view}
+use Rattle.xc_turnstile.specs.Views.{BeginsWith, HasPlace, PlacesRise, added, views_met, entered_view, left_view, lost_view}
 
 -- a call of the closure f at a `&mut` to x may leave y there, and the closure as f'
 pub record Changes {F X : Type 0} (g : Mut F (MutBor X × Unit {0}) (Unit {0} × (MutBor X × Unit {0}))) (f f' : F)
@@ -43,6 +43,6 @@ TriesOnce m by old new = LosesOnce old new ⊎ EntersOnce m by old new
 -- one pass of two, whose places are those of both, each once
 pub record MeetsBoth (a b met : Known) : Type 0 where
   pub table : met.table ≡ a.table
-  pub view : met.view ≡ both a.view b.view
+  pub view : met.view ≡ views_met a.view b.view
   pub places : (k : ℕ) → HasPlace k met.view.mine ↔ (HasPlace k a.view.mine ⊎ HasPlace k b.view.mine)
   pub once : PlacesRise 0 met.view.mine

@@ -116,8 +116,8 @@ given_half v =
     }
 
 -- two passes that were met
-abbrev pub both : View → View → View
-both v w =
+abbrev pub views_met : View → View → View
+views_met v w =
     record {
       seen = longer v.seen w.seen;
       mine = placed_all v.mine w.mine;

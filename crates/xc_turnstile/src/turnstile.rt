@@ -1,6 +1,6 @@
 ghost use Rattle.std.specs.Prelude.{◌≡◌, ℕ, ◌+◌, ◌*◌, ◌%◌, ◌^◌, ◌<◌, ◌≤◌, ◌⊎◌, ◌↔◌, [], ◌∷◌, length};
 ghost use Rattle.std.specs.Prelude.{Option, Some, None, IfOk, IfErr, IsSome};
-ghost use Rattle.xc_turnstile.specs.Views.{BeginsWith, HasPlace, PlacesRise, first_view, left_view, kept_half, given_half, both};
+ghost use Rattle.xc_turnstile.specs.Views.{BeginsWith, HasPlace, PlacesRise, first_view, left_view, kept_half, given_half, views_met};
 ghost use Rattle.xc_turnstile.specs.Enterings.{HasEntered};
 
 use crate::chronicle::Chronicle;
@@ -190,7 +190,7 @@ impl<V: Chronicle> Turnstile<V> {
         requires table { (a.table ≡ self.now.table.shared.table_id) × (b.table ≡ self.now.table.shared.table_id) }
         requires shares { a.view.shares + b.view.shares < 2 ^ 64 }
         ensures table { result.table ≡ a.table }
-        ensures view { result.view ≡ both a.view b.view }
+        ensures view { result.view ≡ views_met a.view b.view }
         ensures seen { BeginsWith a.view.seen b.view.seen ⊎ BeginsWith b.view.seen a.view.seen }
         ensures rises { PlacesRise 0 result.view.mine }
         ensures apart { (k : ℕ) → HasPlace k a.view.mine → HasPlace k b.view.mine → ⊥ }

@@ -10,6 +10,6 @@ saved_stores None stores = None
 saved_stores (Some save) stores = Some (take save.count stores)
 
 -- the save is of these stores
-abbrev pub IsSaved : Option Save → List (ℕ × ℕ) → Type 0
-IsSaved None stores = ⊤
-IsSaved (Some save) stores = (save.count ≤ length stores) × IsNewest save.newest (drop 8 (take save.count stores))
+abbrev pub IsSaveOfStores : Option Save → List (ℕ × ℕ) → Type 0
+IsSaveOfStores None stores = ⊤
+IsSaveOfStores (Some save) stores = (save.count ≤ length stores) × IsNewest save.newest (drop 8 (take save.count stores))

@@ -35,13 +35,13 @@ impl Model for WriteSet {
     ghost use Rattle.std.specs.Prelude.{drop};
     ghost use Rattle.xc_txmem.specs.Overlay.{IsNewest};
     ghost use Rattle.xc_txmem.specs.Views.{WritesView};
-    ghost use Rattle.xc_txmem.specs.Saves.{saved_stores, IsSaved};
+    ghost use Rattle.xc_txmem.specs.Saves.{saved_stores, IsSaveOfStores};
 
     ghost Value = { WritesView };
 
     ghost view = { λ w. record { stores = w.stores.items; saved = saved_stores w.saved w.stores.items } };
 
-    ghost invariant = { λ w. IsNewest w.newest (drop 8 w.stores.items) × IsSaved w.saved w.stores.items };
+    ghost invariant = { λ w. IsNewest w.newest (drop 8 w.stores.items) × IsSaveOfStores w.saved w.stores.items };
 }
 
 // What stores, the oldest first, leave at a place that had this value.

@@ -9,7 +9,7 @@ use Rattle.xc_data.specs.declared.call.CallWithAnswer.{CallWithAnswer}
 use Rattle.xc_data.specs.declared.private.Private.{Private}
 use Rattle.xc_world.specs.World.{World}
 use Rattle.xc_world.specs.Fits.{fits, is_back}
-use Rattle.xc_world.specs.Run.{BodyResult, BlockState, begins, step, goes_on, plain_fits, gone_back, back_from, marked, block_step, runs_on, opens}
+use Rattle.xc_world.specs.Run.{BodyResult, BlockState, begins, step, after_calls, plain_fits, gone_back, back_from, marked, block_step, runs_on, opens}
 use Rattle.xc_world.specs.Run.{body_state, fits_on, body_fits}
 
 -- by what a call does to the block
@@ -49,35 +49,36 @@ module _ (tx : ℕ) (Fit : BodyResult → CallWithAnswer → Type 0) where
   FitAll b (c ∷ asked) = Fit b.now c × FitAll (block_step tx b c) asked
 
   -- and one call more
-  pub each_more : (r : BodyResult) (asked : List CallWithAnswer) (c : CallWithAnswer) → FitEach r asked → Fit (goes_on tx r asked) c
+  pub each_more : (r : BodyResult) (asked : List CallWithAnswer) (c : CallWithAnswer) → FitEach r asked → Fit (after_calls tx r asked) c
       → FitEach r (asked ++ c ∷ [])
   each_more r [] c each fit = (fit, tt)
   each_more r (d ∷ asked) c each fit = (each.0, each_more (step tx r d) asked c each.1 fit)
 
 -- what a save was is led to what is now by such calls
-pub record Led (tx : ℕ) (Fit : BodyResult → CallWithAnswer → Type 0) (saved now : BodyResult) : Type 0 where
+pub record LedByCalls (tx : ℕ) (Fit : BodyResult → CallWithAnswer → Type 0) (saved now : BodyResult) : Type 0 where
   pub calls : List CallWithAnswer
   pub fit : FitEach tx Fit saved calls
-  pub led : now ≡ goes_on tx saved calls
+  pub led : now ≡ after_calls tx saved calls
 
 -- ---- what holds of a body and of its open block's save
 module _ (tx : ℕ) (Fit : BodyResult → CallWithAnswer → Type 0) (P : BodyResult → Type 0) where
-  abbrev pub Holds : Option BodyResult → BodyResult → Type 0
-  Holds None now = Unit {0}
-  Holds (Some s) now = P s × Led tx Fit s now
+  abbrev pub SavedHolds : Option BodyResult → BodyResult → Type 0
+  SavedHolds None now = Unit {0}
+  SavedHolds (Some s) now = P s × LedByCalls tx Fit s now
 
   -- P is true of what is now, and of the save of an open block, which such calls led to what is now
-  pub record State (b : BlockState) : Type 0 where
+  pub record BlockHolds (b : BlockState) : Type 0 where
     pub now : P b.now
-    pub saved : Holds b.saved b.now
+    pub saved : SavedHolds b.saved b.now
 
 -- what plain calls keep, and a way back
 pub record Kept (tx : ℕ) (Fit : BodyResult → CallWithAnswer → Type 0) (P : BodyResult → Type 0) : Type 0 where
   pub plain : (r : BodyResult) (c : CallWithAnswer) → Fit r c → P r → P (step tx r c)
-  pub back : (s : BodyResult) (calls : List CallWithAnswer) → FitEach tx Fit s calls → P s → P (goes_on tx s calls) → P (gone_back s (goes_on tx s calls))
+  pub back : (s : BodyResult) (calls : List CallWithAnswer) → FitEach tx Fit s calls → P s → P (after_calls tx s calls)
+      → P (gone_back s (after_calls tx s calls))
 
 module _ (tx : ℕ) (Fit : BodyResult → CallWithAnswer → Type 0) (P : BodyResult → Type 0) (kept : Kept tx Fit P) where
-  led_more : (s now : BodyResult) (c : CallWithAnswer) → Fit now c → Led tx Fit s now → Led tx Fit s (step tx now c)
+  led_more : (s now : BodyResult) (c : CallWithAnswer) → Fit now c → LedByCalls tx Fit s now → LedByCalls tx Fit s (step tx now c)
   led_more s now c fit l =
       record {
         calls = l.calls ++ c ∷ [];
@@ -85,36 +86,36 @@ module _ (tx : ℕ) (Fit : BodyResult → CallWithAnswer → Type 0) (P : BodyRe
         led = ap (λ r. step tx r c) l.led ∙ sym (fold_push (step tx) s l.calls c);
       }
 
-  holds_more : (saved : Option BodyResult) (now : BodyResult) (c : CallWithAnswer) → Fit now c → Holds tx Fit P saved now
-      → Holds tx Fit P saved (step tx now c)
+  holds_more : (saved : Option BodyResult) (now : BodyResult) (c : CallWithAnswer) → Fit now c → SavedHolds tx Fit P saved now
+      → SavedHolds tx Fit P saved (step tx now c)
   holds_more None now c fit so = tt
   holds_more (Some s) now c fit so = (so.0, led_more s now c fit so.1)
 
-  goes_back : (saved : Option BodyResult) (now : BodyResult) → P now → Holds tx Fit P saved now → P (back_from saved now)
+  goes_back : (saved : Option BodyResult) (now : BodyResult) → P now → SavedHolds tx Fit P saved now → P (back_from saved now)
   goes_back None now p so = p
   goes_back (Some s) now p so =
       let l = so.1 in
       subst (λ r. P (gone_back s r)) (sym l.led) (kept.back s l.calls l.fit so.0 (subst P l.led p))
 
   -- one call more keeps it
-  pub block_keeps : (b : BlockState) (c : CallWithAnswer) → Fit b.now c → State tx Fit P b → State tx Fit P (block_step tx b c)
+  pub block_keeps : (b : BlockState) (c : CallWithAnswer) → Fit b.now c → BlockHolds tx Fit P b → BlockHolds tx Fit P (block_step tx b c)
   block_keeps b c fit so =
       let next = kept.plain b.now c fit so.now in
       let more = holds_more b.saved b.now c fit so.saved in
       let r = step tx b.now c in
-      marked_by (State tx Fit P) c.call b.saved r
+      marked_by (BlockHolds tx Fit P) c.call b.saved r
       (record { now = next; saved = (next, record { calls = []; fit = tt; led = refl }) })
       (record { now = next; saved = tt })
       (record { now = goes_back b.saved r next more; saved = tt })
       (record { now = next; saved = more })
 
   -- and calls one after another
-  pub runs_keep : (b : BlockState) (asked : List CallWithAnswer) → FitAll tx Fit b asked → State tx Fit P b → State tx Fit P (runs_on tx b asked)
+  pub runs_keep : (b : BlockState) (asked : List CallWithAnswer) → FitAll tx Fit b asked → BlockHolds tx Fit P b → BlockHolds tx Fit P (runs_on tx b asked)
   runs_keep b [] fit so = so
   runs_keep b (c ∷ asked) fit so = runs_keep (block_step tx b c) asked fit.1 (block_keeps b c fit.0 so)
 
   -- so do plain calls
-  pub plain_keeps : (r : BodyResult) (asked : List CallWithAnswer) → FitEach tx Fit r asked → P r → P (goes_on tx r asked)
+  pub plain_keeps : (r : BodyResult) (asked : List CallWithAnswer) → FitEach tx Fit r asked → P r → P (after_calls tx r asked)
   plain_keeps r [] fit so = so
   plain_keeps r (c ∷ asked) fit so = plain_keeps (step tx r c) asked fit.1 (kept.plain r c fit.0 so)
 

@@ -6,14 +6,14 @@ use Rattle.xc_data.specs.declared.private.Private.{Private}
 use Rattle.xc_world.specs.World.{World}
 use Rattle.xc_world.specs.Fits.{fits}
 use Rattle.xc_world.specs.Sound.{IsSound}
-use Rattle.xc_world.specs.Run.{BodyResult, begins, step, goes_on, plain_body, plain_fits, given_back, body_state, body_fits}
+use Rattle.xc_world.specs.Run.{BodyResult, begins, step, after_calls, plain_body, plain_fits, given_back, body_state, body_fits}
 use Rattle.xc_world.specs.Joined.{behind}
 use Rattle.xc_world.specs.Ends.{with_remains}
 use Rattle.xc_world.specs.Effects.{whole}
-use Rattle.xc_world.specs.Inner.{IsBlock}
-use Rattle.xc_world.proofs.Blocks.{FitEach, Fits, Holds, fit_each, plain_keeps}
+use Rattle.xc_world.specs.Inner.{IsInnerBlock}
+use Rattle.xc_world.proofs.Blocks.{FitEach, Fits, SavedHolds, fit_each, plain_keeps}
 use Rattle.xc_world.proofs.Joined.{goes_on_behind}
-use Rattle.xc_world.proofs.Taken.{Returns, begins_returns, kept_returns, state_returns}
+use Rattle.xc_world.proofs.Taken.{ReturnsTaken, begins_returns, kept_returns, state_returns}
 
 both_true : (a b : Bool) → a ≡ true → b ≡ true → (a && b) ≡ true
 both_true true b p q = q
@@ -28,14 +28,14 @@ each_plain tx r (c ∷ asked) fit =
 
 -- an open block of a body that its answers fit
 pub open_block : (w : World) (me : Private) (tx : ℕ) (asked : List CallWithAnswer) → IsSound w me tx → IsTrue (body_fits w me tx asked)
-    → (s : BodyResult) → (body_state w me tx asked).saved ≡ Some s → IsBlock w s (body_state w me tx asked).now
+    → (s : BodyResult) → (body_state w me tx asked).saved ≡ Some s → IsInnerBlock w s (body_state w me tx asked).now
 open_block w me tx asked sound fit s e =
     let b = body_state w me tx asked in
-    let so = subst (λ o. Holds tx (Fits tx) (Returns w tx) o b.now) e (state_returns w me tx asked sound fit).saved in
+    let so = subst (λ o. SavedHolds tx (Fits tx) (ReturnsTaken w tx) o b.now) e (state_returns w me tx asked sound fit).saved in
     let l = so.1 in
     let block = plain_body s.world s.me tx l.calls in
     let is : b.now ≡ behind s block = l.led ∙ goes_on_behind tx s l.calls in
-    let returns = plain_keeps tx (Fits tx) (Returns s.world tx) (kept_returns s.world tx) (begins s.world s.me) l.calls
+    let returns = plain_keeps tx (Fits tx) (ReturnsTaken s.world tx) (kept_returns s.world tx) (begins s.world s.me) l.calls
     (fit_each tx (begins s.world s.me) l.calls (each_plain tx s l.calls l.fit)) (begins_returns s.world s.me tx so.0.sound) in
     record {
       taken = block.taken;

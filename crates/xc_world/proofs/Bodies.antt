@@ -24,7 +24,8 @@ use Rattle.xc_data.specs.declared.claim.Claim.{Claim}
 use Rattle.xc_data.specs.declared.call.CallWithAnswer.{CallWithAnswer}
 use Rattle.xc_data.specs.Claims.{objects, owned, owned_object}
 use Rattle.xc_world.specs.Modes.{mode_of, claims_of}
-use Rattle.xc_world.specs.Run.{BodyResult, BlockState, begins, taken_by, step, goes_on, plain_fits, gone_back, back_from, marked, block_step, runs_on, opens}
+use Rattle.xc_world.specs.Run.{BodyResult, BlockState, begins, taken_by, step, after_calls, plain_fits, gone_back, back_from, marked, block_step, runs_on}
+use Rattle.xc_world.specs.Run.{opens}
 use Rattle.xc_world.specs.Run.{fits_on, body, body_fits}
 use Rattle.xc_world.proofs.Blocks.{marked_by}
 use Rattle.xc_world.specs.Own.{IsNumbered, Sees, Owns, AgreeOn, KeepsBut, GaveAlike, RanAlike}
@@ -53,12 +54,12 @@ pub owned_append : (a b : List Claim) → owned (a ++ b) ≡ owned a ++ owned b
 owned_append a b = filter_map-append owned_object a b
 
 -- an object of the front claims is one of all
-pub in_front : (a b : List Claim) (o : Object) → Contains (objects a) o → Contains (objects (a ++ b)) o
-in_front a b o at = subst (λ l. Contains l o) (sym (objects_append a b)) (Contains-append_left (objects a) (objects b) o at)
+pub earlier_claims : (a b : List Claim) (o : Object) → Contains (objects a) o → Contains (objects (a ++ b)) o
+earlier_claims a b o at = subst (λ l. Contains l o) (sym (objects_append a b)) (Contains-append_left (objects a) (objects b) o at)
 
 -- an object of the later claims is one of all
-pub behind : (a b : List Claim) (o : Object) → Contains (objects b) o → Contains (objects (a ++ b)) o
-behind a b o at = subst (λ l. Contains l o) (sym (objects_append a b)) (Contains-append_right (objects a) (objects b) o at)
+pub later_claims : (a b : List Claim) (o : Object) → Contains (objects b) o → Contains (objects (a ++ b)) o
+later_claims a b o at = subst (λ l. Contains l o) (sym (objects_append a b)) (Contains-append_right (objects a) (objects b) o at)
 
 -- an owned object of the later claims is one of all
 pub owned_behind : (a b : List Claim) (o : Object) → Contains (owned b) o → Contains (owned (a ++ b)) o
@@ -71,10 +72,10 @@ owns_in_front tx a b o (inr numbered) = inr numbered
 
 -- what was touched stays touched
 pub keeps_touched : (tx : ℕ) (ran : BodyResult) (asked : List CallWithAnswer) (o : Object) → Contains (objects ran.touched) o
-    → Contains (objects (goes_on tx ran asked).touched) o
+    → Contains (objects (after_calls tx ran asked).touched) o
 keeps_touched tx ran [] o at = at
 keeps_touched tx ran (c ∷ asked) o at =
-    keeps_touched tx (step tx ran c) asked o (in_front ran.touched (claims_of c.call ran.me (length ran.world.words)) o at)
+    keeps_touched tx (step tx ran c) asked o (earlier_claims ran.touched (claims_of c.call ran.me (length ran.world.words)) o at)
 
 -- ---- one call of two bodies
 -- two bodies gave the same so far, in worlds that agree on what P tells; and from the worlds in which they began, each
@@ -87,7 +88,7 @@ pub record Alike (P : Object → Type 0) (tx : ℕ) (starts : World × World) (r
   pub right : KeepsBut (Owns tx q.touched) starts.1 q.world
 
 -- the objects of a call are among those of P
-pub record Within (P : Object → Type 0) (tx : ℕ) (r : BodyResult) (c : CallWithAnswer) : Type 0 where
+pub record CallWithin (P : Object → Type 0) (tx : ℕ) (r : BodyResult) (c : CallWithAnswer) : Type 0 where
   pub claimed : (o : Object) → Contains (objects (claims_of c.call r.me (length r.world.words))) o → P o
   pub numbered : (o : Object) → IsNumbered tx o → P o
 
@@ -95,14 +96,14 @@ module _ (P : Object → Type 0) (tx : ℕ) (r q : BodyResult) (c : CallWithAnsw
   abbrev listed : List Object
   listed = touch c.call r.me (length r.world.words) ++ made_by c.call r.me tx
 
-  listed_within : Within P tx r c → (o : Object) → Contains listed o → P o
+  listed_within : CallWithin P tx r c → (o : Object) → Contains listed o → P o
   listed_within within o at = elim (Contains-append_cases (touch c.call r.me (length r.world.words)) (made_by c.call r.me tx) o at) [
     | inl touched ↦ within.claimed o (subst (λ l. Contains l o) (sym (objects_of_claims (mode_of c.call) (touch c.call r.me (length r.world.words)))) touched)
     | inr made ↦ within.numbered o (made_numbered r.me tx c.call o made)
   ]
 
   -- worlds that agree on P agree on what the call touches and makes
-  pub call_agreed : AgreeOn P r.world q.world → Within P tx r c → All (AgreeAt r.world q.world) listed
+  pub call_agreed : AgreeOn P r.world q.world → CallWithin P tx r c → All (AgreeAt r.world q.world) listed
   call_agreed agree within = agreed P r.world q.world listed agree (listed_within within)
 
 first_part : {X : Type 0} (P : X → Type 0) (xs ys : List X) → All P (xs ++ ys) → All P xs
@@ -117,7 +118,7 @@ step_keeps tx w r c before now =
     (owns_in_front tx r.touched (claims_of c.call r.me (length r.world.words))) before) now
 
 -- two bodies stay alike over one call on objects of P
-pub step_alike : (P : Object → Type 0) (tx : ℕ) (w v : World) (r q : BodyResult) (c : CallWithAnswer) → Alike P tx (w, v) r q → Within P tx r c
+pub step_alike : (P : Object → Type 0) (tx : ℕ) (w v : World) (r q : BodyResult) (c : CallWithAnswer) → Alike P tx (w, v) r q → CallWithin P tx r c
     → Alike P tx (w, v) (step tx r c) (step tx q c)
 step_alike P tx w v r q c so within =
     let words = length r.world.words in
@@ -156,25 +157,25 @@ step_alike P tx w v r q c so within =
 -- ---- the whole
 -- the next call's objects are among those of the body
 next_within : (P : Object → Type 0) (tx : ℕ) (ran : BodyResult) (c : CallWithAnswer) (asked : List CallWithAnswer)
-    → ((o : Object) → Contains (objects (goes_on tx ran (c ∷ asked)).touched) o → P o)
-    → ((o : Object) → IsNumbered tx o → P o) → Within P tx ran c
+    → ((o : Object) → Contains (objects (after_calls tx ran (c ∷ asked)).touched) o → P o)
+    → ((o : Object) → IsNumbered tx o → P o) → CallWithin P tx ran c
 next_within P tx ran c asked touched numbered =
     record {
-      claimed = λ o at. touched o (keeps_touched tx (step tx ran c) asked o (behind ran.touched (claims_of c.call ran.me (length ran.world.words)) o at));
+      claimed = λ o at. touched o (keeps_touched tx (step tx ran c) asked o (later_claims ran.touched (claims_of c.call ran.me (length ran.world.words)) o at));
       numbered = numbered;
     }
 
 -- two bodies stay alike over calls on objects of P
 pub goes_on_alike : (P : Object → Type 0) (tx : ℕ) (w v : World) (r q : BodyResult) (asked : List CallWithAnswer) → Alike P tx (w, v) r q
-    → ((o : Object) → Contains (objects (goes_on tx r asked).touched) o → P o) → ((o : Object) → IsNumbered tx o → P o)
-    → Alike P tx (w, v) (goes_on tx r asked) (goes_on tx q asked)
+    → ((o : Object) → Contains (objects (after_calls tx r asked).touched) o → P o) → ((o : Object) → IsNumbered tx o → P o)
+    → Alike P tx (w, v) (after_calls tx r asked) (after_calls tx q asked)
 goes_on_alike P tx w v r q [] so touched numbered = so
 goes_on_alike P tx w v r q (c ∷ asked) so touched numbered =
     goes_on_alike P tx w v (step tx r c) (step tx q c) asked (step_alike P tx w v r q c so (next_within P tx r c asked touched numbered)) touched numbered
 
 -- the same answers fit the calls of both
 pub on_fits_alike : (P : Object → Type 0) (tx : ℕ) (w v : World) (r q : BodyResult) (asked : List CallWithAnswer) → Alike P tx (w, v) r q
-    → ((o : Object) → Contains (objects (goes_on tx r asked).touched) o → P o) → ((o : Object) → IsNumbered tx o → P o)
+    → ((o : Object) → Contains (objects (after_calls tx r asked).touched) o → P o) → ((o : Object) → IsNumbered tx o → P o)
     → plain_fits r.world r.me tx asked ≡ plain_fits q.world q.me tx asked
 on_fits_alike P tx w v r q [] so touched numbered = refl
 on_fits_alike P tx w v r q (c ∷ asked) so touched numbered =
@@ -241,7 +242,8 @@ module _ (P : Object → Type 0) (tx : ℕ) (starts : World × World) where
   both_marked _ s t r q so saved = record { now = so; saved = saved }
 
 -- two bodies stay alike over one call on objects of P
-pub block_step_alike : (P : Object → Type 0) (tx : ℕ) (w v : World) (b d : BlockState) (c : CallWithAnswer) → StateAlike P tx (w, v) b d → Within P tx b.now c
+pub block_step_alike : (P : Object → Type 0) (tx : ℕ) (w v : World) (b d : BlockState) (c : CallWithAnswer) → StateAlike P tx (w, v) b d
+    → CallWithin P tx b.now c
     → StateAlike P tx (w, v) (block_step tx b c) (block_step tx d c)
 block_step_alike P tx w v b d c so within =
     both_marked P tx (w, v) c.call b.saved d.saved (step tx b.now c) (step tx d.now c) (step_alike P tx w v b.now d.now c so.now within)
@@ -264,7 +266,7 @@ runs_touched tx b [] o at = at
 runs_touched tx b (c ∷ asked) o at =
     runs_touched tx (block_step tx b c) asked o
     (subst (λ l. Contains (objects l) o) (sym (marked_touched c.call b.saved (step tx b.now c)))
-    (in_front b.now.touched (claims_of c.call b.now.me (length b.now.world.words)) o at))
+    (earlier_claims b.now.touched (claims_of c.call b.now.me (length b.now.world.words)) o at))
 
 -- and what it owned
 pub runs_owned : (tx : ℕ) (b : BlockState) (asked : List CallWithAnswer) (o : Object) → Contains (owned b.now.touched) o
@@ -279,12 +281,12 @@ runs_owned tx b (c ∷ asked) o at =
 -- the next call's objects are among those of the body
 next_runs_within : (P : Object → Type 0) (tx : ℕ) (b : BlockState) (c : CallWithAnswer) (asked : List CallWithAnswer)
     → ((o : Object) → Contains (objects (runs_on tx b (c ∷ asked)).now.touched) o → P o)
-    → ((o : Object) → IsNumbered tx o → P o) → Within P tx b.now c
+    → ((o : Object) → IsNumbered tx o → P o) → CallWithin P tx b.now c
 next_runs_within P tx b c asked touched numbered =
     record {
       claimed = λ o at. touched o (runs_touched tx (block_step tx b c) asked o
           (subst (λ l. Contains (objects l) o) (sym (marked_touched c.call b.saved (step tx b.now c)))
-          (behind b.now.touched (claims_of c.call b.now.me (length b.now.world.words)) o at)));
+          (later_claims b.now.touched (claims_of c.call b.now.me (length b.now.world.words)) o at)));
       numbered = numbered;
     }
 

@@ -21,7 +21,7 @@ use Rattle.xc_world.specs.World.{World}
 use Rattle.xc_world.specs.Checks.{is_refused, is_bad_handle, is_too_big, is_too_much, is_bad_word}
 use Rattle.xc_data.specs.Calls.{bytes_of}
 use Rattle.xc_world.specs.Act.{act, fine, done}
-use Rattle.xc_world.specs.Act.Step.{Stepped, step_to, counted}
+use Rattle.xc_world.specs.Act.Step.{Stepped, step_to, bytes_counted}
 use Rattle.xc_world.specs.Touch.{touch, objects_of_call, object_at, made_by}
 use Rattle.xc_world.specs.Trail.{done_of, overwrite_record, append_record, recorded}
 use Rattle.xc_world.specs.Fits.{fits, asks_host, is_write, is_done}
@@ -72,7 +72,7 @@ none_of a b c d p q r s = ap (λ x. x || b || c || d) p ∙ ap (λ x. x || c || 
 -- what holds of each refusal, and of a call that passes, holds of what a call does
 pub act_cases : (w : World) (me : Private) (tx : ℕ) (c : Call) (a : Answer) (P : Stepped → Type 0)
     → P (step_to w me reply.BadHandle) → P (step_to w me reply.TooBig) → P (step_to w me reply.TooMuch) → P (step_to w me reply.BadWord)
-    → (is_refused c me (length w.words) ≡ false → P (counted c (done w me tx c a))) → P (act w me tx c a)
+    → (is_refused c me (length w.words) ≡ false → P (bytes_counted c (done w me tx c a))) → P (act w me tx c a)
 act_cases w me tx c a P bad_handle too_big too_much bad_word passed =
     cond_both (is_bad_handle c me) _ _ P (λ _. bad_handle) (λ p.
     cond_both (is_too_big c) _ _ P (λ _. too_big) (λ q.

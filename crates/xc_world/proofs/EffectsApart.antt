@@ -24,22 +24,22 @@ use Rattle.xc_world.proofs.Calls.{agreed, still_agree}
 use Rattle.xc_world.proofs.Records.{effect_alike, effect_only}
 
 -- ---- no object is spoken of by both
-abbrev pub AreApart : Undo → Undo → Type 0
-AreApart u q = (o : Object) → Contains (objects_of u) o → Contains (objects_of q) o → ⊥
+abbrev pub ShareNoObject : Undo → Undo → Type 0
+ShareNoObject u q = (o : Object) → Contains (objects_of u) o → Contains (objects_of q) o → ⊥
 
-unshared : (u q : Undo) → share_object u q ≡ false → AreApart u q
+unshared : (u q : Undo) → share_object u q ≡ false → ShareNoObject u q
 unshared u q apart o mine its =
     let test : Object → Bool = λ p. list_any (is_object p) (objects_of q) in
     false≢true
     (sym apart ∙ list_any_at test (objects_of u) mine.0 o mine.1 (subst (λ p. test p ≡ true) (sym mine.2) (found (objects_of q) o its)))
 
 -- what one speaks of is as before the other's effect
-untouched : (w : World) (u q : Undo) (j : ℕ) → AreApart u q → All (AgreeAt w (with_effect w q j)) (objects_of u)
+untouched : (w : World) (u q : Undo) (j : ℕ) → ShareNoObject u q → All (AgreeAt w (with_effect w q j)) (objects_of u)
 untouched w u q j apart = agreed (λ o. Contains (objects_of q) o → ⊥) w (with_effect w q j) (objects_of u) (effect_only w q j).others apart
 
 -- ---- their effects
 -- both orders agree outside the objects of the second record
-outside : (w : World) (u q : Undo) (k j : ℕ) → AreApart u q → (o : Object) → (Contains (objects_of q) o → ⊥)
+outside : (w : World) (u q : Undo) (k j : ℕ) → ShareNoObject u q → (o : Object) → (Contains (objects_of q) o → ⊥)
     → AgreeAt (with_effect (with_effect w u k) q j) (with_effect (with_effect w q j) u k) o
 outside w u q k j apart o lacks =
     let x = with_effect w u k in
@@ -48,7 +48,7 @@ outside w u q k j apart o lacks =
     (still_agree (λ p. Contains (objects_of q) p → ⊥) w y x (with_effect y u k) (objects_of u) (effect_alike w y u k (untouched w u q j apart))
     (effect_only w q j).others o lacks)
 
-in_either_order : (w : World) (u q : Undo) (k j : ℕ) → AreApart u q
+in_either_order : (w : World) (u q : Undo) (k j : ℕ) → ShareNoObject u q
     → with_effect (with_effect w u k) q j ≡ with_effect (with_effect w q j) u k
 in_either_order w u q k j apart =
     let x = with_effect w u k in
@@ -113,14 +113,14 @@ room_by v w (object.Pair num) e = λ none. sym e ∙ none
 room_by v w (object.Word at) e = tt
 room_by v w object.Jobs e = tt
 
-still_made : (w : World) (u q : Undo) (j : ℕ) → AreApart u q → IsMadeIn w u → IsMadeIn (with_effect w q j) u
+still_made : (w : World) (u q : Undo) (j : ℕ) → ShareNoObject u q → IsMadeIn w u → IsMadeIn (with_effect w q j) u
 still_made w u q j apart =
     let v = with_effect w q j in
     made_there w v u (All-weaker (AgreeAt w v) (LeavesRoom w v) (room_by w v) (objects_of u) (untouched w u q j apart))
 
 -- ---- all that stands of newer records
 abbrev pub IsBeside : Undo → List (Undo × ℕ) → Type 0
-IsBeside u rest = AllByRecursion (λ r. AreApart u r.0) rest
+IsBeside u rest = AllByRecursion (λ r. ShareNoObject u r.0) rest
 
 -- an effect goes in front of what stands of others, or after it
 pub effect_behind : (w : World) (u : Undo) (k : ℕ) (rest : List (Undo × ℕ)) → IsBeside u rest

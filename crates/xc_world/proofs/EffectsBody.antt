@@ -8,14 +8,14 @@ use Rattle.xc_world.specs.Sound.{IsFree, IsKnown, IsSound}
 use Rattle.xc_data.specs.declared.object.Num.{Num}
 use Rattle.xc_data.specs.declared.private.Place.{Place}
 use Rattle.xc_data.specs.declared.private.Place.TheVariants as place
-use Rattle.xc_world.specs.Run.{BodyResult, begins, step, goes_on, plain_fits, gone_back, opens, body, body_fits}
+use Rattle.xc_world.specs.Run.{BodyResult, begins, step, after_calls, plain_fits, gone_back, opens, body, body_fits}
 use Rattle.xc_data.specs.declared.call.CallWithAnswer.{CallWithAnswer}
 use Rattle.xc_world.proofs.Sound.{act_well, act_sound, others_sound}
 use Rattle.xc_world.proofs.Blocks.{FitEach, Fits, fit_all, runs_keep}
 
 -- ---- what is free after plain calls was free before
 known_on : (tx : ℕ) (r : BodyResult) (asked : List CallWithAnswer) → FitEach tx (Fits tx) r asked → IsSound r.world r.me tx → (p : Place) → IsKnown r.world p
-    → IsKnown (goes_on tx r asked).world p
+    → IsKnown (after_calls tx r asked).world p
 known_on tx r [] fit sound p known = known
 known_on tx r (c ∷ asked) fit sound p known =
     let well = act_well r.world r.me tx c.call c.answer fit.0 sound in
@@ -42,19 +42,20 @@ pub step_sound : (tx : ℕ) (r : BodyResult) (c : CallWithAnswer) → Fits tx r 
 step_sound tx r c fit sound = act_sound r.world r.me tx c.call c.answer fit sound
 
 -- so does a back
-pub back_sound : (tx : ℕ) (s : BodyResult) (calls : List CallWithAnswer) → FitEach tx (Fits tx) s calls → IsSoundAt tx s → IsSoundAt tx (goes_on tx s calls)
-    → IsSoundAt tx (gone_back s (goes_on tx s calls))
+pub back_sound : (tx : ℕ) (s : BodyResult) (calls : List CallWithAnswer) → FitEach tx (Fits tx) s calls → IsSoundAt tx s → IsSoundAt tx (after_calls tx s calls)
+    → IsSoundAt tx (gone_back s (after_calls tx s calls))
 back_sound tx s calls fit was is =
     record {
       world = was.world;
       made = is.made;
       stored = is.stored;
-      new = λ k le. free_before s.world (goes_on tx s calls).world (record { tx = tx; k = k }) (known_on tx s calls fit was) (is.new k le);
+      new = λ k le. free_before s.world (after_calls tx s calls).world (record { tx = tx; k = k }) (known_on tx s calls fit was) (is.new k le);
       handles = was.handles;
     }
 
 -- a sound state stays sound over calls that their answers fit
-pub goes_on-sound : (tx : ℕ) (r : BodyResult) (asked : List CallWithAnswer) → FitEach tx (Fits tx) r asked → IsSoundAt tx r → IsSoundAt tx (goes_on tx r asked)
+pub goes_on-sound : (tx : ℕ) (r : BodyResult) (asked : List CallWithAnswer) → FitEach tx (Fits tx) r asked → IsSoundAt tx r
+    → IsSoundAt tx (after_calls tx r asked)
 goes_on-sound tx r [] fit sound = sound
 goes_on-sound tx r (c ∷ asked) fit sound = goes_on-sound tx (step tx r c) asked fit.1 (step_sound tx r c fit.0 sound)
 

@@ -18,14 +18,14 @@ use Rattle.xc_data.specs.Private.{place_of, with_place, lowest_vacant}
 use Rattle.xc_world.specs.World.{World, file_of}
 use Rattle.xc_world.specs.Sound.{IsFree, IsKnown, IsSound}
 use Rattle.xc_world.specs.Act.Step.{Stepped}
-use Rattle.xc_world.specs.Act.Names.{next_num, created, renamed}
+use Rattle.xc_world.specs.Act.Names.{next_num, create_step, rename_step}
 use Rattle.xc_world.specs.Act.Files.{overwrite_at, append_at, overwrite_short, append_short}
 use Rattle.xc_world.specs.Act.Pipes.{new_pipe, pair_made, new_pair}
 use Rattle.xc_world.specs.Act.{fine, faulty, done, act}
 use Rattle.xc_world.specs.Fits.{fits, is_done}
 use Rattle.xc_world.specs.Trail.{done_of, overwrite_record, append_record, create_record, rename_record, pipe_record, pair_record, recorded}
 use Rattle.xc_world.specs.Effects.{AreMadeIn}
-use Rattle.xc_world.proofs.UndoingCalls.{Stops, done-inside}
+use Rattle.xc_world.proofs.UndoingCalls.{StopsBefore, done-inside}
 use Rattle.xc_world.proofs.UndoingBody.{refusal-none, act-cases, next_free, stops, undone-none}
 
 -- ---- one overwrite
@@ -53,7 +53,7 @@ overwrite_at-made w me h bytes (Pipe num) known = tt
 overwrite_at-made w me h bytes (Pair num side) known = tt
 
 overwrite_short-made : (w : World) (me : Private) (h : ℕ) (bytes : List ℕ) (n : ℕ) (p : Place) → IsKnown w p
-    → ((n == 0) ≡ false → Stops n bytes (overwrite_at w me h bytes p)) → MakesOverwrite w bytes p (overwrite_short w me (h, p) bytes n)
+    → ((n == 0) ≡ false → StopsBefore n bytes (overwrite_at w me h bytes p)) → MakesOverwrite w bytes p (overwrite_short w me (h, p) bytes n)
 overwrite_short-made w me h bytes n (File num at) there stops =
     cond_both (n == 0) _ _ (MakesOverwrite w bytes (File num at)) (λ none. made_none w _ (n == 0) none) (λ some.
     let before = (stops some).before in
@@ -92,7 +92,7 @@ done-room w me h bytes num at some =
     ltb-false 65536 (length (file_of w num) + length bytes) room))
 
 append_short-made : (w : World) (me : Private) (h : ℕ) (bytes : List ℕ) (n : ℕ) (p : Place) → IsKnown w p
-    → ((n == 0) ≡ false → Stops n bytes (append_at w me h bytes p)) → MakesAppend w bytes p (append_short w me (h, p) bytes n)
+    → ((n == 0) ≡ false → StopsBefore n bytes (append_at w me h bytes p)) → MakesAppend w bytes p (append_short w me (h, p) bytes n)
 append_short-made w me h bytes n (File num at) there stops =
     cond_both (n == 0) _ _ (MakesAppend w bytes (File num at)) (λ none. made_none w _ (n == 0) none) (λ some.
     let before = (stops some).before in
@@ -105,13 +105,13 @@ append_short-made w me h bytes n (Pair num side) known stops = tt
 -- ---- names, pipes and pairs
 created-made : (w : World) (me : Private) (tx : ℕ) (name : List ℕ) (o : Option Num) (vacant : Option ℕ) → finite.get w.names name ≡ o
     → IsFree w (next_num me tx)
-    → AreMadeIn w (create_record me tx name (created w me tx name (o, vacant)).reply)
+    → AreMadeIn w (create_record me tx name (create_step w me tx name (o, vacant)).reply)
 created-made w me tx name (Some num) vacant e free = tt
 created-made w me tx name None None e free = tt
 created-made w me tx name None (Some h) e free = (record { unnamed = e; absent = free.file }, tt)
 
 renamed-made : (w : World) (me : Private) (from to : List ℕ) (o there : Option Num) → finite.get w.names from ≡ o → finite.get w.names to ≡ there
-    → AreMadeIn w (rename_record from to (renamed w me from to (o, there)).reply)
+    → AreMadeIn w (rename_record from to (rename_step w me from to (o, there)).reply)
 renamed-made w me from to None there e f = tt
 renamed-made w me from to (Some num) (Some other) e f = tt
 renamed-made w me from to (Some num) None e f = (record { there = ap is_some e; vacant = f }, tt)

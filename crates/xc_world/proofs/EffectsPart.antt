@@ -132,12 +132,12 @@ effect_whole r v (NewPair num) made part =
 
 -- ---- all of them
 -- the records of these endings
-abbrev pub records_of : List Ending → List Undo
-records_of records = map (λ r. r.0) records
+abbrev pub ending_records : List Ending → List Undo
+ending_records records = map (λ r. r.0) records
 
 -- what remains of records is a part of what all of them left
-pub remains_part : (r v : World) (records : List Ending) → AreMadeIn v (records_of records) → IsPart r v
-    → IsPart (with_remains r (remains records)) (with_remains v (whole (records_of records)))
+pub remains_part : (r v : World) (records : List Ending) → AreMadeIn v (ending_records records) → IsPart r v
+    → IsPart (with_remains r (remains records)) (with_remains v (whole (ending_records records)))
 remains_part r v [] made part = part
 remains_part r v ((u, Undone faults) ∷ records) made part =
     remains_part r (with_effect v u 0) records made.1 (effect_whole r v u made.0 part)

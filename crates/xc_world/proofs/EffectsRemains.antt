@@ -19,14 +19,14 @@ use Rattle.xc_world.specs.Effects.{whole, IsMadeIn, AreMadeIn, SparesNew}
 use Rattle.xc_world.proofs.SoundParts.{keeps_file, keeps_moved, adds_named, adds_pipe, adds_pair, all_insert, free_insert, free_other}
 use Rattle.xc_world.proofs.SoundCalls.{empty_short}
 use Rattle.xc_world.proofs.EffectsLengths.{overwrite_within, overwrite_length, append_within, append_length}
-use Rattle.xc_world.proofs.EffectsPart.{IsPart, effect_both, effect_whole, records_of, remains_part, itself_part}
+use Rattle.xc_world.proofs.EffectsPart.{IsPart, effect_both, effect_whole, ending_records, remains_part, itself_part}
 
 -- ---- the world that all the records left
 -- its files are within their limit
-abbrev pub AreWithin : World → Type 0
-AreWithin v = (q : Num) → length (file_of v q) ≤ 65536
+abbrev pub FilesAreWithin : World → Type 0
+FilesAreWithin v = (q : Num) → length (file_of v q) ≤ 65536
 
-effect_limit : (v : World) (u : Undo) → IsMadeIn v u → AreWithin v → AreWithin (with_effect v u 0)
+effect_limit : (v : World) (u : Undo) → IsMadeIn v u → FilesAreWithin v → FilesAreWithin (with_effect v u 0)
 effect_limit v (Bytes file at before after n) made within q =
     let size = overwrite_length at n after (file_of v file) made.inside made.within in
     let most = within file in
@@ -102,7 +102,7 @@ fit_moved : (w : World) (from to : List ℕ) (o : Option Num) → finite.get w.n
 fit_moved w from to None e fit = record { fit = fit; known = λ p known. known }
 fit_moved w from to (Some num) e fit = let keeps = keeps_moved true w from to num e fit in record { fit = keeps.fit; known = keeps.known }
 
-effect_fit : (r v : World) (u : Undo) (k : ℕ) → IsMadeIn v u → IsPart r v → AreWithin v
+effect_fit : (r v : World) (u : Undo) (k : ℕ) → IsMadeIn v u → IsPart r v → FilesAreWithin v
     → IsFit r → StaysFit r (with_effect r u k)
 effect_fit r v (Bytes file at before after n) k made part limit fit =
     let size = part.size file in
@@ -128,7 +128,7 @@ goes_on_fit : (w r s : World) → StaysFit w r → StaysFit r s → StaysFit w s
 goes_on_fit w r s first next = record { fit = next.fit; known = λ p known. next.known p (first.known p known) }
 
 -- from a part of the world that they were made in
-all_fit : (w r v : World) (records : List Ending) → AreMadeIn v (records_of records) → IsPart r v → AreWithin v → StaysFit w r
+all_fit : (w r v : World) (records : List Ending) → AreMadeIn v (ending_records records) → IsPart r v → FilesAreWithin v → StaysFit w r
     → StaysFit w (with_remains r (remains records))
 all_fit w r v [] made part within stays = stays
 all_fit w r v ((u, Undone faults) ∷ records) made part within stays =
@@ -142,7 +142,7 @@ all_fit w r v ((u, Blocked by) ∷ records) made part within stays =
     (goes_on_fit w r (with_effect r u 0) stays (effect_fit r v u 0 made.0 part within stays.fit))
 
 -- what remains of records that were made leaves a fit world fit, and what was there
-pub remains-fit : (w : World) (records : List Ending) → AreMadeIn w (records_of records) → IsFit w → StaysFit w (with_remains w (remains records))
+pub remains-fit : (w : World) (records : List Ending) → AreMadeIn w (ending_records records) → IsFit w → StaysFit w (with_remains w (remains records))
 remains-fit w records made fit = all_fit w w w records made (itself_part w) fit.files (record { fit = fit; known = λ p known. known })
 
 -- where none of them makes an object that a private state is still to make, that stays sound
@@ -157,7 +157,7 @@ remains-sound w me tx records made spares sound =
       stored = sound.stored;
       new = λ k low.
           let q : Num = record { tx = tx; k = k } in
-          let free = all_free me tx k w (records_of records) low made spares (sound.new k low) in
+          let free = all_free me tx k w (ending_records records) low made spares (sound.new k low) in
           record { file = part.files q free.file; pipe = part.pipes q free.pipe; pair = part.pairs q free.pair };
       handles = λ h. stays.known (place_of me.places h) (sound.handles h);
     }

@@ -27,7 +27,7 @@ use Rattle.xc_world.specs.Act.Files.{overwritten}
 use Rattle.xc_world.specs.Act.Pipes.{read_pipe_at, received, receive_at}
 use Rattle.xc_world.specs.Act.{done, act}
 use Rattle.xc_world.specs.Fits.{fits}
-use Rattle.xc_world.specs.Run.{BodyResult, step, goes_on, gone_back, opens, body, body_fits}
+use Rattle.xc_world.specs.Run.{BodyResult, step, after_calls, gone_back, opens, body, body_fits}
 use Rattle.xc_world.specs.Trail.{move_name, recorded, with_effect}
 use Rattle.xc_world.specs.Ends.{with_remains}
 use Rattle.xc_world.specs.Effects.{whole, takes_data, AreMadeIn}
@@ -41,16 +41,16 @@ use Rattle.xc_world.proofs.EffectsMade.{act-made}
 
 -- ---- a world after a call, and what its records alone leave
 -- the same names and files, and no pipe or pair more
-pub record HasRoom (v w : World) : Type 0 where
+pub record HasNoNewPipes (v w : World) : Type 0 where
   pub names : v.names ≡ w.names
   pub files : v.files ≡ w.files
   pub pipes : (q : Num) → finite.get v.pipes q ≡ None → finite.get w.pipes q ≡ None
   pub pairs : (q : Num) → finite.get v.pairs q ≡ None → finite.get w.pairs q ≡ None
 
-room_itself : (w : World) → HasRoom w w
+room_itself : (w : World) → HasNoNewPipes w w
 room_itself w = record { names = refl; files = refl; pipes = λ q none. none; pairs = λ q none. none }
 
-room_at : (v w : World) → HasRoom v w → (o : Object) → LeavesRoom v w o
+room_at : (v w : World) → HasNoNewPipes v w → (o : Object) → LeavesRoom v w o
 room_at v w room (object.Name name) = ap (λ (m : finite.FinMap name_cmp Num). finite.get m name) room.names
 room_at v w room (object.File num) = ap (λ (m : finite.FinMap num_cmp (List ℕ)). finite.get m num) room.files
 room_at v w room (object.Pipe num) = room.pipes num
@@ -60,7 +60,7 @@ room_at v w room object.Jobs = tt
 
 -- ---- what is taken
 abbrev pub LeavesIts : World → Stepped → Type 0
-LeavesIts w s = HasRoom s.world w
+LeavesIts w s = HasNoNewPipes s.world w
 
 read_pipe_at-room : (w : World) (me : Private) (n : ℕ) (p : Place) → LeavesIts w (read_pipe_at w me n p)
 read_pipe_at-room w me n (Pipe num) =
@@ -99,7 +99,7 @@ recvmsg-room w me tx h (answer.Undone n) = room_itself w
 
 -- ---- every call
 abbrev pub LeavesRecorded : World → Private → ℕ → Call → Stepped → Type 0
-LeavesRecorded w me tx c s = HasRoom s.world (with_remains w (whole (recorded w me tx c s.reply)))
+LeavesRecorded w me tx c s = HasNoNewPipes s.world (with_remains w (whole (recorded w me tx c s.reply)))
 
 -- what takes no data leaves just what is recorded
 led-room : (w : World) (me : Private) (tx : ℕ) (c : Call) (a : Answer) → takes_data c ≡ false → LeavesRecorded w me tx c (act w me tx c a)
@@ -142,7 +142,7 @@ act-room w me tx call.Keep a = led-room w me tx call.Keep a refl
 act-room w me tx call.Back a = led-room w me tx call.Back a refl
 
 -- ---- all calls of a body
-moved-room : (v w : World) (from to : List ℕ) (o : Option Num) → HasRoom v w → HasRoom (move_name v from to o) (move_name w from to o)
+moved-room : (v w : World) (from to : List ℕ) (o : Option Num) → HasNoNewPipes v w → HasNoNewPipes (move_name v from to o) (move_name w from to o)
 moved-room v w from to None room = room
 moved-room v w from to (Some num) room =
     record {
@@ -156,7 +156,7 @@ moved-room v w from to (Some num) room =
 abbrev changed_in : finite.FinMap num_cmp (List ℕ) → Num → (List ℕ → List ℕ) → finite.FinMap num_cmp (List ℕ)
 changed_in files file change = finite.insert files file (change (unwrap_or (finite.get files file) []))
 
-effect-room : (v w : World) (u : Undo) → HasRoom v w → HasRoom (with_effect v u 0) (with_effect w u 0)
+effect-room : (v w : World) (u : Undo) → HasNoNewPipes v w → HasNoNewPipes (with_effect v u 0) (with_effect w u 0)
 effect-room v w (Bytes file at before after n) room =
     record {
       names = room.names;
@@ -179,7 +179,7 @@ effect-room v w (Made name num) room =
       pairs = room.pairs;
     }
 effect-room v w (Moved from to) room =
-    subst (λ o. HasRoom (move_name v from to (finite.get v.names from)) (move_name w from to o)) (room_at v w room (object.Name from))
+    subst (λ o. HasNoNewPipes (move_name v from to (finite.get v.names from)) (move_name w from to o)) (room_at v w room (object.Name from))
     (moved-room v w from to (finite.get v.names from) room)
 effect-room v w (NewPipe num) room =
     record {
@@ -196,7 +196,7 @@ effect-room v w (NewPair num) room =
       pairs = λ q. absent_both w.pairs v.pairs num q empty_pair empty_pair (room.pairs q);
     }
 
-made-in : (v w : World) (us : List Undo) → HasRoom v w → AreMadeIn v us → AreMadeIn w us
+made-in : (v w : World) (us : List Undo) → HasNoNewPipes v w → AreMadeIn v us → AreMadeIn w us
 made-in v w [] room made = tt
 made-in v w (u ∷ us) room made = (
   made_there v w u
@@ -204,7 +204,7 @@ made-in v w (u ∷ us) room made = (
   made-in (with_effect v u 0) (with_effect w u 0) us (effect-room v w u room) made.1,
 )
 
-room_through : (u v w : World) → HasRoom u v → HasRoom v w → HasRoom u w
+room_through : (u v w : World) → HasNoNewPipes u v → HasNoNewPipes v w → HasNoNewPipes u w
 room_through u v w first later =
     record {
       names = first.names ∙ later.names;
@@ -213,14 +213,14 @@ room_through u v w first later =
       pairs = λ q none. later.pairs q (first.pairs q none);
     }
 
-remains-room : (v w : World) (us : List Undo) → HasRoom v w → HasRoom (with_remains v (whole us)) (with_remains w (whole us))
+remains-room : (v w : World) (us : List Undo) → HasNoNewPipes v w → HasNoNewPipes (with_remains v (whole us)) (with_remains w (whole us))
 remains-room v w [] room = room
 remains-room v w (u ∷ us) room = remains-room (with_effect v u 0) (with_effect w u 0) us (effect-room v w u room)
 
 -- the records of a body were made one after another, and its world has the names and files that they leave
 pub record Traces (w : World) (tx : ℕ) (r : BodyResult) : Type 0 where
   pub sound : IsSound r.world r.me tx
-  pub room : HasRoom r.world (with_remains w (whole r.trail))
+  pub room : HasNoNewPipes r.world (with_remains w (whole r.trail))
   pub made : AreMadeIn w r.trail
 
 step_traces : (w : World) (tx : ℕ) (r : BodyResult) (c : CallWithAnswer) → Fits tx r c → Traces w tx r → Traces w tx (step tx r c)
@@ -230,14 +230,14 @@ step_traces w tx r c fit so =
     let led = with_remains w (whole r.trail) in
     record {
       sound = step_sound tx r c fit so.sound;
-      room = subst (HasRoom s.world) (sym (ap (with_remains w) (whole-append r.trail us) ∙ remains-append w (whole r.trail) (whole us)))
+      room = subst (HasNoNewPipes s.world) (sym (ap (with_remains w) (whole-append r.trail us) ∙ remains-append w (whole r.trail) (whole us)))
           (room_through s.world (with_remains r.world (whole us)) (with_remains led (whole us)) (act-room r.world r.me tx c.call c.answer)
           (remains-room r.world led us so.room));
       made = made-append w r.trail us so.made (made-in r.world led us so.room (act-made r.world r.me tx c.call c.answer so.sound fit));
     }
 
 back_traces : (w : World) (tx : ℕ) (s : BodyResult) (calls : List CallWithAnswer) → FitEach tx (Fits tx) s calls → Traces w tx s
-    → Traces w tx (goes_on tx s calls) → Traces w tx (gone_back s (goes_on tx s calls))
+    → Traces w tx (after_calls tx s calls) → Traces w tx (gone_back s (after_calls tx s calls))
 back_traces w tx s calls fit was is = record { sound = back_sound tx s calls fit was.sound is.sound; room = was.room; made = was.made }
 
 -- each record of a body was made in the world that the ones before it left

@@ -15,14 +15,14 @@ use Rattle.xc_data.specs.declared.undo.UndoEnd.{UndoEnd}
 use Rattle.xc_data.specs.declared.undo.UndoEnd.TheVariants.{Undone, Failed, Blocked}
 use Rattle.xc_data.specs.Remaining.{stopped_at}
 use Rattle.xc_maps.proofs.Laws.{alike, get-insert_same, get-insert_other, insert-insert_same, insert-get_same, insert-remove_same, num_total, num_exact}
-use Rattle.xc_maps.proofs.Laws.{undone as removed_again}
+use Rattle.xc_maps.proofs.Laws.{insert_undone as removed_again}
 use Rattle.xc_world.specs.World.{World, file_of, with_file, empty_pipe, empty_pair}
 use Rattle.xc_world.specs.Act.Files.{overwritten}
 use Rattle.xc_world.specs.Trail.{move_name, with_effect, undone}
 use Rattle.xc_world.specs.Ends.{Ending, blocker, IsLegalEnd, RestoredFits, remains, with_remains}
 use Rattle.xc_world.specs.Effects.{whole, IsMadeIn, AreMadeIn, IsCovered, restored, undone_to}
 use Rattle.xc_world.proofs.SoundParts.{there_put}
-use Rattle.xc_world.proofs.UndoingParts.{restored as back_again, swapped, there_by}
+use Rattle.xc_world.proofs.UndoingParts.{bytes_restored as back_again, swapped, there_by}
 use Rattle.xc_world.proofs.UndoingCalls.{none-removed}
 use Rattle.xc_world.proofs.EffectsParts.{whole-remains, remains-append, made-behind}
 use Rattle.xc_world.proofs.EffectsCalls.{at_start}

@@ -25,8 +25,8 @@ abbrev first_num : Num
 first_num = record { tx = 0; k = 0 }
 
 -- a world of one word and two blocks
-abbrev small : World
-small =
+abbrev one_word_world : World
+one_word_world =
     record {
       words = 7 ∷ [];
       names = map.empty;
@@ -39,17 +39,17 @@ small =
 
 -- with a file that has a name
 abbrev with_hello : World
-with_hello = record small { names = map.insert map.empty (codes "a") first_num; files = map.insert map.empty first_num (codes "hello") }
+with_hello = record one_word_world { names = map.insert map.empty (codes "a") first_num; files = map.insert map.empty first_num (codes "hello") }
 
 abbrev with_pipe_of : Pipe → World
-with_pipe_of pipe = record small { pipes = map.insert map.empty first_num pipe }
+with_pipe_of pipe = record one_word_world { pipes = map.insert map.empty first_num pipe }
 
 abbrev with_pair_of : Pair → World
-with_pair_of pair = record small { pairs = map.insert map.empty first_num pair }
+with_pair_of pair = record one_word_world { pairs = map.insert map.empty first_num pair }
 
 -- one handle, and another vacant place
-abbrev holding : Place → Private
-holding p = record { places = p ∷ place.Vacant ∷ []; made = 0; stored = 0 }
+abbrev one_handle : Place → Private
+one_handle p = record { places = p ∷ place.Vacant ∷ []; made = 0; stored = 0 }
 
 hello_there : map.get (map.insert {R = num_cmp} map.empty first_num (codes "hello")) first_num ≡ Some (codes "hello")
 hello_there = get-insert_same num_total num_exact map.empty first_num (codes "hello")
@@ -65,36 +65,36 @@ pair_there pair = get-insert_same num_total num_exact map.empty first_num pair
 
 -- an overwrite from the second byte on, and its two bytes are stored
 pub overwrites_the_middle :
-    act with_hello (holding (place.File first_num 1)) 1 (call.XWriteOvr 0 (codes "EL")) answer.Fine
-    ≡ step_to (with_file with_hello first_num (codes "hELlo")) (record (holding (place.File first_num 3)) { stored = 2 }) reply.Done
+    act with_hello (one_handle (place.File first_num 1)) 1 (call.XWriteOvr 0 (codes "EL")) answer.Fine
+    ≡ step_to (with_file with_hello first_num (codes "hELlo")) (record (one_handle (place.File first_num 3)) { stored = 2 }) reply.Done
 overwrites_the_middle = rw hello_there refl
 
 -- an overwrite that fails after one byte did that byte
 pub overwrites_one_byte :
-    act with_hello (holding (place.File first_num 1)) 1 (call.XWriteOvr 0 (codes "EL")) (answer.Fault 1)
-    ≡ step_to (with_file with_hello first_num (codes "hEllo")) (record (holding (place.File first_num 2)) { stored = 2 }) (reply.Fault 1)
+    act with_hello (one_handle (place.File first_num 1)) 1 (call.XWriteOvr 0 (codes "EL")) (answer.Fault 1)
+    ≡ step_to (with_file with_hello first_num (codes "hEllo")) (record (one_handle (place.File first_num 2)) { stored = 2 }) (reply.Fault 1)
 overwrites_one_byte = rw hello_there refl
 
 -- an overwrite past the end changes nothing
 pub overwrites_nothing_past_the_end :
-    act with_hello (holding (place.File first_num 4)) 1 (call.XWriteOvr 0 (codes "EL")) answer.Fine
-    ≡ step_to with_hello (record (holding (place.File first_num 4)) { stored = 2 }) reply.PastEnd
+    act with_hello (one_handle (place.File first_num 4)) 1 (call.XWriteOvr 0 (codes "EL")) answer.Fine
+    ≡ step_to with_hello (record (one_handle (place.File first_num 4)) { stored = 2 }) reply.PastEnd
 overwrites_nothing_past_the_end = rw hello_there refl
 
 -- an append from the middle moves the position to the new end
 pub appends_behind_the_end :
-    act with_hello (holding (place.File first_num 1)) 1 (call.XWriteSeq 0 (codes "!")) answer.Fine
-    ≡ step_to (with_file with_hello first_num (codes "hello!")) (record (holding (place.File first_num 6)) { stored = 1 }) reply.Done
+    act with_hello (one_handle (place.File first_num 1)) 1 (call.XWriteSeq 0 (codes "!")) answer.Fine
+    ≡ step_to (with_file with_hello first_num (codes "hello!")) (record (one_handle (place.File first_num 6)) { stored = 1 }) reply.Done
 appends_behind_the_end = rw hello_there refl
 
 -- a read at the end
 pub reads_the_end :
-    act with_hello (holding (place.File first_num 5)) 1 (call.XRead 0 9) answer.Fine ≡ step_to with_hello (holding (place.File first_num 5)) reply.End
+    act with_hello (one_handle (place.File first_num 5)) 1 (call.XRead 0 9) answer.Fine ≡ step_to with_hello (one_handle (place.File first_num 5)) reply.End
 reads_the_end = rw hello_there refl
 
 -- a rename of a name onto itself
 pub renames_onto_itself :
-    act with_hello (holding place.Vacant) 1 (call.XRename (codes "a") (codes "a")) answer.Fine ≡ step_to with_hello (holding place.Vacant) reply.Exists
+    act with_hello (one_handle place.Vacant) 1 (call.XRename (codes "a") (codes "a")) answer.Fine ≡ step_to with_hello (one_handle place.Vacant) reply.Exists
 renames_onto_itself = rw name_there refl
 
 -- an unlink takes the name and leaves the file
@@ -123,5 +123,5 @@ pub sends_to_the_other_side :
 sends_to_the_other_side = rw (pair_there (record { first = []; second = []; shut = false })) refl
 
 -- a block that the script doesn't have
-pub starts_no_stranger : late small (late_call.Thread (codes "none")) late_answer.Fine ≡ ends small end.NoScript
+pub starts_no_stranger : late one_word_world (late_call.Thread (codes "none")) late_answer.Fine ≡ ends one_word_world end.NoScript
 starts_no_stranger = refl

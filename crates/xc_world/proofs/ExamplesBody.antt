@@ -32,8 +32,9 @@ abbrev waits : Pair
 waits = record { first = []; second = codes "m" ∷ []; shut = false }
 
 -- a pair with a message for side 1, and nothing else
-abbrev small : World
-small = record { words = 7 ∷ []; names = map.empty; files = map.empty; pipes = map.empty; pairs = map.insert map.empty first waits; started = []; blocks = [] }
+abbrev one_message_world : World
+one_message_world =
+    record { words = 7 ∷ []; names = map.empty; files = map.empty; pipes = map.empty; pairs = map.insert map.empty first waits; started = []; blocks = [] }
 
 abbrev me : Private
 me = record { places = place.Pair first 1 ∷ place.Vacant ∷ []; made = 0; stored = 0 }
@@ -44,10 +45,10 @@ calls =
     ∷ record { call = call.XRename (codes "a") (codes "b"); answer = answer.Fine } ∷ record { call = call.XRecvmsg 0; answer = answer.Fine } ∷ []
 
 -- what the maps hold where they are asked
-abbrev no_names : map.FinMap name_cmp Num
-no_names = map.empty
+abbrev empty_names : map.FinMap name_cmp Num
+empty_names = map.empty
 
-no_name : (name : List ℕ) → map.get no_names name ≡ None
+no_name : (name : List ℕ) → map.get empty_names name ≡ None
 no_name name = map.get-empty name_cmp name
 
 pair_there : map.get (map.insert {R = num_cmp} map.empty first waits) first ≡ Some waits
@@ -66,25 +67,26 @@ none_there : map.get (map.insert {R = name_cmp} map.empty (codes "a") new) (code
 none_there = get-insert_other nat_list_cmp_total exact_bytes map.empty (codes "a") (codes "b") new other_name ∙ no_name (codes "b")
 
 -- each call's reply
-pub replies_of_four_calls : (body small me 1 calls).replies ≡ reply.Made 1 ∷ reply.Done ∷ reply.Done ∷ reply.Got (codes "m") ∷ []
+pub replies_of_four_calls : (body one_message_world me 1 calls).replies ≡ reply.Made 1 ∷ reply.Done ∷ reply.Done ∷ reply.Got (codes "m") ∷ []
 replies_of_four_calls = rw (no_name (codes "a"), file_there, name_there, none_there, pair_there) refl
 
 -- three records
-pub trail_of_four_calls : (body small me 1 calls).trail ≡ undo.Made (codes "a") new ∷ undo.Tail new 0 (codes "hi") 2 ∷ undo.Moved (codes "a") (codes "b") ∷ []
+pub trail_of_four_calls : (body one_message_world me 1 calls).trail
+    ≡ undo.Made (codes "a") new ∷ undo.Tail new 0 (codes "hi") 2 ∷ undo.Moved (codes "a") (codes "b") ∷ []
 trail_of_four_calls = rw (no_name (codes "a"), file_there, name_there, none_there) refl
 
 -- the message
-pub taken_of_four_calls : (body small me 1 calls).taken ≡ Message first 1 (codes "m") ∷ []
+pub taken_of_four_calls : (body one_message_world me 1 calls).taken ≡ Message first 1 (codes "m") ∷ []
 taken_of_four_calls = rw (no_name (codes "a"), file_there, name_there, none_there, pair_there) refl
 
 -- each object in the order of the calls
-pub touched_of_four_calls : (body small me 1 calls).touched
+pub touched_of_four_calls : (body one_message_world me 1 calls).touched
     ≡ claim Exclusive (object.Name (codes "a")) ∷ claim Exclusive (object.File new)
     ∷ claim Exclusive (object.Name (codes "a")) ∷ claim Exclusive (object.Name (codes "b")) ∷ claim Exclusive (object.Pair first) ∷ []
 touched_of_four_calls = rw (no_name (codes "a"), file_there, name_there, none_there) refl
 
 -- the name is held once
-pub held_of_four_calls : held_of (body small me 1 calls).touched
+pub held_of_four_calls : held_of (body one_message_world me 1 calls).touched
     ≡ claim Exclusive (object.Name (codes "a")) ∷ claim Exclusive (object.File new)
     ∷ claim Exclusive (object.Name (codes "b")) ∷ claim Exclusive (object.Pair first) ∷ []
 held_of_four_calls = ap held_of touched_of_four_calls

@@ -148,18 +148,18 @@ jobs_have_none (Bytes num bytes) same = cc same
 jobs_have_none (Message num side bytes) same = cc same
 
 -- one such object alone
-pub one : (o : Object) → HasNoData o → All HasNoData (o ∷ [])
-one o none = All-cons HasNoData o [] none (All-nil HasNoData)
+pub one_object : (o : Object) → HasNoData o → All HasNoData (o ∷ [])
+one_object o none = All-cons HasNoData o [] none (All-nil HasNoData)
 
 at_file : (p : Place) → not (is_file p) ≡ false → All HasNoData (object_at p)
-at_file (place.File num at) is = one (object.File num) (file_has_none num)
+at_file (place.File num at) is = one_object (object.File num) (file_has_none num)
 at_file place.Vacant is = cc is
 at_file (place.Pipe num) is = cc is
 at_file (place.Pair num side) is = cc is
 
 both_names : (b : Bool) (from to : List ℕ) → All HasNoData (if b then object.Name from ∷ [] else object.Name from ∷ object.Name to ∷ [])
-both_names true from to = one (object.Name from) (name_has_none from)
-both_names false from to = All-cons HasNoData (object.Name from) (object.Name to ∷ []) (name_has_none from) (one (object.Name to) (name_has_none to))
+both_names true from to = one_object (object.Name from) (name_has_none from)
+both_names false from to = All-cons HasNoData (object.Name from) (object.Name to ∷ []) (name_has_none from) (one_object (object.Name to) (name_has_none to))
 
 unless : (b : Bool) (objects : List Object) → (b ≡ false → All HasNoData objects) → All HasNoData (if b then [] else objects)
 unless true objects none = All-nil HasNoData
@@ -182,10 +182,10 @@ module _ (me : Private) (words : ℕ) where
       (first_false (is_bad_handle c me || is_too_big c || is_too_much c me) (is_bad_word c words) passed)))))
 
   touches_no_data : (c : Call) → is_on_data c ≡ false → All HasNoData (touch c me words)
-  touches_no_data (call.Load at) is = touched_by (call.Load at) (one (object.Word at) (word_has_none at))
-  touches_no_data (call.Store at value) is = touched_by (call.Store at value) (one (object.Word at) (word_has_none at))
-  touches_no_data (call.XOpen name) is = touched_by (call.XOpen name) (one (object.Name name) (name_has_none name))
-  touches_no_data (call.XCreate name) is = touched_by (call.XCreate name) (one (object.Name name) (name_has_none name))
+  touches_no_data (call.Load at) is = touched_by (call.Load at) (one_object (object.Word at) (word_has_none at))
+  touches_no_data (call.Store at value) is = touched_by (call.Store at value) (one_object (object.Word at) (word_has_none at))
+  touches_no_data (call.XOpen name) is = touched_by (call.XOpen name) (one_object (object.Name name) (name_has_none name))
+  touches_no_data (call.XCreate name) is = touched_by (call.XCreate name) (one_object (object.Name name) (name_has_none name))
   touches_no_data (call.XRead h n) is = touched_file (call.XRead h n) h refl refl
   touches_no_data (call.XWriteOvr h bytes) is = touched_file (call.XWriteOvr h bytes) h refl refl
   touches_no_data (call.XWriteSeq h bytes) is = touched_file (call.XWriteSeq h bytes) h refl refl
@@ -193,9 +193,9 @@ module _ (me : Private) (words : ℕ) where
   touches_no_data (call.XLen h) is = touched_file (call.XLen h) h refl refl
   touches_no_data (call.XRename from to) is = touched_by (call.XRename from to) (both_names (pointwise nat_eq from to) from to)
   touches_no_data (call.XClose h) is = touched_by (call.XClose h) (All-nil HasNoData)
-  touches_no_data (call.XUnlink name slot) is = touched_by (call.XUnlink name slot) (one (object.Name name) (name_has_none name))
+  touches_no_data (call.XUnlink name slot) is = touched_by (call.XUnlink name slot) (one_object (object.Name name) (name_has_none name))
   touches_no_data (call.XSync h slot) is = touched_file (call.XSync h slot) h refl refl
-  touches_no_data (call.XThreadCreate body slot) is = touched_by (call.XThreadCreate body slot) (one object.Jobs jobs_have_none)
+  touches_no_data (call.XThreadCreate body slot) is = touched_by (call.XThreadCreate body slot) (one_object object.Jobs jobs_have_none)
   touches_no_data call.Save is = touched_by call.Save (All-nil HasNoData)
   touches_no_data call.Keep is = touched_by call.Keep (All-nil HasNoData)
   touches_no_data call.Back is = touched_by call.Back (All-nil HasNoData)
@@ -208,7 +208,7 @@ module _ (me : Private) (words : ℕ) where
   touches_no_data (call.XSendmsg h bytes slot) is = cc is
 
   makes_no_data : (tx : ℕ) (c : Call) → is_on_data c ≡ false → All HasNoData (made_by c me tx)
-  makes_no_data tx (call.XCreate name) is = one (object.File (next_num me tx)) (file_has_none (next_num me tx))
+  makes_no_data tx (call.XCreate name) is = one_object (object.File (next_num me tx)) (file_has_none (next_num me tx))
   makes_no_data tx call.XPipe is = cc is
   makes_no_data tx call.XPair is = cc is
   makes_no_data tx (call.XReadPipe h n) is = cc is

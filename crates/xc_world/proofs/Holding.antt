@@ -17,8 +17,8 @@ use Rattle.xc_data.proofs.Laws.{same_object}
 use Rattle.xc_world.proofs.Bodies.{objects_append, owned_append}
 
 -- whether an object is in a list
-abbrev pub has : List Object → Object → Bool
-has os o = list_any (is_object o) os
+abbrev pub contains_object : List Object → Object → Bool
+contains_object os o = list_any (is_object o) os
 
 -- ---- tests
 or_assoc : (a b c : Bool) → ((a || b) || c) ≡ (a || (b || c))
@@ -48,10 +48,12 @@ and_false true = refl
 and_false false = refl
 
 -- ---- one claim in front
-has_owned_cons : (c : Claim) (cs : List Claim) (o : Object) → has (owned (c ∷ cs)) o ≡ ((exclusive c && is_object o c.object) || has (owned cs) o)
+has_owned_cons : (c : Claim) (cs : List Claim) (o : Object)
+    → contains_object (owned (c ∷ cs)) o ≡ ((exclusive c && is_object o c.object) || contains_object (owned cs) o)
 has_owned_cons c cs o = by_test (exclusive c)
   where
-    by_test : (b : Bool) → has (cons_option (if b then Some c.object else None) (owned cs)) o ≡ ((b && is_object o c.object) || has (owned cs) o)
+    by_test : (b : Bool)
+        → contains_object (cons_option (if b then Some c.object else None) (owned cs)) o ≡ ((b && is_object o c.object) || contains_object (owned cs) o)
     by_test true = refl
     by_test false = refl
 
@@ -87,62 +89,68 @@ merged_owns new h o = by_test (is_object new.object h.object) refl
         ∙ or_none (exclusive h && is_object o h.object))
 
 owned_merged : (new : Claim) (held : List Claim) (o : Object)
-    → has (owned (map (merged new) held)) o ≡ (has (owned held) o || ((exclusive new && is_object o new.object) && has (objects held) new.object))
+    → contains_object (owned (map (merged new) held)) o
+    ≡ (contains_object (owned held) o || ((exclusive new && is_object o new.object) && contains_object (objects held) new.object))
 owned_merged new [] o = sym (and_false (exclusive new && is_object o new.object))
 owned_merged new (h ∷ held) o =
     let b = exclusive new && is_object o new.object in
     let p = exclusive h && is_object o h.object in
     has_owned_cons (merged new h) (map (merged new) held) o
     ∙ ap₂ (λ x y. x || y) (merged_owns new h o) (owned_merged new held o)
-    ∙ or_swap p (b && is_object new.object h.object) (has (owned held) o) (b && has (objects held) new.object)
-    ∙ ap₂ (λ x y. x || y) (sym (has_owned_cons h held o)) (and_or b (is_object new.object h.object) (has (objects held) new.object))
+    ∙ or_swap p (b && is_object new.object h.object) (contains_object (owned held) o) (b && contains_object (objects held) new.object)
+    ∙ ap₂ (λ x y. x || y) (sym (has_owned_cons h held o)) (and_or b (is_object new.object h.object) (contains_object (objects held) new.object))
 
 -- ---- one claim more
-seen_one : (held : List Claim) (new : Claim) (o : Object) → has (objects (holding_one held new)) o ≡ (has (objects held) o || is_object o new.object)
-seen_one held new o = by_test (has (objects held) new.object) refl
+seen_one : (held : List Claim) (new : Claim) (o : Object)
+    → contains_object (objects (holding_one held new)) o ≡ (contains_object (objects held) o || is_object o new.object)
+seen_one held new o = by_test (contains_object (objects held) new.object) refl
   where
-    by_test : (b : Bool) → has (objects held) new.object ≡ b
-        → has (objects (if b then map (merged new) held else held ++ new ∷ [])) o ≡ (has (objects held) o || is_object o new.object)
+    by_test : (b : Bool) → contains_object (objects held) new.object ≡ b
+        → contains_object (objects (if b then map (merged new) held else held ++ new ∷ [])) o ≡ (contains_object (objects held) o || is_object o new.object)
     by_test true e =
-        ap (λ l. has l o) (objects_merged new held) ∙ within (is_object o new.object) refl
+        ap (λ l. contains_object l o) (objects_merged new held) ∙ within (is_object o new.object) refl
       where
-        within : (x : Bool) → is_object o new.object ≡ x → has (objects held) o ≡ (has (objects held) o || x)
-        within false f = sym (or_none (has (objects held) o))
+        within : (x : Bool) → is_object o new.object ≡ x → contains_object (objects held) o ≡ (contains_object (objects held) o || x)
+        within false f = sym (or_none (contains_object (objects held) o))
         within true f =
-            ap (has (objects held)) (same_object o new.object f) ∙ e ∙ sym (ap (λ y. y || true) (ap (has (objects held)) (same_object o new.object f) ∙ e))
+            ap (contains_object (objects held)) (same_object o new.object f) ∙ e
+            ∙ sym (ap (λ y. y || true) (ap (contains_object (objects held)) (same_object o new.object f) ∙ e))
     by_test false e =
-        ap (λ l. has l o) (objects_append held (new ∷ [])) ∙ list_any-append (is_object o) (objects held) (new.object ∷ [])
-        ∙ ap (λ x. has (objects held) o || x) (or_none (is_object o new.object))
+        ap (λ l. contains_object l o) (objects_append held (new ∷ [])) ∙ list_any-append (is_object o) (objects held) (new.object ∷ [])
+        ∙ ap (λ x. contains_object (objects held) o || x) (or_none (is_object o new.object))
 
 owned_one : (held : List Claim) (new : Claim) (o : Object)
-    → has (owned (holding_one held new)) o ≡ (has (owned held) o || (exclusive new && is_object o new.object))
-owned_one held new o = by_test (has (objects held) new.object) refl
+    → contains_object (owned (holding_one held new)) o ≡ (contains_object (owned held) o || (exclusive new && is_object o new.object))
+owned_one held new o = by_test (contains_object (objects held) new.object) refl
   where
-    by_test : (b : Bool) → has (objects held) new.object ≡ b
-        → has (owned (if b then map (merged new) held else held ++ new ∷ [])) o ≡ (has (owned held) o || (exclusive new && is_object o new.object))
+    by_test : (b : Bool) → contains_object (objects held) new.object ≡ b
+        → contains_object (owned (if b then map (merged new) held else held ++ new ∷ [])) o
+        ≡ (contains_object (owned held) o || (exclusive new && is_object o new.object))
     by_test true e =
-        owned_merged new held o ∙ ap (λ x. has (owned held) o || ((exclusive new && is_object o new.object) && x)) e
-        ∙ ap (λ x. has (owned held) o || x) (and_true (exclusive new && is_object o new.object))
+        owned_merged new held o ∙ ap (λ x. contains_object (owned held) o || ((exclusive new && is_object o new.object) && x)) e
+        ∙ ap (λ x. contains_object (owned held) o || x) (and_true (exclusive new && is_object o new.object))
     by_test false e =
-        ap (λ l. has l o) (owned_append held (new ∷ [])) ∙ list_any-append (is_object o) (owned held) (owned (new ∷ []))
-        ∙ ap (λ x. has (owned held) o || x) (has_owned_cons new [] o ∙ or_none (exclusive new && is_object o new.object))
+        ap (λ l. contains_object l o) (owned_append held (new ∷ [])) ∙ list_any-append (is_object o) (owned held) (owned (new ∷ []))
+        ∙ ap (λ x. contains_object (owned held) o || x) (has_owned_cons new [] o ∙ or_none (exclusive new && is_object o new.object))
 
 -- ---- all claims
-seen_all : (held claims : List Claim) (o : Object) → has (objects (holding held claims)) o ≡ (has (objects held) o || has (objects claims) o)
-seen_all held [] o = sym (or_none (has (objects held) o))
+seen_all : (held claims : List Claim) (o : Object)
+    → contains_object (objects (holding held claims)) o ≡ (contains_object (objects held) o || contains_object (objects claims) o)
+seen_all held [] o = sym (or_none (contains_object (objects held) o))
 seen_all held (c ∷ claims) o =
-    seen_all (holding_one held c) claims o ∙ ap (λ x. x || has (objects claims) o) (seen_one held c o)
-    ∙ or_assoc (has (objects held) o) (is_object o c.object) (has (objects claims) o)
+    seen_all (holding_one held c) claims o ∙ ap (λ x. x || contains_object (objects claims) o) (seen_one held c o)
+    ∙ or_assoc (contains_object (objects held) o) (is_object o c.object) (contains_object (objects claims) o)
 
-owned_all : (held claims : List Claim) (o : Object) → has (owned (holding held claims)) o ≡ (has (owned held) o || has (owned claims) o)
-owned_all held [] o = sym (or_none (has (owned held) o))
+owned_all : (held claims : List Claim) (o : Object)
+    → contains_object (owned (holding held claims)) o ≡ (contains_object (owned held) o || contains_object (owned claims) o)
+owned_all held [] o = sym (or_none (contains_object (owned held) o))
 owned_all held (c ∷ claims) o =
-    owned_all (holding_one held c) claims o ∙ ap (λ x. x || has (owned claims) o) (owned_one held c o)
-    ∙ or_assoc (has (owned held) o) (exclusive c && is_object o c.object) (has (owned claims) o)
-    ∙ ap (λ x. has (owned held) o || x) (sym (has_owned_cons c claims o))
+    owned_all (holding_one held c) claims o ∙ ap (λ x. x || contains_object (owned claims) o) (owned_one held c o)
+    ∙ or_assoc (contains_object (owned held) o) (exclusive c && is_object o c.object) (contains_object (owned claims) o)
+    ∙ ap (λ x. contains_object (owned held) o || x) (sym (has_owned_cons c claims o))
 
 -- two lists that pass the same tests have the same
-same_lists : (a b : List Object) (o : Object) → has a o ≡ has b o → Contains a o → Contains b o
+same_lists : (a b : List Object) (o : Object) → contains_object a o ≡ contains_object b o → Contains a o → Contains b o
 same_lists a b o e at = Contains-from_any same_object o b (sym e ∙ found a o at)
 
 -- the objects that are held are those that were claimed
@@ -164,23 +172,24 @@ or_parts : (a b : Bool) → (a || b) ≡ false → (a ≡ false) × (b ≡ false
 or_parts true b e = cc
 or_parts false b e = (refl, e)
 
-count_none : (o : Object) (os : List Object) → has os o ≡ false → count_by (is_object o) os ≡ 0
+count_none : (o : Object) (os : List Object) → contains_object os o ≡ false → count_by (is_object o) os ≡ 0
 count_none o [] e = refl
 count_none o (x ∷ os) e =
-    let parts = or_parts (is_object o x) (has os o) e in
+    let parts = or_parts (is_object o x) (contains_object os o) e in
     sum_by-append (λ y. cond (is_object o y) 1 0) (x ∷ []) os ∙ ap₂ (λ b n. (0 + cond b 1 0) + n) parts.0 (count_none o os parts.1)
 
 once_one : (held : List Claim) (new : Claim) → AreOnceAtMost (objects held) → AreOnceAtMost (objects (holding_one held new))
-once_one held new once = by_test (has (objects held) new.object) refl
+once_one held new once = by_test (contains_object (objects held) new.object) refl
   where
-    by_test : (b : Bool) → has (objects held) new.object ≡ b → AreOnceAtMost (objects (if b then map (merged new) held else held ++ new ∷ []))
+    by_test : (b : Bool) → contains_object (objects held) new.object ≡ b → AreOnceAtMost (objects (if b then map (merged new) held else held ++ new ∷ []))
     by_test true e = subst AreOnceAtMost (sym (objects_merged new held)) once
     by_test false e = λ o. subst (λ l. count_by (is_object o) l ≤ 1) (sym (objects_append held (new ∷ [])))
         (subst (λ n. n ≤ 1) (sym (sum_by-append (λ x. cond (is_object o x) 1 0) (objects held) (new.object ∷ []))) (within o (is_object o new.object) refl))
       where
         within : (o : Object) (b : Bool) → is_object o new.object ≡ b → count_by (is_object o) (objects held) + count_by (is_object o) (new.object ∷ []) ≤ 1
         within o true f =
-            let none : count_by (is_object o) (objects held) ≡ 0 = count_none o (objects held) (ap (has (objects held)) (same_object o new.object f) ∙ e) in
+            let none : count_by (is_object o) (objects held)
+            ≡ 0 = count_none o (objects held) (ap (contains_object (objects held)) (same_object o new.object f) ∙ e) in
             let one : count_by (is_object o) (new.object ∷ []) ≡ 1 = ap (λ b. 0 + cond b 1 0) f in
             omega arith
         within o false f =
@@ -197,7 +206,7 @@ pub held_once : (claims : List Claim) → AreOnceAtMost (objects (held_of claims
 held_once claims = once_all [] claims (λ o. omega arith)
 
 -- an object is in a list of held ones where a claim of them is on it
-pub has_object : (o : Object) (held : List Claim) → has (objects held) o ≡ list_any (λ (h : Claim). is_object o h.object) held
+pub has_object : (o : Object) (held : List Claim) → contains_object (objects held) o ≡ list_any (λ (h : Claim). is_object o h.object) held
 has_object o [] = refl
 has_object o (h ∷ held) = ap (λ b. is_object o h.object || b) (has_object o held)
 

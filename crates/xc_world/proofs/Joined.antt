@@ -12,7 +12,7 @@ use Rattle.xc_data.specs.declared.claim.Claim.{Claim}
 use Rattle.xc_data.specs.declared.call.CallWithAnswer.{CallWithAnswer}
 use Rattle.xc_data.specs.declared.entry.KeptItem.{KeptItem}
 use Rattle.xc_world.specs.Fits.{fits}
-use Rattle.xc_world.specs.Run.{BodyResult, BlockState, begins, step, goes_on, plain_body, plain_fits, block_step, runs_on, opens, body_state, fits_on}
+use Rattle.xc_world.specs.Run.{BodyResult, BlockState, begins, step, after_calls, plain_body, plain_fits, block_step, runs_on, opens, body_state, fits_on}
 use Rattle.xc_world.specs.Run.{body_fits}
 use Rattle.xc_world.specs.Joined.{behind}
 
@@ -34,7 +34,7 @@ step_behind tx r c b =
     (append_assoc r.taken _ b.taken) (append_assoc r.touched _ b.touched)
 
 -- a body that goes on has the later body after it
-pub goes_on_behind : (tx : ℕ) (r : BodyResult) (asked : List CallWithAnswer) → goes_on tx r asked ≡ behind r (plain_body r.world r.me tx asked)
+pub goes_on_behind : (tx : ℕ) (r : BodyResult) (asked : List CallWithAnswer) → after_calls tx r asked ≡ behind r (plain_body r.world r.me tx asked)
 goes_on_behind tx r [] = behind_nothing r
 goes_on_behind tx r (c ∷ asked) =
     let one = step tx (begins r.world r.me) c in

@@ -5,7 +5,7 @@ pub use Rattle.xc_world.proofs.Blocks.{marked_now}
 -- also where a call opens or closes a block
 pub use Rattle.xc_world.proofs.Blocks.{marked_replies}
 -- P is true of what is now, and of the save of an open block, which such calls led to what is now
-pub use Rattle.xc_world.proofs.Blocks.{State}
+pub use Rattle.xc_world.proofs.Blocks.{BlockHolds}
 -- and calls one after another
 pub use Rattle.xc_world.proofs.Blocks.{runs_keep}
 -- the answers that fit
@@ -32,7 +32,7 @@ pub use Rattle.xc_world.proofs.Bodies.{owned_append}
 -- changed nothing but its own
 pub use Rattle.xc_world.proofs.Bodies.{Alike}
 -- the objects of a call are among those of P
-pub use Rattle.xc_world.proofs.Bodies.{Within}
+pub use Rattle.xc_world.proofs.Bodies.{CallWithin}
 -- worlds that agree on P agree on what the call touches and makes
 pub use Rattle.xc_world.proofs.Bodies.{call_agreed}
 -- two bodies stay alike over one call on objects of P
@@ -127,14 +127,14 @@ pub use Rattle.xc_world.proofs.GivenBeside.{name_has_none}
 -- a file has none
 pub use Rattle.xc_world.proofs.GivenBeside.{file_has_none}
 -- one such object alone
-pub use Rattle.xc_world.proofs.GivenBeside.{one}
+pub use Rattle.xc_world.proofs.GivenBeside.{one_object}
 -- so it speaks of none
 pub use Rattle.xc_world.proofs.GivenBeside.{no_data_spoken}
 -- and whatever is given back is elsewhere
 pub use Rattle.xc_world.proofs.GivenBeside.{data_elsewhere}
 -- ---- Holding: What is held of claims: the claimed objects, each once, and exclusively those that were claimed so.
 -- whether an object is in a list
-pub use Rattle.xc_world.proofs.Holding.{has}
+pub use Rattle.xc_world.proofs.Holding.{contains_object}
 -- the objects that are held are those that were claimed
 pub use Rattle.xc_world.proofs.Holding.{held_seen}
 -- the objects that are owned by what is held are those that the claims own
@@ -282,3 +282,6 @@ pub use Rattle.xc_world.proofs.UndoingBody.{refusal-none}
 pub use Rattle.xc_world.proofs.UndoingBody.{undone-none}
 -- a call is refused by a check, or is done
 pub use Rattle.xc_world.proofs.UndoingBody.{act-cases}
+-- ---- TakenApart: What was taken is apart from the records of a call.
+-- two lists are given back one after the other
+pub use Rattle.xc_world.proofs.TakenApart.{given_append}

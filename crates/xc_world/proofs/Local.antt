@@ -9,13 +9,14 @@ use Rattle.xc_data.specs.declared.private.Private.{Private}
 use Rattle.xc_world.specs.World.{World}
 use Rattle.xc_world.specs.Checks.{is_bad_handle, is_too_big, is_too_much, is_bad_word}
 use Rattle.xc_world.specs.Act.{act, done}
-use Rattle.xc_world.specs.Act.Step.{Stepped, storing_call, storing_reply, counted}
+use Rattle.xc_world.specs.Act.Step.{Stepped, storing_call, storing_reply, bytes_counted}
 use Rattle.xc_world.specs.Touch.{touch, objects_of_call, made_by}
 use Rattle.xc_world.specs.Laws.{AgreeAt, ActsAlike}
 use Rattle.xc_world.proofs.LocalParts.{both_so}
-use Rattle.xc_world.proofs.LocalCalls.{quiet, done_alike}
+use Rattle.xc_world.proofs.LocalCalls.{quiet_alike, done_alike}
 
-counted_alike : (objects : List Object) (w v : World) (c : Call) (s t : Stepped) → ActsAlike objects w v s t → ActsAlike objects w v (counted c s) (counted c t)
+counted_alike : (objects : List Object) (w v : World) (c : Call) (s t : Stepped) → ActsAlike objects w v s t
+    → ActsAlike objects w v (bytes_counted c s) (bytes_counted c t)
 counted_alike objects w v c s t alike =
     record {
       reply = alike.reply;
@@ -35,14 +36,14 @@ pub act_alike : (w v : World) (me : Private) (tx : ℕ) (c : Call) (a : Answer) 
     → ActsAlike (touch c me (length w.words) ++ made_by c me tx) w v (act w me tx c a) (act v me tx c a)
 act_alike w v me tx c a count agree =
     let P = ActsAlike (touch c me (length w.words) ++ made_by c me tx) w v in
-    both_so P (is_bad_handle c me) (is_bad_handle c me) _ _ _ _ refl (λ _. quiet _ w v me reply.BadHandle agree) (λ handle.
-    both_so P (is_too_big c) (is_too_big c) _ _ _ _ refl (λ _. quiet _ w v me reply.TooBig agree) (λ size.
-    both_so P (is_too_much c me) (is_too_much c me) _ _ _ _ refl (λ _. quiet _ w v me reply.TooMuch agree) (λ few.
+    both_so P (is_bad_handle c me) (is_bad_handle c me) _ _ _ _ refl (λ _. quiet_alike _ w v me reply.BadHandle agree) (λ handle.
+    both_so P (is_too_big c) (is_too_big c) _ _ _ _ refl (λ _. quiet_alike _ w v me reply.TooBig agree) (λ size.
+    both_so P (is_too_much c me) (is_too_much c me) _ _ _ _ refl (λ _. quiet_alike _ w v me reply.TooMuch agree) (λ few.
     both_so P (is_bad_word c (length w.words)) (is_bad_word c (length v.words)) _ _ _ _ (ap (is_bad_word c) count)
-    (λ _. quiet _ w v me reply.BadWord agree) (λ word.
+    (λ _. quiet_alike _ w v me reply.BadWord agree) (λ word.
     let e : touch c me (length w.words) ≡ objects_of_call c me =
     passed (is_bad_handle c me) (is_too_big c) (is_too_much c me) (is_bad_word c (length w.words)) (objects_of_call c me) handle size few word in
-    subst (λ l. ActsAlike (l ++ made_by c me tx) w v (counted c (done w me tx c a)) (counted c (done v me tx c a))) (sym e)
+    subst (λ l. ActsAlike (l ++ made_by c me tx) w v (bytes_counted c (done w me tx c a)) (bytes_counted c (done v me tx c a))) (sym e)
     (counted_alike _ w v c (done w me tx c a) (done v me tx c a) (done_alike w v me tx c a (subst (λ l. All (AgreeAt w v) (l ++ made_by c me tx)) e agree)))))))
 
 -- ---- what the agreement on an object that is made comes from: its number is free in both worlds

@@ -21,22 +21,22 @@ use Rattle.xc_data.specs.Private.{place_of, with_place, lowest_vacant}
 use Rattle.xc_world.specs.World.{World, Pipe, Pair, file_of, pipe_of, pair_of, empty_pipe, empty_pair, waiting, with_waiting}
 use Rattle.xc_world.specs.Act.{fine, faulty, done}
 use Rattle.xc_world.specs.Act.Step.{step_to}
-use Rattle.xc_world.specs.Act.Names.{next_num, opened, created, renamed}
-use Rattle.xc_world.specs.Act.Files.{open_at, read_at, overwritten, put, overwrite_at, appended, append_at, seek_at, len_at, overwrite_short, append_short}
-use Rattle.xc_world.specs.Act.Pipes.{nothing, new_pipe, read_pipe_at, pair_made, new_pair, received, receive_at}
+use Rattle.xc_world.specs.Act.Names.{next_num, open_step, create_step, rename_step}
+use Rattle.xc_world.specs.Act.Files.{open_at, read_at, overwritten, put, overwrite_at, append_step, append_at, seek_at, len_at, overwrite_short, append_short}
+use Rattle.xc_world.specs.Act.Pipes.{empty_or_end, new_pipe, read_pipe_at, pair_made, new_pair, received, receive_at}
 use Rattle.xc_world.specs.Touch.{object_at, objects_of_call, made_by}
 use Rattle.xc_world.specs.Laws.{AgreeAt, GoAlike, ActsAlike}
 use Rattle.xc_world.proofs.SoundParts.{chosen_so}
 use Rattle.xc_world.proofs.LocalParts.{both_so, first_in, later_in, same_alike, word_alike, file_alike, new_alike, moved_alike, pipe_alike, pair_alike}
 
 -- the list has what stands at a handle
-abbrev pub Has : List Object → Place → Type 0
-Has objects place.Vacant = Unit {0}
-Has objects (place.File num at) = Contains objects (object.File num)
-Has objects (place.Pipe num) = Contains objects (object.Pipe num)
-Has objects (place.Pair num side) = Contains objects (object.Pair num)
+abbrev pub HasObjectAt : List Object → Place → Type 0
+HasObjectAt objects place.Vacant = Unit {0}
+HasObjectAt objects (place.File num at) = Contains objects (object.File num)
+HasObjectAt objects (place.Pipe num) = Contains objects (object.Pipe num)
+HasObjectAt objects (place.Pair num side) = Contains objects (object.Pair num)
 
-has_it : (p : Place) (more : List Object) → Has (object_at p ++ more) p
+has_it : (p : Place) (more : List Object) → HasObjectAt (object_at p ++ more) p
 has_it place.Vacant more = tt
 has_it (place.File num at) more = first_in (object.File num) more
 has_it (place.Pipe num) more = first_in (object.Pipe num) more
@@ -53,8 +53,8 @@ module _ (objects : List Object) (w v : World) where
   looked me you r q same e agree = changed w v me you r q same e (same_alike objects w v agree)
 
   -- a call that changes nothing gives the same in both worlds
-  pub quiet : (me : Private) (r : Reply) → All (AgreeAt w v) objects → ActsAlike objects w v (step_to w me r) (step_to v me r)
-  quiet me r agree = looked me me r r refl refl agree
+  pub quiet_alike : (me : Private) (r : Reply) → All (AgreeAt w v) objects → ActsAlike objects w v (step_to w me r) (step_to v me r)
+  quiet_alike me r agree = looked me me r r refl refl agree
 
   -- ---- what both worlds have at an object of the list
   pub same_file : (num : Num) → Contains objects (object.File num) → All (AgreeAt w v) objects → file_of w num ≡ file_of v num
@@ -78,17 +78,17 @@ module _ (objects : List Object) (w v : World) where
       sym (unwrap_or-slice_get w.words at 0) ∙ ap (λ o. unwrap_or o 0) e ∙ unwrap_or-slice_get v.words at 0
 
   -- ---- files
-  read_alike : (me : Private) (h n : ℕ) (p : Place) → Has objects p → All (AgreeAt w v) objects
+  read_alike : (me : Private) (h n : ℕ) (p : Place) → HasObjectAt objects p → All (AgreeAt w v) objects
       → ActsAlike objects w v (read_at w me h n p) (read_at v me h n p)
   read_alike me h n (place.File num at) has agree =
       let e = same_file num has agree in
-      both_so (ActsAlike objects w v) (n == 0) (n == 0) _ _ _ _ refl (λ _. quiet me (reply.Got []) agree) (λ _.
+      both_so (ActsAlike objects w v) (n == 0) (n == 0) _ _ _ _ refl (λ _. quiet_alike me (reply.Got []) agree) (λ _.
       both_so (ActsAlike objects w v) (nat_le (length (file_of w num)) at) (nat_le (length (file_of v num)) at) _ _ _ _ (ap (λ f. nat_le (length f) at) e)
-      (λ _. quiet me reply.End agree) (λ _.
+      (λ _. quiet_alike me reply.End agree) (λ _.
       looked _ _ _ _ (ap (λ f. with_place me h (place.File num (at + length (take n (drop at f))))) e) (ap (λ f. reply.Got (take n (drop at f))) e) agree))
-  read_alike me h n place.Vacant has agree = quiet me reply.BadHandle agree
-  read_alike me h n (place.Pipe num) has agree = quiet me reply.BadHandle agree
-  read_alike me h n (place.Pair num side) has agree = quiet me reply.BadHandle agree
+  read_alike me h n place.Vacant has agree = quiet_alike me reply.BadHandle agree
+  read_alike me h n (place.Pipe num) has agree = quiet_alike me reply.BadHandle agree
+  read_alike me h n (place.Pair num side) has agree = quiet_alike me reply.BadHandle agree
 
   put_alike : (me : Private) (h : ℕ) (num : Num) (at : ℕ) (bytes : List ℕ) (r : Reply) → Contains objects (object.File num) → All (AgreeAt w v) objects
       → ActsAlike objects w v (put w me (open_at h num at) bytes r) (put v me (open_at h num at) bytes r)
@@ -96,134 +96,134 @@ module _ (objects : List Object) (w v : World) where
       changed _ _ _ _ r r refl refl (file_alike objects w v num (overwritten at bytes (file_of w num)) (overwritten at bytes (file_of v num))
       (ap (overwritten at bytes) (same_file num has agree)) has agree)
 
-  overwrite_alike : (me : Private) (h : ℕ) (bytes : List ℕ) (p : Place) → Has objects p → All (AgreeAt w v) objects
+  overwrite_alike : (me : Private) (h : ℕ) (bytes : List ℕ) (p : Place) → HasObjectAt objects p → All (AgreeAt w v) objects
       → ActsAlike objects w v (overwrite_at w me h bytes p) (overwrite_at v me h bytes p)
   overwrite_alike me h bytes (place.File num at) has agree =
       let e = same_file num has agree in
-      both_so (ActsAlike objects w v) (length bytes == 0) (length bytes == 0) _ _ _ _ refl (λ _. quiet me reply.Done agree) (λ _.
+      both_so (ActsAlike objects w v) (length bytes == 0) (length bytes == 0) _ _ _ _ refl (λ _. quiet_alike me reply.Done agree) (λ _.
       both_so (ActsAlike objects w v) (nat_lt (length (file_of w num)) (at + length bytes)) (nat_lt (length (file_of v num)) (at + length bytes)) _ _ _ _
       (ap (λ f. nat_lt (length f) (at + length bytes)) e)
-      (λ _. quiet me reply.PastEnd agree) (λ _. put_alike me h num at bytes reply.Done has agree))
-  overwrite_alike me h bytes place.Vacant has agree = quiet me reply.BadHandle agree
-  overwrite_alike me h bytes (place.Pipe num) has agree = quiet me reply.BadHandle agree
-  overwrite_alike me h bytes (place.Pair num side) has agree = quiet me reply.BadHandle agree
+      (λ _. quiet_alike me reply.PastEnd agree) (λ _. put_alike me h num at bytes reply.Done has agree))
+  overwrite_alike me h bytes place.Vacant has agree = quiet_alike me reply.BadHandle agree
+  overwrite_alike me h bytes (place.Pipe num) has agree = quiet_alike me reply.BadHandle agree
+  overwrite_alike me h bytes (place.Pair num side) has agree = quiet_alike me reply.BadHandle agree
 
   appended_alike : (me : Private) (h : ℕ) (num : Num) (at : ℕ) (bytes : List ℕ) (r : Reply) → Contains objects (object.File num) → All (AgreeAt w v) objects
-      → ActsAlike objects w v (appended w me (open_at h num at) bytes r) (appended v me (open_at h num at) bytes r)
+      → ActsAlike objects w v (append_step w me (open_at h num at) bytes r) (append_step v me (open_at h num at) bytes r)
   appended_alike me h num at bytes r has agree =
       let e = same_file num has agree in
       changed _ _ _ _ r r (ap (λ f. with_place me h (place.File num (length f + length bytes))) e) refl
       (file_alike objects w v num (file_of w num ++ bytes) (file_of v num ++ bytes) (ap (λ f. f ++ bytes) e) has agree)
 
-  append_alike : (me : Private) (h : ℕ) (bytes : List ℕ) (p : Place) → Has objects p → All (AgreeAt w v) objects
+  append_alike : (me : Private) (h : ℕ) (bytes : List ℕ) (p : Place) → HasObjectAt objects p → All (AgreeAt w v) objects
       → ActsAlike objects w v (append_at w me h bytes p) (append_at v me h bytes p)
   append_alike me h bytes (place.File num at) has agree =
       let e = same_file num has agree in
-      both_so (ActsAlike objects w v) (length bytes == 0) (length bytes == 0) _ _ _ _ refl (λ _. quiet me reply.Done agree) (λ _.
+      both_so (ActsAlike objects w v) (length bytes == 0) (length bytes == 0) _ _ _ _ refl (λ _. quiet_alike me reply.Done agree) (λ _.
       both_so (ActsAlike objects w v) (nat_lt 65536 (length (file_of w num) + length bytes)) (nat_lt 65536 (length (file_of v num) + length bytes)) _ _ _ _
       (ap (λ f. nat_lt 65536 (length f + length bytes)) e)
-      (λ _. quiet me reply.TooBig agree) (λ _. appended_alike me h num at bytes reply.Done has agree))
-  append_alike me h bytes place.Vacant has agree = quiet me reply.BadHandle agree
-  append_alike me h bytes (place.Pipe num) has agree = quiet me reply.BadHandle agree
-  append_alike me h bytes (place.Pair num side) has agree = quiet me reply.BadHandle agree
+      (λ _. quiet_alike me reply.TooBig agree) (λ _. appended_alike me h num at bytes reply.Done has agree))
+  append_alike me h bytes place.Vacant has agree = quiet_alike me reply.BadHandle agree
+  append_alike me h bytes (place.Pipe num) has agree = quiet_alike me reply.BadHandle agree
+  append_alike me h bytes (place.Pair num side) has agree = quiet_alike me reply.BadHandle agree
 
   seek_alike : (me : Private) (h to : ℕ) (p : Place) → All (AgreeAt w v) objects → ActsAlike objects w v (seek_at w me h to p) (seek_at v me h to p)
   seek_alike me h to (place.File num at) agree =
-      both_so (ActsAlike objects w v) (nat_lt 65536 to) (nat_lt 65536 to) _ _ _ _ refl (λ _. quiet me reply.TooBig agree)
-      (λ _. quiet (with_place me h (place.File num to)) reply.Done agree)
-  seek_alike me h to place.Vacant agree = quiet me reply.BadHandle agree
-  seek_alike me h to (place.Pipe num) agree = quiet me reply.BadHandle agree
-  seek_alike me h to (place.Pair num side) agree = quiet me reply.BadHandle agree
+      both_so (ActsAlike objects w v) (nat_lt 65536 to) (nat_lt 65536 to) _ _ _ _ refl (λ _. quiet_alike me reply.TooBig agree)
+      (λ _. quiet_alike (with_place me h (place.File num to)) reply.Done agree)
+  seek_alike me h to place.Vacant agree = quiet_alike me reply.BadHandle agree
+  seek_alike me h to (place.Pipe num) agree = quiet_alike me reply.BadHandle agree
+  seek_alike me h to (place.Pair num side) agree = quiet_alike me reply.BadHandle agree
 
-  len_alike : (me : Private) (p : Place) → Has objects p → All (AgreeAt w v) objects → ActsAlike objects w v (len_at w me p) (len_at v me p)
+  len_alike : (me : Private) (p : Place) → HasObjectAt objects p → All (AgreeAt w v) objects → ActsAlike objects w v (len_at w me p) (len_at v me p)
   len_alike me (place.File num at) has agree = looked me me _ _ refl (ap (λ f. reply.Number (length f)) (same_file num has agree)) agree
-  len_alike me place.Vacant has agree = quiet me reply.BadHandle agree
-  len_alike me (place.Pipe num) has agree = quiet me reply.BadHandle agree
-  len_alike me (place.Pair num side) has agree = quiet me reply.BadHandle agree
+  len_alike me place.Vacant has agree = quiet_alike me reply.BadHandle agree
+  len_alike me (place.Pipe num) has agree = quiet_alike me reply.BadHandle agree
+  len_alike me (place.Pair num side) has agree = quiet_alike me reply.BadHandle agree
 
   -- ---- with a fault
-  overwrite_short_alike : (me : Private) (h : ℕ) (bytes : List ℕ) (n : ℕ) (p : Place) → Has objects p → All (AgreeAt w v) objects
+  overwrite_short_alike : (me : Private) (h : ℕ) (bytes : List ℕ) (n : ℕ) (p : Place) → HasObjectAt objects p → All (AgreeAt w v) objects
       → ActsAlike objects w v (overwrite_short w me (h, p) bytes n) (overwrite_short v me (h, p) bytes n)
   overwrite_short_alike me h bytes n (place.File num at) has agree =
-      both_so (ActsAlike objects w v) (n == 0) (n == 0) _ _ _ _ refl (λ _. quiet me (reply.Fault n) agree)
+      both_so (ActsAlike objects w v) (n == 0) (n == 0) _ _ _ _ refl (λ _. quiet_alike me (reply.Fault n) agree)
       (λ _. put_alike me h num at (take n bytes) (reply.Fault n) has agree)
-  overwrite_short_alike me h bytes n place.Vacant has agree = quiet me (reply.Fault n) agree
-  overwrite_short_alike me h bytes n (place.Pipe num) has agree = quiet me (reply.Fault n) agree
-  overwrite_short_alike me h bytes n (place.Pair num side) has agree = quiet me (reply.Fault n) agree
+  overwrite_short_alike me h bytes n place.Vacant has agree = quiet_alike me (reply.Fault n) agree
+  overwrite_short_alike me h bytes n (place.Pipe num) has agree = quiet_alike me (reply.Fault n) agree
+  overwrite_short_alike me h bytes n (place.Pair num side) has agree = quiet_alike me (reply.Fault n) agree
 
-  append_short_alike : (me : Private) (h : ℕ) (bytes : List ℕ) (n : ℕ) (p : Place) → Has objects p → All (AgreeAt w v) objects
+  append_short_alike : (me : Private) (h : ℕ) (bytes : List ℕ) (n : ℕ) (p : Place) → HasObjectAt objects p → All (AgreeAt w v) objects
       → ActsAlike objects w v (append_short w me (h, p) bytes n) (append_short v me (h, p) bytes n)
   append_short_alike me h bytes n (place.File num at) has agree =
-      both_so (ActsAlike objects w v) (n == 0) (n == 0) _ _ _ _ refl (λ _. quiet me (reply.Fault n) agree)
+      both_so (ActsAlike objects w v) (n == 0) (n == 0) _ _ _ _ refl (λ _. quiet_alike me (reply.Fault n) agree)
       (λ _. appended_alike me h num at (take n bytes) (reply.Fault n) has agree)
-  append_short_alike me h bytes n place.Vacant has agree = quiet me (reply.Fault n) agree
-  append_short_alike me h bytes n (place.Pipe num) has agree = quiet me (reply.Fault n) agree
-  append_short_alike me h bytes n (place.Pair num side) has agree = quiet me (reply.Fault n) agree
+  append_short_alike me h bytes n place.Vacant has agree = quiet_alike me (reply.Fault n) agree
+  append_short_alike me h bytes n (place.Pipe num) has agree = quiet_alike me (reply.Fault n) agree
+  append_short_alike me h bytes n (place.Pair num side) has agree = quiet_alike me (reply.Fault n) agree
 
   -- ---- names
   opened_alike : (me : Private) (o q : Option Num) (vacant : Option ℕ) → o ≡ q → All (AgreeAt w v) objects
-      → ActsAlike objects w v (opened w me o vacant) (opened v me q vacant)
-  opened_alike me o q vacant e agree = subst (λ there. ActsAlike objects w v (opened w me o vacant) (opened v me there vacant)) e (same o vacant)
+      → ActsAlike objects w v (open_step w me o vacant) (open_step v me q vacant)
+  opened_alike me o q vacant e agree = subst (λ there. ActsAlike objects w v (open_step w me o vacant) (open_step v me there vacant)) e (same o vacant)
     where
-      same : (o : Option Num) (vacant : Option ℕ) → ActsAlike objects w v (opened w me o vacant) (opened v me o vacant)
-      same None vacant = quiet me reply.NoName agree
-      same (Some num) None = quiet me reply.TooMuch agree
-      same (Some num) (Some h) = quiet (with_place me h (place.File num 0)) (reply.Made h) agree
+      same : (o : Option Num) (vacant : Option ℕ) → ActsAlike objects w v (open_step w me o vacant) (open_step v me o vacant)
+      same None vacant = quiet_alike me reply.NoName agree
+      same (Some num) None = quiet_alike me reply.TooMuch agree
+      same (Some num) (Some h) = quiet_alike (with_place me h (place.File num 0)) (reply.Made h) agree
 
   created_alike : (me : Private) (tx : ℕ) (name : List ℕ) (o q : Option Num) (vacant : Option ℕ) → o ≡ q → Contains objects (object.Name name)
       → Contains objects (object.File (next_num me tx)) → All (AgreeAt w v) objects
-      → ActsAlike objects w v (created w me tx name (o, vacant)) (created v me tx name (q, vacant))
+      → ActsAlike objects w v (create_step w me tx name (o, vacant)) (create_step v me tx name (q, vacant))
   created_alike me tx name o q vacant e named has agree =
-      subst (λ there. ActsAlike objects w v (created w me tx name (o, vacant)) (created v me tx name (there, vacant))) e (same o vacant)
+      subst (λ there. ActsAlike objects w v (create_step w me tx name (o, vacant)) (create_step v me tx name (there, vacant))) e (same o vacant)
     where
-      same : (o : Option Num) (vacant : Option ℕ) → ActsAlike objects w v (created w me tx name (o, vacant)) (created v me tx name (o, vacant))
-      same (Some num) vacant = quiet me reply.Exists agree
-      same None None = quiet me reply.TooMuch agree
+      same : (o : Option Num) (vacant : Option ℕ) → ActsAlike objects w v (create_step w me tx name (o, vacant)) (create_step v me tx name (o, vacant))
+      same (Some num) vacant = quiet_alike me reply.Exists agree
+      same None None = quiet_alike me reply.TooMuch agree
       same None (Some h) = changed _ _ _ _ (reply.Made h) (reply.Made h) refl refl (new_alike objects w v name (next_num me tx) named has agree)
 
   renamed_alike : (me : Private) (from to : List ℕ) (o q there here : Option Num) → o ≡ q → there ≡ here → Contains objects (object.Name from)
       → Contains objects (object.Name to) → All (AgreeAt w v) objects
-      → ActsAlike objects w v (renamed w me from to (o, there)) (renamed v me from to (q, here))
+      → ActsAlike objects w v (rename_step w me from to (o, there)) (rename_step v me from to (q, here))
   renamed_alike me from to o q there here e f old new agree =
-      subst (λ a. ActsAlike objects w v (renamed w me from to (o, there)) (renamed v me from to (a, here))) e
-      (subst (λ a. ActsAlike objects w v (renamed w me from to (o, there)) (renamed v me from to (o, a))) f (same o there))
+      subst (λ a. ActsAlike objects w v (rename_step w me from to (o, there)) (rename_step v me from to (a, here))) e
+      (subst (λ a. ActsAlike objects w v (rename_step w me from to (o, there)) (rename_step v me from to (o, a))) f (same o there))
     where
-      same : (o there : Option Num) → ActsAlike objects w v (renamed w me from to (o, there)) (renamed v me from to (o, there))
-      same None there = quiet me reply.NoName agree
-      same (Some num) (Some q) = quiet me reply.Exists agree
+      same : (o there : Option Num) → ActsAlike objects w v (rename_step w me from to (o, there)) (rename_step v me from to (o, there))
+      same None there = quiet_alike me reply.NoName agree
+      same (Some num) (Some q) = quiet_alike me reply.Exists agree
       same (Some num) None = changed _ _ me me reply.Done reply.Done refl refl (moved_alike objects w v from to num num refl old new agree)
 
   -- ---- pipes
   new_pipe_alike : (me : Private) (tx : ℕ) (vacant : Option ℕ) → Contains objects (object.Pipe (next_num me tx)) → All (AgreeAt w v) objects
       → ActsAlike objects w v (new_pipe w me tx vacant) (new_pipe v me tx vacant)
-  new_pipe_alike me tx None has agree = quiet me reply.TooMuch agree
+  new_pipe_alike me tx None has agree = quiet_alike me reply.TooMuch agree
   new_pipe_alike me tx (Some h) has agree =
       changed _ _ _ _ (reply.Made h) (reply.Made h) refl refl (pipe_alike objects w v (next_num me tx) empty_pipe empty_pipe refl has agree)
 
-  read_pipe_alike : (me : Private) (n : ℕ) (p : Place) → Has objects p → All (AgreeAt w v) objects
+  read_pipe_alike : (me : Private) (n : ℕ) (p : Place) → HasObjectAt objects p → All (AgreeAt w v) objects
       → ActsAlike objects w v (read_pipe_at w me n p) (read_pipe_at v me n p)
   read_pipe_alike me n (place.Pipe num) has agree =
       let e = same_pipe num has agree in
-      both_so (ActsAlike objects w v) (n == 0) (n == 0) _ _ _ _ refl (λ _. quiet me (reply.Got []) agree) (λ _.
+      both_so (ActsAlike objects w v) (n == 0) (n == 0) _ _ _ _ refl (λ _. quiet_alike me (reply.Got []) agree) (λ _.
       both_so (ActsAlike objects w v) (length (pipe_of w num).held == 0) (length (pipe_of v num).held == 0) _ _ _ _ (ap (λ p. length p.held == 0) e)
-      (λ _. looked me me _ _ refl (ap nothing e) agree) (λ _.
+      (λ _. looked me me _ _ refl (ap empty_or_end e) agree) (λ _.
       changed _ _ me me _ _ refl (ap (λ p. reply.Got (take n p.held)) e)
       (pipe_alike objects w v num (record (pipe_of w num) { held = drop n (pipe_of w num).held })
       (record (pipe_of v num) { held = drop n (pipe_of v num).held }) (ap (λ (p : Pipe). record p { held = drop n p.held }) e) has agree)))
-  read_pipe_alike me n place.Vacant has agree = quiet me reply.BadHandle agree
-  read_pipe_alike me n (place.File num at) has agree = quiet me reply.BadHandle agree
-  read_pipe_alike me n (place.Pair num side) has agree = quiet me reply.BadHandle agree
+  read_pipe_alike me n place.Vacant has agree = quiet_alike me reply.BadHandle agree
+  read_pipe_alike me n (place.File num at) has agree = quiet_alike me reply.BadHandle agree
+  read_pipe_alike me n (place.Pair num side) has agree = quiet_alike me reply.BadHandle agree
 
   -- ---- pairs
   pair_made_alike : (me : Private) (tx h : ℕ) (vacant : Option ℕ) → Contains objects (object.Pair (next_num me tx)) → All (AgreeAt w v) objects
       → ActsAlike objects w v (pair_made w me tx h vacant) (pair_made v me tx h vacant)
-  pair_made_alike me tx h None has agree = quiet me reply.TooMuch agree
+  pair_made_alike me tx h None has agree = quiet_alike me reply.TooMuch agree
   pair_made_alike me tx h (Some g) has agree =
       changed _ _ _ _ (reply.MadePair h g) (reply.MadePair h g) refl refl (pair_alike objects w v (next_num me tx) empty_pair empty_pair refl has agree)
 
   new_pair_alike : (me : Private) (tx : ℕ) (vacant : Option ℕ) → Contains objects (object.Pair (next_num me tx)) → All (AgreeAt w v) objects
       → ActsAlike objects w v (new_pair w me tx vacant) (new_pair v me tx vacant)
-  new_pair_alike me tx None has agree = quiet me reply.TooMuch agree
+  new_pair_alike me tx None has agree = quiet_alike me reply.TooMuch agree
   new_pair_alike me tx (Some h) has agree =
       let one = with_place me h (place.Pair (next_num me tx) 0) in
       pair_made_alike one tx h (lowest_vacant one.places) has agree
@@ -237,14 +237,14 @@ module _ (objects : List Object) (w v : World) where
       (pair_alike objects w v num (with_waiting (pair_of w num) side messages) (with_waiting (pair_of v num) side messages)
       (ap (λ p. with_waiting p side messages) e) has agree)
 
-  receive_alike : (me : Private) (p : Place) → Has objects p → All (AgreeAt w v) objects → ActsAlike objects w v (receive_at w me p) (receive_at v me p)
+  receive_alike : (me : Private) (p : Place) → HasObjectAt objects p → All (AgreeAt w v) objects → ActsAlike objects w v (receive_at w me p) (receive_at v me p)
   receive_alike me (place.Pair num side) has agree =
       let e = same_pair num has agree in
       subst (λ m. ActsAlike objects w v (received w me num side (waiting (pair_of w num) side)) (received v me num side m)) (ap (λ p. waiting p side) e)
       (received_alike me num side (waiting (pair_of w num) side) e has agree)
-  receive_alike me place.Vacant has agree = quiet me reply.BadHandle agree
-  receive_alike me (place.File num at) has agree = quiet me reply.BadHandle agree
-  receive_alike me (place.Pipe num) has agree = quiet me reply.BadHandle agree
+  receive_alike me place.Vacant has agree = quiet_alike me reply.BadHandle agree
+  receive_alike me (place.File num at) has agree = quiet_alike me reply.BadHandle agree
+  receive_alike me (place.Pipe num) has agree = quiet_alike me reply.BadHandle agree
 
 -- ---- the names of a rename
 from_in : (from to : List ℕ)
@@ -291,26 +291,26 @@ fine_alike w v me tx (call.XRename from to) agree =
     renamed_alike _ w v me from to (map.get w.names from) (map.get v.names from) (map.get w.names to) (map.get v.names to)
     (same_name _ w v from (from_in from to) agree) (same_name _ w v to (to_in from to) agree)
     (from_in from to) (to_in from to) agree
-fine_alike w v me tx (call.XClose h) agree = quiet _ w v (with_place me h place.Vacant) reply.Done agree
+fine_alike w v me tx (call.XClose h) agree = quiet_alike _ w v (with_place me h place.Vacant) reply.Done agree
 fine_alike w v me tx call.XPipe agree = new_pipe_alike _ w v me tx (lowest_vacant me.places) (first_in (object.Pipe (next_num me tx)) []) agree
 fine_alike w v me tx (call.XReadPipe h n) agree = read_pipe_alike _ w v me n (place_of me.places h) (has_it (place_of me.places h) []) agree
 fine_alike w v me tx call.XPair agree = new_pair_alike _ w v me tx (lowest_vacant me.places) (first_in (object.Pair (next_num me tx)) []) agree
 fine_alike w v me tx (call.XRecvmsg h) agree = receive_alike _ w v me (place_of me.places h) (has_it (place_of me.places h) []) agree
-fine_alike w v me tx call.Save agree = quiet _ w v me reply.Done agree
-fine_alike w v me tx call.Keep agree = quiet _ w v me reply.Done agree
-fine_alike w v me tx call.Back agree = quiet _ w v me (reply.Undone 0) agree
-fine_alike w v me tx _ agree = quiet _ w v me reply.Late agree
+fine_alike w v me tx call.Save agree = quiet_alike _ w v me reply.Done agree
+fine_alike w v me tx call.Keep agree = quiet_alike _ w v me reply.Done agree
+fine_alike w v me tx call.Back agree = quiet_alike _ w v me (reply.Undone 0) agree
+fine_alike w v me tx _ agree = quiet_alike _ w v me reply.Late agree
 
 faulty_alike : (w v : World) (me : Private) (tx : ℕ) (c : Call) (n : ℕ) → AgreeOfCall w v me tx c
     → ActsAlike (all_of_call me tx c) w v (faulty w me c n) (faulty v me c n)
 faulty_alike w v me tx (call.XWriteOvr h bytes) n agree =
     overwrite_short_alike _ w v me h bytes n (place_of me.places h) (has_it (place_of me.places h) []) agree
 faulty_alike w v me tx (call.XWriteSeq h bytes) n agree = append_short_alike _ w v me h bytes n (place_of me.places h) (has_it (place_of me.places h) []) agree
-faulty_alike w v me tx _ n agree = quiet _ w v me (reply.Fault n) agree
+faulty_alike w v me tx _ n agree = quiet_alike _ w v me (reply.Fault n) agree
 
 -- a call that passes gives the same in worlds that agree on its objects
 pub done_alike : (w v : World) (me : Private) (tx : ℕ) (c : Call) (a : Answer) → AgreeOfCall w v me tx c
     → ActsAlike (all_of_call me tx c) w v (done w me tx c a) (done v me tx c a)
 done_alike w v me tx c answer.Fine agree = fine_alike w v me tx c agree
 done_alike w v me tx c (answer.Fault n) agree = faulty_alike w v me tx c n agree
-done_alike w v me tx c (answer.Undone n) agree = quiet _ w v me (reply.Undone n) agree
+done_alike w v me tx c (answer.Undone n) agree = quiet_alike _ w v me (reply.Undone n) agree

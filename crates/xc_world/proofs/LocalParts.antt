@@ -268,15 +268,15 @@ pair_alike objects w v num pair other e has agree =
     (λ u. record { others = pair_left u objects num pair has; count = refl; blocks = refl }) agree)
 
 -- ---- the started jobs
-abbrev pub with_job : World → List ℕ → World
-with_job w body = record w { started = w.started ++ body ∷ [] }
+abbrev pub with_started_job : World → List ℕ → World
+with_started_job w body = record w { started = w.started ++ body ∷ [] }
 
-job_kept : (w v : World) (body : List ℕ) (o : Object) → AgreeAt w v o → AgreeAt (with_job w body) (with_job v body) o
+job_kept : (w v : World) (body : List ℕ) (o : Object) → AgreeAt w v o → AgreeAt (with_started_job w body) (with_started_job v body) o
 job_kept w v body object.Jobs e = ap (λ s. s ++ body ∷ []) e
 job_kept w v body _ e = e
 
 job_left : (w : World) (objects : List Object) (body : List ℕ) → Contains objects object.Jobs → (o : Object) → (Contains objects o → ⊥)
-    → AgreeAt w (with_job w body) o
+    → AgreeAt w (with_started_job w body) o
 job_left w objects body has object.Jobs lacks = absurd (lacks has)
 job_left w objects body has (object.Word at) lacks = refl
 job_left w objects body has (object.Name name) lacks = refl
@@ -286,6 +286,6 @@ job_left w objects body has (object.Pair q) lacks = refl
 
 -- a block is started in both worlds
 pub job_alike : (objects : List Object) (w v : World) (body : List ℕ) → Contains objects object.Jobs → All (AgreeAt w v) objects
-    → GoAlike objects w v (with_job w body) (with_job v body)
+    → GoAlike objects w v (with_started_job w body) (with_started_job v body)
 job_alike objects w v body has agree =
-    go (λ u. with_job u body) objects w v (job_kept w v body) (λ u. record { others = job_left u objects body has; count = refl; blocks = refl }) agree
+    go (λ u. with_started_job u body) objects w v (job_kept w v body) (λ u. record { others = job_left u objects body has; count = refl; blocks = refl }) agree

@@ -32,9 +32,9 @@ filled_at (x ∷ xs) zero n lt = refl
 filled_at (x ∷ xs) (suc h) n lt = ap (λ ys. x ∷ ys) (filled_at xs h n (omega arith))
 
 -- one place more is put in front of the vacant ones
-pub filled : (xs : List Place) (h most : ℕ) → h < length xs → length xs ≤ most
+pub place_filled : (xs : List Place) (h most : ℕ) → h < length xs → length xs ≤ most
     → slice_set (take h xs ++ replicate (most - h) Vacant) h (get_or xs h Vacant) ≡ take (h + 1) xs ++ replicate (most - (h + 1)) Vacant
-filled xs h most lt le =
+place_filled xs h most lt le =
     let one : most - h ≡ suc (most - (h + 1)) = omega arith in
     ap (λ n. slice_set (take h xs ++ replicate n Vacant) h (get_or xs h Vacant)) one ∙ filled_at xs h (most - (h + 1)) lt
     ∙ ap (λ n. take n xs ++ replicate (most - (h + 1)) Vacant) (sym (add-one h))

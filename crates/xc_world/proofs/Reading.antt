@@ -14,7 +14,7 @@ use Rattle.xc_data.specs.Private.{place_of, lowest_vacant}
 use Rattle.xc_world.specs.World.{World, file_of}
 use Rattle.xc_world.specs.Act.{act, done}
 use Rattle.xc_world.specs.Act.Step.{Stepped}
-use Rattle.xc_world.specs.Act.Names.{opened}
+use Rattle.xc_world.specs.Act.Names.{open_step}
 use Rattle.xc_world.specs.Act.Files.{read_at, len_at}
 use Rattle.xc_world.proofs.SoundParts.{chosen_so}
 use Rattle.xc_world.proofs.UndoingBody.{act-cases}
@@ -22,28 +22,28 @@ use Rattle.xc_data.specs.declared.claim.Mode.TheVariants.{Shared}
 use Rattle.xc_world.specs.Modes.{mode_of}
 
 -- a call leaves the world as it is
-abbrev pub Leaves : World → Stepped → Type 0
-Leaves w s = s.world ≡ w
+abbrev pub LeavesWorld : World → Stepped → Type 0
+LeavesWorld w s = s.world ≡ w
 
-read_leaves : (w : World) (me : Private) (h n : ℕ) (p : Place) → Leaves w (read_at w me h n p)
+read_leaves : (w : World) (me : Private) (h n : ℕ) (p : Place) → LeavesWorld w (read_at w me h n p)
 read_leaves w me h n (place.File num at) =
-    chosen_so (Leaves w) (n == 0) _ _ (λ _. refl) (λ _. chosen_so (Leaves w) (nat_le (length (file_of w num)) at) _ _ (λ _. refl) (λ _. refl))
+    chosen_so (LeavesWorld w) (n == 0) _ _ (λ _. refl) (λ _. chosen_so (LeavesWorld w) (nat_le (length (file_of w num)) at) _ _ (λ _. refl) (λ _. refl))
 read_leaves w me h n place.Vacant = refl
 read_leaves w me h n (place.Pipe num) = refl
 read_leaves w me h n (place.Pair num side) = refl
 
-len_leaves : (w : World) (me : Private) (p : Place) → Leaves w (len_at w me p)
+len_leaves : (w : World) (me : Private) (p : Place) → LeavesWorld w (len_at w me p)
 len_leaves w me (place.File num at) = refl
 len_leaves w me place.Vacant = refl
 len_leaves w me (place.Pipe num) = refl
 len_leaves w me (place.Pair num side) = refl
 
-open_leaves : (w : World) (me : Private) (o : Option Num) (vacant : Option ℕ) → Leaves w (opened w me o vacant)
+open_leaves : (w : World) (me : Private) (o : Option Num) (vacant : Option ℕ) → LeavesWorld w (open_step w me o vacant)
 open_leaves w me None vacant = refl
 open_leaves w me (Some num) None = refl
 open_leaves w me (Some num) (Some h) = refl
 
-done_leaves : (w : World) (me : Private) (tx : ℕ) (c : Call) (a : Answer) → mode_of c ≡ Shared → Leaves w (done w me tx c a)
+done_leaves : (w : World) (me : Private) (tx : ℕ) (c : Call) (a : Answer) → mode_of c ≡ Shared → LeavesWorld w (done w me tx c a)
 done_leaves w me tx (call.Load at) answer.Fine shared = refl
 done_leaves w me tx (call.Load at) (answer.Fault n) shared = refl
 done_leaves w me tx (call.Load at) (answer.Undone k) shared = refl
@@ -63,4 +63,4 @@ done_leaves w me tx c a shared = cc
 
 -- a call that claims nothing exclusively leaves the world as it is
 pub act_leaves : (w : World) (me : Private) (tx : ℕ) (c : Call) (a : Answer) → mode_of c ≡ Shared → (act w me tx c a).world ≡ w
-act_leaves w me tx c a shared = act-cases w me tx c a (Leaves w) refl refl refl refl (done_leaves w me tx c a shared)
+act_leaves w me tx c a shared = act-cases w me tx c a (LeavesWorld w) refl refl refl refl (done_leaves w me tx c a shared)

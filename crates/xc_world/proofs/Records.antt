@@ -58,15 +58,15 @@ unmade_left w objects name num named has (object.Pipe q) lacks = refl
 unmade_left w objects name num named has (object.Pair q) lacks = refl
 unmade_left w objects name num named has object.Jobs lacks = refl
 
-abbrev without_pipe : World → Num → World
-without_pipe w num = record w { pipes = map.remove w.pipes num }
+abbrev removed_pipe : World → Num → World
+removed_pipe w num = record w { pipes = map.remove w.pipes num }
 
-no_pipe_kept : (w v : World) (num : Num) (o : Object) → AgreeAt w v o → AgreeAt (without_pipe w num) (without_pipe v num) o
+no_pipe_kept : (w v : World) (num : Num) (o : Object) → AgreeAt w v o → AgreeAt (removed_pipe w num) (removed_pipe v num) o
 no_pipe_kept w v num (object.Pipe q) e = removed_alike num_total w.pipes v.pipes num q e
 no_pipe_kept w v num _ e = e
 
 no_pipe_left : (w : World) (objects : List Object) (num : Num) → Contains objects (object.Pipe num) → (o : Object) → (Contains objects o → ⊥)
-    → AgreeAt w (without_pipe w num) o
+    → AgreeAt w (removed_pipe w num) o
 no_pipe_left w objects num has (object.Pipe q) lacks = sym (get-remove_other num_total num_exact w.pipes num q (two object.Pipe objects num q has lacks))
 no_pipe_left w objects num has (object.Word at) lacks = refl
 no_pipe_left w objects num has (object.Name q) lacks = refl
@@ -74,15 +74,15 @@ no_pipe_left w objects num has (object.File q) lacks = refl
 no_pipe_left w objects num has (object.Pair q) lacks = refl
 no_pipe_left w objects num has object.Jobs lacks = refl
 
-abbrev without_pair : World → Num → World
-without_pair w num = record w { pairs = map.remove w.pairs num }
+abbrev removed_pair : World → Num → World
+removed_pair w num = record w { pairs = map.remove w.pairs num }
 
-no_pair_kept : (w v : World) (num : Num) (o : Object) → AgreeAt w v o → AgreeAt (without_pair w num) (without_pair v num) o
+no_pair_kept : (w v : World) (num : Num) (o : Object) → AgreeAt w v o → AgreeAt (removed_pair w num) (removed_pair v num) o
 no_pair_kept w v num (object.Pair q) e = removed_alike num_total w.pairs v.pairs num q e
 no_pair_kept w v num _ e = e
 
 no_pair_left : (w : World) (objects : List Object) (num : Num) → Contains objects (object.Pair num) → (o : Object) → (Contains objects o → ⊥)
-    → AgreeAt w (without_pair w num) o
+    → AgreeAt w (removed_pair w num) o
 no_pair_left w objects num has (object.Pair q) lacks = sym (get-remove_other num_total num_exact w.pairs num q (two object.Pair objects num q has lacks))
 no_pair_left w objects num has (object.Word at) lacks = refl
 no_pair_left w objects num has (object.Name q) lacks = refl
@@ -143,10 +143,10 @@ undone_alike w v (Moved from to) agree =
     let new = later_in (object.Name from) (object.Name to) (object.Name to ∷ []) (first_in (object.Name to) []) in
     moves_alike L w v to from (map.get w.names to) (map.get v.names to) (same_name L w v to new agree) new old agree
 undone_alike w v (NewPipe num) agree =
-    go (λ x. without_pipe x num) (object.Pipe num ∷ []) w v (no_pipe_kept w v num)
+    go (λ x. removed_pipe x num) (object.Pipe num ∷ []) w v (no_pipe_kept w v num)
     (λ x. record { others = no_pipe_left x (object.Pipe num ∷ []) num (first_in (object.Pipe num) []); count = refl; blocks = refl }) agree
 undone_alike w v (NewPair num) agree =
-    go (λ x. without_pair x num) (object.Pair num ∷ []) w v (no_pair_kept w v num)
+    go (λ x. removed_pair x num) (object.Pair num ∷ []) w v (no_pair_kept w v num)
     (λ x. record { others = no_pair_left x (object.Pair num ∷ []) num (first_in (object.Pair num) []); count = refl; blocks = refl }) agree
 
 -- a front that is restored

@@ -13,7 +13,7 @@ use Rattle.xc_data.specs.declared.private.Private.{Private}
 use Rattle.xc_data.specs.declared.undo.Undo.{Undo}
 use Rattle.xc_data.specs.Private.{place_of}
 use Rattle.xc_world.specs.Act.{act, done}
-use Rattle.xc_world.specs.Act.Step.{Stepped, counted, step_to}
+use Rattle.xc_world.specs.Act.Step.{Stepped, bytes_counted, step_to}
 use Rattle.xc_world.specs.Checks.{IsChecked, is_bad_handle, is_bad_word, is_file, is_too_big, is_too_much, refusal_of}
 use Rattle.xc_world.specs.RecordOf.{AreRecordsOf, IsRecordOf, leaves_record, left_by}
 use Rattle.xc_world.specs.Trail.{append_record, create_record, done_of, overwrite_record, pair_record, pipe_record, recorded, rename_record}
@@ -131,7 +131,7 @@ acted_of w me tx c a =
     if is_too_big c then step_to w me reply.TooBig
     else if is_too_much c me then step_to w me reply.TooMuch
     else if is_bad_word c (length w.words) then step_to w me reply.BadWord
-    else counted c (done w me tx c a) in
+    else bytes_counted c (done w me tx c a) in
     recorded_where w me tx c (act w me tx c a).reply (λ bad. ap (refused_if w me other) bad)
 
 -- ---- of calls

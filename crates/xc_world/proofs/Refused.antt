@@ -15,8 +15,8 @@ use Rattle.xc_data.specs.Private.{place_of, with_place, lowest_vacant}
 use Rattle.xc_world.specs.World.{World, file_of, pipe_of, pair_of, waiting}
 use Rattle.xc_world.specs.Checks.{is_bad_handle, is_too_big, is_too_much, is_bad_word, is_refused, refusal}
 use Rattle.xc_world.specs.Act.{act, fine, faulty, done}
-use Rattle.xc_world.specs.Act.Step.{Stepped, step_to, counted}
-use Rattle.xc_world.specs.Act.Names.{next_num, opened, created, renamed}
+use Rattle.xc_world.specs.Act.Step.{Stepped, step_to, bytes_counted}
+use Rattle.xc_world.specs.Act.Names.{next_num, open_step, create_step, rename_step}
 use Rattle.xc_world.specs.Act.Files.{read_at, overwrite_at, append_at, seek_at, len_at, overwrite_short, append_short}
 use Rattle.xc_world.specs.Act.Pipes.{new_pipe, read_pipe_at, pair_made, new_pair, received, receive_at}
 use Rattle.xc_world.specs.Laws.{is_refusal}
@@ -59,17 +59,17 @@ lens : (w : World) (me : Private) (p : Place) → StaysRefused w (len_at w me p)
 lens w me (place.File num at) = λ _. refl
 lens w me _ = λ _. refl
 
-opens : (w : World) (me : Private) (o : Option Num) (vacant : Option ℕ) → StaysRefused w (opened w me o vacant)
+opens : (w : World) (me : Private) (o : Option Num) (vacant : Option ℕ) → StaysRefused w (open_step w me o vacant)
 opens w me None vacant = λ _. refl
 opens w me (Some num) None = λ _. refl
 opens w me (Some num) (Some h) = λ _. refl
 
-creates : (w : World) (me : Private) (tx : ℕ) (name : List ℕ) (o : Option Num) (vacant : Option ℕ) → StaysRefused w (created w me tx name (o, vacant))
+creates : (w : World) (me : Private) (tx : ℕ) (name : List ℕ) (o : Option Num) (vacant : Option ℕ) → StaysRefused w (create_step w me tx name (o, vacant))
 creates w me tx name (Some num) vacant = λ _. refl
 creates w me tx name None None = λ _. refl
 creates w me tx name None (Some h) = λ e. cc
 
-renames : (w : World) (me : Private) (from to : List ℕ) (o there : Option Num) → StaysRefused w (renamed w me from to (o, there))
+renames : (w : World) (me : Private) (from to : List ℕ) (o there : Option Num) → StaysRefused w (rename_step w me from to (o, there))
 renames w me from to None there = λ _. refl
 renames w me from to (Some num) (Some q) = λ _. refl
 renames w me from to (Some num) None = λ e. cc
@@ -152,4 +152,4 @@ first_refusal w me false false false false s e = cc
 pub act_refused_whole : (w : World) (me : Private) (tx : ℕ) (call : Call) (answer : Answer) → IsTrue (is_refused call me (length w.words))
     → act w me tx call answer ≡ step_to w me (refusal call me)
 act_refused_whole w me tx c a e =
-    first_refusal w me (is_bad_handle c me) (is_too_big c) (is_too_much c me) (is_bad_word c (length w.words)) (counted c (done w me tx c a)) e
+    first_refusal w me (is_bad_handle c me) (is_too_big c) (is_too_much c me) (is_bad_word c (length w.words)) (bytes_counted c (done w me tx c a)) e

@@ -12,7 +12,7 @@ use Rattle.xc_data.specs.declared.call.LateAnswer.TheVariants as late_answer
 use Rattle.xc_data.specs.declared.private.Private.{Private}
 use Rattle.xc_world.specs.World.{World, Pipe}
 use Rattle.xc_world.specs.Late.{late, room}
-use Rattle.xc_world.specs.Fits.{late_fits, is_within, late_answer_of}
+use Rattle.xc_world.specs.Fits.{late_fits, is_late_within, late_answer_of}
 use Rattle.xc_world.specs.Run.{lates, lates_fit, late_asked_of}
 use Rattle.xc_world.specs.Laws.{AgreeAt, late_objects}
 use Rattle.xc_world.proofs.LocalParts.{agree_itself, first_in}
@@ -59,12 +59,12 @@ late_fits_alike w v (WritePipe num bytes) (late_answer.NoMemory n) agree =
 late_fits_alike w v c a agree = refl
 
 -- an answer that fits a late call tells of no more bytes than the call carries
-pub late_within : (w : World) (call : LateCall) (answer : LateAnswer) → IsTrue (late_fits w call answer) → IsTrue (is_within call answer)
-late_within w call late_answer.Fine fit = grind arith
-late_within w (WritePipe num bytes) (late_answer.Fault n) fit = grind arith
-late_within w (WritePipe num bytes) (late_answer.NoMemory n) fit = grind arith
-late_within w call (late_answer.Fault n) fit = grind arith
-late_within w call (late_answer.NoMemory n) fit = grind arith
+pub late_answer_within : (w : World) (call : LateCall) (answer : LateAnswer) → IsTrue (late_fits w call answer) → IsTrue (is_late_within call answer)
+late_answer_within w call late_answer.Fine fit = grind arith
+late_answer_within w (WritePipe num bytes) (late_answer.Fault n) fit = grind arith
+late_answer_within w (WritePipe num bytes) (late_answer.NoMemory n) fit = grind arith
+late_answer_within w call (late_answer.Fault n) fit = grind arith
+late_answer_within w call (late_answer.NoMemory n) fit = grind arith
 
 -- ---- all of them
 abbrev pub LateWithin : (Object → Type 0) → (Object → Type 0) → LateCall × LateAnswer → Type 0

@@ -14,14 +14,14 @@ use Rattle.xc_data.specs.declared.private.Private.{Private}
 use Rattle.xc_data.specs.Private.{with_place, is_vacant, lowest_vacant}
 use Rattle.xc_world.specs.World.{World, Pair, pipe_of, pair_of, waiting, with_waiting, with_pipe, with_pair, empty_pipe, empty_pair}
 use Rattle.xc_world.specs.Sound.{AreShort, HoldsShort, IsKnown, IsSound}
-use Rattle.xc_world.specs.Act.Names.{next_num, making, opened, created, renamed, with_new_file}
-use Rattle.xc_world.specs.Act.Pipes.{nothing, new_pipe, read_pipe_at, pair_made, new_pair, received, receive_at}
-use Rattle.xc_world.proofs.SoundParts.{chosen_so, there_put, keeps_all, keeps_moved, adds_named, keeps_pipe, adds_pipe, keeps_pair, adds_pair}
+use Rattle.xc_world.specs.Act.Names.{next_num, making, open_step, create_step, rename_step, with_new_file}
+use Rattle.xc_world.specs.Act.Pipes.{empty_or_end, new_pipe, read_pipe_at, pair_made, new_pair, received, receive_at}
+use Rattle.xc_world.proofs.SoundParts.{chosen_so, there_put, keeps_all, keeps_moved, adds_named, keeps_pipe, adds_pipe, with_pair_keeps, adds_pair}
 use Rattle.xc_world.proofs.SoundSteps.{StepsWell, got_length, quiet, adds_nothing, kept_sound, made_sound, with_place_sound}
 
 -- ---- names
 pub opened_well : (w : World) (me : Private) (tx : ℕ) (name : List ℕ) (o : Option Num) (vacant : Option ℕ) → map.get w.names name ≡ o → IsSound w me tx
-    → StepsWell w tx me 0 (opened w me o vacant)
+    → StepsWell w tx me 0 (open_step w me o vacant)
 opened_well w me tx name None vacant e s = quiet w me tx 0 reply.NoName (omega arith) s
 opened_well w me tx name (Some num) None e s = quiet w me tx 0 reply.TooMuch (omega arith) s
 opened_well w me tx name (Some num) (Some h) e s =
@@ -34,7 +34,7 @@ opened_well w me tx name (Some num) (Some h) e s =
 
 -- to make a file under a name steps well
 pub created_well : (w : World) (me : Private) (tx : ℕ) (name : List ℕ) (o : Option Num) (vacant : Option ℕ) → me.made < 16 → IsSound w me tx
-    → StepsWell w tx me 0 (created w me tx name (o, vacant))
+    → StepsWell w tx me 0 (create_step w me tx name (o, vacant))
 created_well w me tx name (Some num) vacant lt s = quiet w me tx 0 reply.Exists (omega arith) s
 created_well w me tx name None None lt s = quiet w me tx 0 reply.TooMuch (omega arith) s
 created_well w me tx name None (Some h) lt s =
@@ -49,7 +49,7 @@ created_well w me tx name None (Some h) lt s =
 
 -- to give a file another name steps well
 pub renamed_well : (w : World) (me : Private) (tx : ℕ) (from to : List ℕ) (o there : Option Num) → map.get w.names from ≡ o → IsSound w me tx
-    → StepsWell w tx me 0 (renamed w me from to (o, there))
+    → StepsWell w tx me 0 (rename_step w me from to (o, there))
 renamed_well w me tx from to None there e s = quiet w me tx 0 reply.NoName (omega arith) s
 renamed_well w me tx from to (Some num) (Some q) e s = quiet w me tx 0 reply.Exists (omega arith) s
 renamed_well w me tx from to (Some num) None e s =
@@ -79,7 +79,7 @@ pub read_pipe_well : (w : World) (me : Private) (tx n : ℕ) (p : Place) → IsK
 read_pipe_well w me tx n (place.Pipe num) known s =
     chosen_so (StepsWell w tx me n) (n == 0) _ _ (λ _. quiet w me tx n (reply.Got []) (omega arith) s) (λ _.
     chosen_so (StepsWell w tx me n) (length (pipe_of w num).held == 0) _ _
-    (λ _. quiet w me tx n (nothing (pipe_of w num)) (no_bytes (pipe_of w num).shut n) s) (λ _.
+    (λ _. quiet w me tx n (empty_or_end (pipe_of w num)) (no_bytes (pipe_of w num).shut n) s) (λ _.
     record {
       sound = kept_sound w _ me tx (keeps_pipe w num (record (pipe_of w num) { held = drop n (pipe_of w num).held }) s.world) known s;
       grows = keeps_all w _ (next_num me tx) (keeps_pipe w num (record (pipe_of w num) { held = drop n (pipe_of w num).held }) s.world) known;
@@ -183,7 +183,7 @@ received_well w me tx num side [] there short s =
 received_well w me tx num side (message ∷ messages) there short s =
     let kept = All-tail (λ (m : List ℕ). length m ≤ 1024) message messages short in
     let keeps =
-    keeps_pair w num (with_waiting (pair_of w num) side messages) (with_waiting_short (pair_of w num) side messages kept (s.world.messages num)) s.world in
+    with_pair_keeps w num (with_waiting (pair_of w num) side messages) (with_waiting_short (pair_of w num) side messages kept (s.world.messages num)) s.world in
     record {
       sound = kept_sound w _ me tx keeps there s;
       grows = keeps_all w _ (next_num me tx) keeps there;

@@ -12,7 +12,7 @@ use Rattle.xc_world.specs.World.{World, file_of}
 use Rattle.xc_world.specs.Sound.{IsKnown, IsSound}
 use Rattle.xc_world.specs.Fits.{is_done}
 use Rattle.xc_world.specs.Act.Names.{next_num}
-use Rattle.xc_world.specs.Act.Files.{open_at, read_at, overwritten, put, overwrite_at, appended, append_at, seek_at, len_at, overwrite_short, append_short}
+use Rattle.xc_world.specs.Act.Files.{open_at, read_at, overwritten, put, overwrite_at, append_step, append_at, seek_at, len_at, overwrite_short, append_short}
 use Rattle.xc_world.proofs.SoundParts.{chosen_so, keeps_all, keeps_file}
 use Rattle.xc_world.proofs.SoundSteps.{StepsWell, got_length, quiet, adds_nothing, kept_sound, with_place_sound}
 
@@ -63,7 +63,7 @@ overwrite_well w me tx h bytes (place.Pair num side) known s = quiet w me tx 0 r
 
 appended_well : (w : World) (me : Private) (tx h : ℕ) (num : Num) (at : ℕ) (bytes : List ℕ) (r : Reply) → is_some (map.get w.files num) ≡ true
     → length (file_of w num) + length bytes ≤ 65536 → got_length r ≤ 0 → IsSound w me tx
-    → StepsWell w tx me 0 (appended w me (open_at h num at) bytes r)
+    → StepsWell w tx me 0 (append_step w me (open_at h num at) bytes r)
 appended_well w me tx h num at bytes r there inside none s =
     let next = file_of w num ++ bytes in
     let keeps = keeps_file w num next (omega (arith, length-append (file_of w num) bytes)) s.world in

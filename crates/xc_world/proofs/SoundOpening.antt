@@ -15,7 +15,7 @@ use Rattle.xc_maps.specs.Keys.{num_cmp, name_cmp}
 use Rattle.xc_world.specs.World.{World, Pair, beginning, empty_pair}
 use Rattle.xc_world.specs.Sound.{HoldsShort, IsFit, IsFree, IsKnown, IsSound}
 use Rattle.xc_data.specs.Limits.{IsOpenedFit, KeepsLimits}
-use Rattle.xc_world.specs.Opening.{line_num, with_opened, with_all_opened, bare, opening, handles_of, opening_handles}
+use Rattle.xc_world.specs.Opening.{line_num, with_opened, with_all_opened, bare_world, opening, handles_of, opening_handles}
 use Rattle.xc_world.proofs.SoundParts.{Adds, there_put, adds_named, adds_pipe, adds_pair}
 use Rattle.xc_world.proofs.SoundCalls.{empty_short}
 
@@ -92,7 +92,7 @@ place_in P [] n h vacant all = subst P (sym (vacant_at n h)) vacant
 place_in P (p ∷ places) n zero vacant all = All-head P p places all
 place_in P (p ∷ places) n (suc h) vacant all = place_in P places n h vacant (All-tail P p places all)
 
-bare_fit : (script : Outline) → IsFit (bare script)
+bare_fit : (script : Outline) → IsFit (bare_world script)
 bare_fit script =
     record {
       files = λ q. subst (λ (o : Option (List ℕ)). length (unwrap_or o []) ≤ 65536) (sym (map.get-empty num_cmp q)) (omega arith);
@@ -100,14 +100,14 @@ bare_fit script =
       names = λ name num e. let none : None ≡ Some num = sym (map.get-empty name_cmp name) ∙ e in cc;
     }
 
-bare_free : (script : Outline) (q : Num) → IsFree (bare script) q
+bare_free : (script : Outline) (q : Num) → IsFree (bare_world script) q
 bare_free script q = record { file = map.get-empty num_cmp q; pipe = map.get-empty num_cmp q; pair = map.get-empty num_cmp q }
 
 -- a script within its limits opens a sound world
 pub opening_sound : (script : Outline) → KeepsLimits script → (tx : ℕ) → 0 < tx → IsSound (opening script) (beginning (opening_handles script)) tx
 opening_sound script limits tx lt =
     let objects = script.prologue.objects in
-    let all = all_opened (bare script) 0 objects limits.prologue.contents (bare_fit script) in
+    let all = all_opened (bare_world script) 0 objects limits.prologue.contents (bare_fit script) in
     let handles = handles_of 0 objects in
     record {
       world = all.fit;
@@ -116,5 +116,5 @@ opening_sound script limits tx lt =
       new = λ k le. all.free (record { tx = tx; k = k }) lt (bare_free script (record { tx = tx; k = k }));
       handles =
           λ h. place_in (IsKnown (opening script)) handles (256 - length handles) h tt
-          (handles_known (bare script) 0 objects limits.prologue.contents (bare_fit script));
+          (handles_known (bare_world script) 0 objects limits.prologue.contents (bare_fit script));
     }

@@ -100,8 +100,8 @@ pub record Adds (w v : World) (num : Num) : Type 0 where
   pub free : (q : Num) → (q ≢ num) → IsFree w q → IsFree v q
 
 -- a fit world keeps itself
-pub keeps_itself : (there : Bool) (w : World) → IsFit w → Keeps there w w
-keeps_itself there w fit = record { fit = fit; known = λ p known. known; free = λ _ q free. free }
+pub fit_keeps_itself : (there : Bool) (w : World) → IsFit w → Keeps there w w
+fit_keeps_itself there w fit = record { fit = fit; known = λ p known. known; free = λ _ q free. free }
 
 -- what keeps adds nothing
 pub keeps_all : {there : Bool} (w v : World) (num : Num) → Keeps there w v → there ≡ true → Adds w v num
@@ -216,8 +216,8 @@ fit_pair w num pair short fit =
     record { files = fit.files; messages = λ q. all_insert HoldsShort w.pairs num q pair empty_pair short (fit.messages q); names = fit.names }
 
 -- a pair becomes another
-pub keeps_pair : (w : World) (num : Num) (pair : Pair) → HoldsShort pair → IsFit w → Keeps (is_some (map.get w.pairs num)) w (with_pair w num pair)
-keeps_pair w num pair short fit =
+pub with_pair_keeps : (w : World) (num : Num) (pair : Pair) → HoldsShort pair → IsFit w → Keeps (is_some (map.get w.pairs num)) w (with_pair w num pair)
+with_pair_keeps w num pair short fit =
     record {
       fit = fit_pair w num pair short fit;
       known = known_pair w num pair;

@@ -26,7 +26,7 @@ use Rattle.xc_data.specs.Calls.{late_call, sync_of, write_pipe_of, shutdown_of, 
 use Rattle.xc_world.specs.Sound.{IsFit, IsKnown, IsSound, IsShortCall, is_there, names_there, IsReady}
 use Rattle.xc_world.proofs.SoundParts.{chosen_so}
 use Rattle.xc_world.proofs.Sound.{act_well}
-use Rattle.xc_world.proofs.SoundLate.{late_keeps}
+use Rattle.xc_world.proofs.SoundLate.{late_keeps_objects}
 
 -- ---- what is there stays there
 there_known : (w v : World) → ((p : Place) → IsKnown w p → IsKnown v p) → (o : Object) → is_there w o ≡ true → is_there v o ≡ true
@@ -52,7 +52,7 @@ act_keeps_ready w me tx c a d fit s ready = ready_known w (act w me tx c a).worl
 
 -- a short late call keeps another one ready
 pub late_keeps_ready : (w : World) (c : LateCall) (a : LateAnswer) (d : LateCall) → IsShortCall c → IsFit w → IsReady w d → IsReady (late w c a).world d
-late_keeps_ready w c a d short fit ready = ready_known w (late w c a).world (late_keeps w c a short fit).known d ready
+late_keeps_ready w c a d short fit ready = ready_known w (late w c a).world (late_keeps_objects w c a short fit).known d ready
 
 -- ---- what a call leaves
 one_ready : (w : World) (c : LateCall) → IsShortCall c → names_there w c ≡ true → All (IsReady w) (c ∷ [])

@@ -11,7 +11,7 @@ use Rattle.xc_world.specs.World.{World}
 use Rattle.xc_world.specs.Sound.{IsFit, IsKnown, IsSound}
 use Rattle.xc_world.specs.Act.Step.{Stepped, step_to, storing}
 use Rattle.xc_world.specs.Act.Names.{next_num, making}
-use Rattle.xc_world.proofs.SoundParts.{Keeps, Adds, keeps_itself, keeps_all}
+use Rattle.xc_world.proofs.SoundParts.{Keeps, Adds, fit_keeps_itself, keeps_all}
 
 -- ---- a private state that became another
 -- what stands at a handle after one place is set
@@ -79,7 +79,7 @@ pub record StepsWell (w : World) (tx : ℕ) (me : Private) (n : ℕ) (s : Steppe
 
 -- a fit world that stays adds nothing
 pub adds_nothing : (w : World) (num : Num) → IsFit w → Adds w w num
-adds_nothing w num fit = keeps_all w w num (keeps_itself true w fit) refl
+adds_nothing w num fit = keeps_all w w num (fit_keeps_itself true w fit) refl
 
 -- a call that changes nothing steps well
 pub quiet : (w : World) (me : Private) (tx n : ℕ) (r : Reply) → got_length r ≤ n → IsSound w me tx → StepsWell w tx me n (step_to w me r)

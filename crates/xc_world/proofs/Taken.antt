@@ -21,7 +21,7 @@ use Rattle.xc_maps.proofs.Laws.{get-insert_same, insert-get_same, insert-insert_
 use Rattle.xc_world.specs.World.{World, Pipe, Pair, pipe_of, pair_of, empty_pipe, empty_pair, with_pipe, with_pair, waiting, with_waiting}
 use Rattle.xc_world.specs.Act.{act, done}
 use Rattle.xc_world.specs.Act.Step.{Stepped, step_to}
-use Rattle.xc_world.specs.Act.Pipes.{nothing, took, read_pipe_at, received, receive_at}
+use Rattle.xc_world.specs.Act.Pipes.{empty_or_end, took, read_pipe_at, received, receive_at}
 use Rattle.xc_world.specs.Fits.{fits}
 use Rattle.xc_world.specs.Sound.{IsSound, IsKnown}
 use Rattle.xc_world.specs.Trail.{recorded}
@@ -35,22 +35,23 @@ use Rattle.xc_world.proofs.EffectsCalls.{act-leads}
 use Rattle.xc_data.specs.declared.call.CallWithAnswer.{CallWithAnswer}
 use Rattle.xc_data.specs.declared.entry.KeptItem.{KeptItem}
 use Rattle.xc_data.specs.declared.entry.KeptItem.TheVariants.{Bytes, Message}
-use Rattle.xc_world.specs.Run.{BodyResult, begins, bytes_taken, message_taken, taken_by, gives, given_back, step, goes_on, gone_back, opens, body_state, body}
+use Rattle.xc_world.specs.Run.{BodyResult, begins, bytes_taken, message_taken, taken_by, gives, given_back, step, after_calls, gone_back, opens, body_state}
+use Rattle.xc_world.specs.Run.{body}
 use Rattle.xc_world.specs.Run.{body_fits}
-use Rattle.xc_world.proofs.Blocks.{FitEach, Fits, Kept, State, fit_all, runs_keep}
+use Rattle.xc_world.proofs.Blocks.{FitEach, Fits, Kept, BlockHolds, fit_all, runs_keep}
 use Rattle.xc_world.proofs.EffectsBody.{back_sound}
-use Rattle.xc_world.proofs.TakenApart.{IsInFront, stands_on, pipe_there, pair_there, AllApart, given_words, given_remains}
+use Rattle.xc_world.proofs.TakenApart.{HasItsObject, stands_on, pipe_there, pair_there, AllApart, given_with_words, given_remains}
 use Rattle.xc_world.proofs.TakenApart.{given_append, recorded_apart}
 
 -- ---- one call
 -- what a call took, given back, leads to the world before it
 pub record TakesBack (w : World) (me : Private) (c : Call) (s : Stepped) : Type 0 where
   pub back : given_back s.world (taken_by c me s.reply) ≡ w
-  pub there : All (IsInFront s.world) (taken_by c me s.reply)
+  pub there : All (HasItsObject s.world) (taken_by c me s.reply)
   pub words : s.world.words ≡ w.words
 
 takes_nothing : (w : World) (me : Private) (c : Call) (r : Reply) (you : Private) → taken_by c me r ≡ [] → TakesBack w me c (step_to w you r)
-takes_nothing w me c r you e = record { back = ap (given_back w) e; there = subst (All (IsInFront w)) (sym e) (All-nil (IsInFront w)); words = refl }
+takes_nothing w me c r you e = record { back = ap (given_back w) e; there = subst (All (HasItsObject w)) (sym e) (All-nil (HasItsObject w)); words = refl }
 
 -- put back where it was taken from
 pipe_back : (w : World) (num : Num) (p : Pipe) (bytes : List ℕ) → is_some (map.get w.pipes num) ≡ true → record p { held = bytes ++ p.held } ≡ pipe_of w num
@@ -71,7 +72,7 @@ some_taken (suc n) (x ∷ held) some more = eqb-suc-zero (length (take n held))
 took_back : (w : World) (me : Private) (h n : ℕ) (num : Num) → (n == 0) ≡ false → (length (pipe_of w num).held == 0) ≡ false
     → is_some (map.get w.pipes num) ≡ true
     → (taken : List KeptItem) → taken ≡ Bytes num (take n (pipe_of w num).held) ∷ []
-    → (given_back (took w me num n).world taken ≡ w) × All (IsInFront (took w me num n).world) taken
+    → (given_back (took w me num n).world taken ≡ w) × All (HasItsObject (took w me num n).world) taken
 took_back w me h n num some more there taken e =
     let p = pipe_of w num in
     let bytes = take n p.held in
@@ -79,7 +80,7 @@ took_back w me h n num some more there taken e =
     let rest : Pipe = record p { held = drop n p.held } in
     let whole_again : record rest { held = bytes ++ drop n p.held } ≡ p = ap (λ l. record p { held = l }) (take-append-drop n p.held) in (
       ap (given_back after) e ∙ pipe_back w num rest bytes there whole_again,
-      subst (All (IsInFront after)) (sym e) (All-cons (IsInFront after) (Bytes num bytes) [] (there_put w.pipes num rest) (All-nil (IsInFront after))),
+      subst (All (HasItsObject after)) (sym e) (All-cons (HasItsObject after) (Bytes num bytes) [] (there_put w.pipes num rest) (All-nil (HasItsObject after))),
     )
 
 read_pipe_back : (w : World) (me : Private) (h n : ℕ) (p : Place) → p ≡ place_of me.places h → IsKnown w p
@@ -89,7 +90,7 @@ read_pipe_back w me h n (place.Pipe num) is known =
     let empty : bytes_taken (place_of me.places h) [] ≡ [] = ap (λ q. bytes_taken q []) (sym is) in
     chosen_so (TakesBack w me c) (n == 0) _ _ (λ _. takes_nothing w me c (reply.Got []) me empty) (λ some.
     chosen_so (TakesBack w me c) (length (pipe_of w num).held == 0) _ _
-    (λ _. takes_nothing w me c (nothing (pipe_of w num)) me (none_of_nothing (pipe_of w num).shut)) (λ more.
+    (λ _. takes_nothing w me c (empty_or_end (pipe_of w num)) me (none_of_nothing (pipe_of w num).shut)) (λ more.
     let bytes = take n (pipe_of w num).held in
     let e : bytes_taken (place_of me.places h) bytes ≡ Bytes num bytes ∷ [] =
     ap (λ q. bytes_taken q bytes) (sym is) ∙ ap (λ b. if b then [] else Bytes num bytes ∷ []) (some_taken n (pipe_of w num).held some more) in
@@ -138,8 +139,8 @@ received_back w me h num side (message ∷ messages) is there e =
     record {
       back = ap (given_back after) taken ∙ back;
       there =
-          subst (All (IsInFront after)) (sym taken)
-          (All-cons (IsInFront after) (Message num side message) [] (there_put w.pairs num rest) (All-nil (IsInFront after)));
+          subst (All (HasItsObject after)) (sym taken)
+          (All-cons (HasItsObject after) (Message num side message) [] (there_put w.pairs num rest) (All-nil (HasItsObject after)));
       words = refl;
     }
 
@@ -206,22 +207,22 @@ act_takes w me tx c a takes known =
     (let d = answered w me tx c a takes known in record { back = d.back; there = d.there; words = d.words })
 
 -- ---- a body
-pub record Returns (w : World) (tx : ℕ) (r : BodyResult) : Type 0 where
+pub record ReturnsTaken (w : World) (tx : ℕ) (r : BodyResult) : Type 0 where
   pub sound : IsSound r.world r.me tx
-  pub there : All (IsInFront r.world) r.taken
+  pub there : All (HasItsObject r.world) r.taken
   pub back : given_back r.world r.taken ≡ with_words (with_remains w (whole r.trail)) r.world.words
 
 -- what was taken stands on, and what a call takes stands
 stand_on : (tx : ℕ) (r : BodyResult) (c : CallWithAnswer) → IsTrue (fits r.world r.me tx c.call c.answer) → IsSound r.world r.me tx
-    → All (IsInFront r.world) r.taken
-    → All (IsInFront (act r.world r.me tx c.call c.answer).world) r.taken
+    → All (HasItsObject r.world) r.taken
+    → All (HasItsObject (act r.world r.me tx c.call c.answer).world) r.taken
 stand_on tx r c fit sound there =
-    All-weaker (IsInFront r.world) (IsInFront (act r.world r.me tx c.call c.answer).world)
+    All-weaker (HasItsObject r.world) (HasItsObject (act r.world r.me tx c.call c.answer).world)
     (λ t so. stands_on r.world r.me tx c.call c.answer t fit sound so) r.taken there
 
 taking_returns : (w : World) (tx : ℕ) (r : BodyResult) (c : CallWithAnswer) → takes_data c.call ≡ true → IsTrue (fits r.world r.me tx c.call c.answer)
-    → Returns w tx r
-    → Returns w tx (step tx r c)
+    → ReturnsTaken w tx r
+    → ReturnsTaken w tx (step tx r c)
 taking_returns w tx r c takes fit so =
     let s = act r.world r.me tx c.call c.answer in
     let took = act_takes r.world r.me tx c.call c.answer takes (sound_knows r.world r.me tx c.call so.sound) in
@@ -230,15 +231,15 @@ taking_returns w tx r c takes fit so =
     sym (ap (λ us. r.trail ++ us) (no_record r.world r.me tx c.call s.reply takes) ∙ append-nil r.trail) in
     record {
       sound = act_sound r.world r.me tx c.call c.answer fit so.sound;
-      there = All-append (IsInFront s.world) r.taken new (stand_on tx r c fit so.sound so.there) took.there;
+      there = All-append (HasItsObject s.world) r.taken new (stand_on tx r c fit so.sound so.there) took.there;
       back =
           given_append s.world r.taken new ∙ ap (λ x. given_back x r.taken) took.back ∙ so.back
           ∙ ap₂ (λ us ws. with_words (with_remains w (whole us)) ws) same_trail (sym took.words);
     }
 
 quiet_returns : (w : World) (tx : ℕ) (r : BodyResult) (c : CallWithAnswer) → takes_data c.call ≡ false → IsTrue (fits r.world r.me tx c.call c.answer)
-    → Returns w tx r
-    → Returns w tx (step tx r c)
+    → ReturnsTaken w tx r
+    → ReturnsTaken w tx (step tx r c)
 quiet_returns w tx r c quiet fit so =
     let s = act r.world r.me tx c.call c.answer in
     let us = recorded r.world r.me tx c.call s.reply in
@@ -247,47 +248,47 @@ quiet_returns w tx r c quiet fit so =
     let none = no_data c.call r.me s.reply quiet in
     let same_taken : r.taken ++ taken_by c.call r.me s.reply ≡ r.taken = ap (λ ts. r.taken ++ ts) none ∙ append-nil r.taken in
     let apart : All (AllApart us) r.taken =
-    All-weaker (IsInFront r.world) (AllApart us)
+    All-weaker (HasItsObject r.world) (AllApart us)
     (λ t there. recorded_apart r.world r.me tx c.call s.reply t (so.sound.new r.me.made (omega arith)) there) r.taken so.there in
     record {
       sound = act_sound r.world r.me tx c.call c.answer fit so.sound;
-      there = subst (All (IsInFront s.world)) (sym same_taken) (stand_on tx r c fit so.sound so.there);
+      there = subst (All (HasItsObject s.world)) (sym same_taken) (stand_on tx r c fit so.sound so.there);
       back =
           ap (given_back s.world) same_taken
           ∙ ap (λ x. given_back x r.taken) (act-leads r.world r.me tx c.call c.answer quiet)
-          ∙ given_words (with_remains r.world (whole us)) ws r.taken
+          ∙ given_with_words (with_remains r.world (whole us)) ws r.taken
           ∙ ap (λ x. with_words x ws) (given_remains r.world us r.taken apart)
           ∙ ap (λ x. with_words (with_remains x (whole us)) ws) so.back
           ∙ ap (λ x. with_words x ws) (remains-words begin r.world.words (whole us))
           ∙ ap (λ x. with_words x ws) (sym (ap (with_remains w) (whole-append r.trail us) ∙ remains-append w (whole r.trail) (whole us)));
     }
 
-step_returns : (w : World) (tx : ℕ) (r : BodyResult) (c : CallWithAnswer) → IsTrue (fits r.world r.me tx c.call c.answer) → Returns w tx r
-    → Returns w tx (step tx r c)
+step_returns : (w : World) (tx : ℕ) (r : BodyResult) (c : CallWithAnswer) → IsTrue (fits r.world r.me tx c.call c.answer) → ReturnsTaken w tx r
+    → ReturnsTaken w tx (step tx r c)
 step_returns w tx r c fit so = by_kind (takes_data c.call) refl
   where
-    by_kind : (b : Bool) → takes_data c.call ≡ b → Returns w tx (step tx r c)
+    by_kind : (b : Bool) → takes_data c.call ≡ b → ReturnsTaken w tx (step tx r c)
     by_kind true e = taking_returns w tx r c e fit so
     by_kind false e = quiet_returns w tx r c e fit so
 
 -- a block that went back
-back_returns : (w : World) (tx : ℕ) (s : BodyResult) (calls : List CallWithAnswer) → FitEach tx (Fits tx) s calls → Returns w tx s
-    → Returns w tx (goes_on tx s calls) → Returns w tx (gone_back s (goes_on tx s calls))
+back_returns : (w : World) (tx : ℕ) (s : BodyResult) (calls : List CallWithAnswer) → FitEach tx (Fits tx) s calls → ReturnsTaken w tx s
+    → ReturnsTaken w tx (after_calls tx s calls) → ReturnsTaken w tx (gone_back s (after_calls tx s calls))
 back_returns w tx s calls fit was is = record { sound = back_sound tx s calls fit was.sound is.sound; there = was.there; back = was.back }
 
 -- what was taken and recorded is kept by all calls
-pub kept_returns : (w : World) (tx : ℕ) → Kept tx (Fits tx) (Returns w tx)
+pub kept_returns : (w : World) (tx : ℕ) → Kept tx (Fits tx) (ReturnsTaken w tx)
 kept_returns w tx = record { plain = step_returns w tx; back = back_returns w tx }
 
 -- a begin
-pub begins_returns : (w : World) (me : Private) (tx : ℕ) → IsSound w me tx → Returns w tx (begins w me)
-begins_returns w me tx sound = record { sound = sound; there = All-nil (IsInFront w); back = refl }
+pub begins_returns : (w : World) (me : Private) (tx : ℕ) → IsSound w me tx → ReturnsTaken w tx (begins w me)
+begins_returns w me tx sound = record { sound = sound; there = All-nil (HasItsObject w); back = refl }
 
 -- a body, and its open block's save
 pub state_returns : (w : World) (me : Private) (tx : ℕ) (asked : List CallWithAnswer) → IsSound w me tx → IsTrue (body_fits w me tx asked)
-    → State tx (Fits tx) (Returns w tx) (body_state w me tx asked)
+    → BlockHolds tx (Fits tx) (ReturnsTaken w tx) (body_state w me tx asked)
 state_returns w me tx asked sound fit =
-    runs_keep tx (Fits tx) (Returns w tx) (kept_returns w tx) (opens w me) asked (fit_all tx (opens w me) asked fit)
+    runs_keep tx (Fits tx) (ReturnsTaken w tx) (kept_returns w tx) (opens w me) asked (fit_all tx (opens w me) asked fit)
     (record { now = begins_returns w me tx sound; saved = tt })
 
 -- but for the words, what a body took, given back, leaves the world with the effects of its records

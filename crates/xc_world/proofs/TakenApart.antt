@@ -35,13 +35,13 @@ use Rattle.xc_data.specs.declared.entry.KeptItem.TheVariants.{Bytes, Message}
 use Rattle.xc_world.specs.Run.{gives, given_back}
 
 -- ---- the object of what was taken is there
-abbrev pub IsInFront : World → KeptItem → Type 0
-IsInFront w (Bytes num bytes) = is_some (map.get w.pipes num) ≡ true
-IsInFront w (Message num side bytes) = is_some (map.get w.pairs num) ≡ true
+abbrev pub HasItsObject : World → KeptItem → Type 0
+HasItsObject w (Bytes num bytes) = is_some (map.get w.pipes num) ≡ true
+HasItsObject w (Message num side bytes) = is_some (map.get w.pairs num) ≡ true
 
 -- what a call takes comes from a pipe or a pair that is there
-pub stands_on : (w : World) (me : Private) (tx : ℕ) (c : Call) (a : Answer) (t : KeptItem) → IsTrue (fits w me tx c a) → IsSound w me tx → IsInFront w t
-    → IsInFront (act w me tx c a).world t
+pub stands_on : (w : World) (me : Private) (tx : ℕ) (c : Call) (a : Answer) (t : KeptItem) → IsTrue (fits w me tx c a) → IsSound w me tx → HasItsObject w t
+    → HasItsObject (act w me tx c a).world t
 stands_on w me tx c a (Bytes num bytes) fit sound there =
     (act_keeps_ready w me tx c a (WritePipe num []) fit sound (record { short = omega arith; there = there })).there
 stands_on w me tx c a (Message num side bytes) fit sound there =
@@ -116,9 +116,9 @@ gives_remains x (u ∷ us) t apart =
     gives_remains (with_effect x u 0) us t (All-tail P u us apart) ∙ ap (λ y. with_remains y (whole us)) (gives_effect x u 0 t (All-head P u us apart))
 
 -- giving back leaves the words
-pub given_words : (x : World) (words : List ℕ) (ts : List KeptItem) → given_back (with_words x words) ts ≡ with_words (given_back x ts) words
-given_words x words [] = refl
-given_words x words (t ∷ ts) = ap (λ y. gives y t) (given_words x words ts) ∙ gives_words (given_back x ts) words t
+pub given_with_words : (x : World) (words : List ℕ) (ts : List KeptItem) → given_back (with_words x words) ts ≡ with_words (given_back x ts) words
+given_with_words x words [] = refl
+given_with_words x words (t ∷ ts) = ap (λ y. gives y t) (given_with_words x words ts) ∙ gives_words (given_back x ts) words t
 
 -- giving back and the effects of records of other objects can change places
 pub given_remains : (x : World) (us : List Undo) (ts : List KeptItem) → All (AllApart us) ts
@@ -139,12 +139,12 @@ nothing_apart t = All-nil (λ u. Apart u t)
 one_apart : (t : KeptItem) (u : Undo) → Apart u t → AllApart (u ∷ []) t
 one_apart t u apart = All-cons (λ v. Apart v t) u [] apart (nothing_apart t)
 
-new_pipe_apart : (w : World) (n : Num) (t : KeptItem) → IsFree w n → IsInFront w t → Apart (NewPipe n) t
+new_pipe_apart : (w : World) (n : Num) (t : KeptItem) → IsFree w n → HasItsObject w t → Apart (NewPipe n) t
 new_pipe_apart w n (Bytes num bytes) free there =
     λ e. let bad : is_some {T = Pipe} None ≡ true = ap is_some (sym free.pipe ∙ ap (map.get w.pipes) (sym e)) ∙ there in cc
 new_pipe_apart w n (Message num side bytes) free there = tt
 
-new_pair_apart : (w : World) (n : Num) (t : KeptItem) → IsFree w n → IsInFront w t → Apart (NewPair n) t
+new_pair_apart : (w : World) (n : Num) (t : KeptItem) → IsFree w n → HasItsObject w t → Apart (NewPair n) t
 new_pair_apart w n (Message num side bytes) free there =
     λ e. let bad : is_some {T = Pair} None ≡ true = ap is_some (sym free.pair ∙ ap (map.get w.pairs) (sym e)) ∙ there in cc
 new_pair_apart w n (Bytes num bytes) free there = tt
@@ -169,16 +169,16 @@ rename_apart : (from to : List ℕ) (r : Reply) (t : KeptItem) → AllApart (ren
 rename_apart from to reply.Done t = one_apart t _ tt
 rename_apart from to _ t = nothing_apart t
 
-pipe_apart : (w : World) (me : Private) (tx : ℕ) (r : Reply) (t : KeptItem) → IsFree w (next_num me tx) → IsInFront w t → AllApart (pipe_record me tx r) t
+pipe_apart : (w : World) (me : Private) (tx : ℕ) (r : Reply) (t : KeptItem) → IsFree w (next_num me tx) → HasItsObject w t → AllApart (pipe_record me tx r) t
 pipe_apart w me tx (reply.Made h) t free there = one_apart t _ (new_pipe_apart w (next_num me tx) t free there)
 pipe_apart w me tx _ t free there = nothing_apart t
 
-pair_apart : (w : World) (me : Private) (tx : ℕ) (r : Reply) (t : KeptItem) → IsFree w (next_num me tx) → IsInFront w t → AllApart (pair_record me tx r) t
+pair_apart : (w : World) (me : Private) (tx : ℕ) (r : Reply) (t : KeptItem) → IsFree w (next_num me tx) → HasItsObject w t → AllApart (pair_record me tx r) t
 pair_apart w me tx (reply.MadePair h g) t free there = one_apart t _ (new_pair_apart w (next_num me tx) t free there)
 pair_apart w me tx _ t free there = nothing_apart t
 
 -- the records of a call are apart from what was taken
-pub recorded_apart : (w : World) (me : Private) (tx : ℕ) (c : Call) (r : Reply) (t : KeptItem) → IsFree w (next_num me tx) → IsInFront w t
+pub recorded_apart : (w : World) (me : Private) (tx : ℕ) (c : Call) (r : Reply) (t : KeptItem) → IsFree w (next_num me tx) → HasItsObject w t
     → AllApart (recorded w me tx c r) t
 recorded_apart w me tx (call.XWriteOvr h bytes) r t free there = overwrite_apart w bytes _ (place_of me.places h) t
 recorded_apart w me tx (call.XWriteSeq h bytes) r t free there = append_apart w bytes _ (place_of me.places h) t

@@ -36,15 +36,15 @@ use Rattle.xc_data.specs.declared.claim.Claim.{Claim}
 use Rattle.xc_data.specs.declared.call.CallWithAnswer.{CallWithAnswer}
 use Rattle.xc_data.specs.Claims.{objects, owned}
 use Rattle.xc_world.specs.Modes.{mode_of, claims_of}
-use Rattle.xc_world.specs.Run.{BodyResult, step, goes_on, gone_back, opens, body}
+use Rattle.xc_world.specs.Run.{BodyResult, step, after_calls, gone_back, opens, body}
 use Rattle.xc_world.proofs.Blocks.{Any, any_all, runs_keep}
 use Rattle.xc_world.specs.Own.{IsNumbered, Sees, Owns, LooksWithin, late_changes, SpeaksOfOwn}
 use Rattle.xc_world.proofs.Calls.{act_cases, touched_all, objects_of_claims, owned_of_call}
-use Rattle.xc_world.proofs.Bodies.{in_front, behind, owned_behind, owns_in_front}
+use Rattle.xc_world.proofs.Bodies.{earlier_claims, later_claims, owned_behind, owns_in_front}
 
 -- the objects of a record are of this kind
-abbrev pub Speaks : (Object → Type 0) → Undo → Type 0
-Speaks own u = All own (objects_of u)
+abbrev pub SpeaksOnlyOf : (Object → Type 0) → Undo → Type 0
+SpeaksOnlyOf own u = All own (objects_of u)
 
 -- the names of a rename
 abbrev both_of : List ℕ → List ℕ → List Object
@@ -68,46 +68,46 @@ module _ (sees own : Object → Type 0) where
   seen : (o : Object) → sees o → All sees (o ∷ [])
   seen o has = All-cons sees o [] has (All-nil sees)
 
-  no_record : All (Speaks own) []
-  no_record = All-nil (Speaks own)
+  no_record : All (SpeaksOnlyOf own) []
+  no_record = All-nil (SpeaksOnlyOf own)
 
-  one_record : (u : Undo) → Speaks own u → All (Speaks own) (u ∷ [])
-  one_record u speaks = All-cons (Speaks own) u [] speaks (All-nil (Speaks own))
+  one_record : (u : Undo) → SpeaksOnlyOf own u → All (SpeaksOnlyOf own) (u ∷ [])
+  one_record u speaks = All-cons (SpeaksOnlyOf own) u [] speaks (All-nil (SpeaksOnlyOf own))
 
   -- ---- records
   overwrite_speaks : (w : World) (bytes : List ℕ) (n : ℕ) (p : Place) → ((o : Object) → Contains (object_at p) o → own o)
-      → All (Speaks own) (overwrite_record w bytes n p)
+      → All (SpeaksOnlyOf own) (overwrite_record w bytes n p)
   overwrite_speaks w bytes n (place.File num at) has =
-      chosen_so (All (Speaks own)) (n == 0) _ _ (λ _. no_record)
+      chosen_so (All (SpeaksOnlyOf own)) (n == 0) _ _ (λ _. no_record)
       (λ _. one_record _ (one (object.File num) (has (object.File num) (first_in (object.File num) []))))
   overwrite_speaks w bytes n place.Vacant has = no_record
   overwrite_speaks w bytes n (place.Pipe num) has = no_record
   overwrite_speaks w bytes n (place.Pair num side) has = no_record
 
   append_speaks : (w : World) (bytes : List ℕ) (n : ℕ) (p : Place) → ((o : Object) → Contains (object_at p) o → own o)
-      → All (Speaks own) (append_record w bytes n p)
+      → All (SpeaksOnlyOf own) (append_record w bytes n p)
   append_speaks w bytes n (place.File num at) has =
-      chosen_so (All (Speaks own)) (n == 0) _ _ (λ _. no_record)
+      chosen_so (All (SpeaksOnlyOf own)) (n == 0) _ _ (λ _. no_record)
       (λ _. one_record _ (one (object.File num) (has (object.File num) (first_in (object.File num) []))))
   append_speaks w bytes n place.Vacant has = no_record
   append_speaks w bytes n (place.Pipe num) has = no_record
   append_speaks w bytes n (place.Pair num side) has = no_record
 
   create_speaks : (me : Private) (tx : ℕ) (name : List ℕ) (r : Reply) → own (object.Name name) → own (object.File (next_num me tx))
-      → All (Speaks own) (create_record me tx name r)
+      → All (SpeaksOnlyOf own) (create_record me tx name r)
   create_speaks me tx name (reply.Made h) named made =
       one_record _ (All-cons own (object.Name name) (object.File (next_num me tx) ∷ []) named (one (object.File (next_num me tx)) made))
   create_speaks me tx name _ named made = no_record
 
-  rename_speaks : (from to : List ℕ) (r : Reply) → own (object.Name from) → own (object.Name to) → All (Speaks own) (rename_record from to r)
+  rename_speaks : (from to : List ℕ) (r : Reply) → own (object.Name from) → own (object.Name to) → All (SpeaksOnlyOf own) (rename_record from to r)
   rename_speaks from to reply.Done old new = one_record _ (All-cons own (object.Name from) (object.Name to ∷ []) old (one (object.Name to) new))
   rename_speaks from to _ old new = no_record
 
-  pipe_speaks : (me : Private) (tx : ℕ) (r : Reply) → own (object.Pipe (next_num me tx)) → All (Speaks own) (pipe_record me tx r)
+  pipe_speaks : (me : Private) (tx : ℕ) (r : Reply) → own (object.Pipe (next_num me tx)) → All (SpeaksOnlyOf own) (pipe_record me tx r)
   pipe_speaks me tx (reply.Made h) made = one_record _ (one (object.Pipe (next_num me tx)) made)
   pipe_speaks me tx _ made = no_record
 
-  pair_speaks : (me : Private) (tx : ℕ) (r : Reply) → own (object.Pair (next_num me tx)) → All (Speaks own) (pair_record me tx r)
+  pair_speaks : (me : Private) (tx : ℕ) (r : Reply) → own (object.Pair (next_num me tx)) → All (SpeaksOnlyOf own) (pair_record me tx r)
   pair_speaks me tx (reply.MadePair h g) made = one_record _ (one (object.Pair (next_num me tx)) made)
   pair_speaks me tx _ made = no_record
 
@@ -117,7 +117,7 @@ module _ (sees own : Object → Type 0) where
 
   passed_speaks : (w : World) (me : Private) (tx : ℕ) (c : Call) (r : Reply)
       → (mode_of c ≡ Exclusive → (o : Object) → Contains (objects_of_call c me) o → own o) → ((o : Object) → IsNumbered tx o → own o)
-      → All (Speaks own) (recorded w me tx c r)
+      → All (SpeaksOnlyOf own) (recorded w me tx c r)
   passed_speaks w me tx (call.XWriteOvr h bytes) r has numbered = overwrite_speaks w bytes _ (place_of me.places h) (has refl)
   passed_speaks w me tx (call.XWriteSeq h bytes) r has numbered = append_speaks w bytes _ (place_of me.places h) (has refl)
   passed_speaks w me tx (call.XCreate name) r has numbered =
@@ -193,7 +193,7 @@ module _ (sees own : Object → Type 0) where
 -- ---- one call
 -- the records and the late calls that a call leaves, by its claims
 pub record CallSpeaks (sees own : Object → Type 0) (records : List Undo) (kept : List LateCall) : Type 0 where
-  pub trail : All (Speaks own) records
+  pub trail : All (SpeaksOnlyOf own) records
   pub late : All (LooksWithin sees own) kept
 
 call_speaks : (sees own : Object → Type 0) (w : World) (me : Private) (tx : ℕ) (c : Call) (a : Answer)
@@ -217,13 +217,13 @@ call_speaks sees own w me tx c a look has numbered =
     refused : (r : Reply) → recorded w me tx c r ≡ [] → kept_call c me r ≡ [] → CallSpeaks sees own (recorded w me tx c r) (kept_call c me r)
     refused r e f =
         record {
-          trail = subst (All (Speaks own)) (sym e) (All-nil (Speaks own));
+          trail = subst (All (SpeaksOnlyOf own)) (sym e) (All-nil (SpeaksOnlyOf own));
           late = subst (All (LooksWithin sees own)) (sym f) (All-nil (LooksWithin sees own));
         }
 
 -- ---- a body
 sees_in_front : (tx : ℕ) (a b : List Claim) (o : Object) → Sees tx a o → Sees tx (a ++ b) o
-sees_in_front tx a b o (inl at) = inl (in_front a b o at)
+sees_in_front tx a b o (inl at) = inl (earlier_claims a b o at)
 sees_in_front tx a b o (inr numbered) = inr numbered
 
 step_speaks : (tx : ℕ) (r : BodyResult) (c : CallWithAnswer) → SpeaksOfOwn tx r → SpeaksOfOwn tx (step tx r c)
@@ -232,10 +232,10 @@ step_speaks tx r c so =
     let all = r.touched ++ now in
     let s = act r.world r.me tx c.call c.answer in
     let one =
-    call_speaks (Sees tx all) (Owns tx all) r.world r.me tx c.call c.answer (λ o at. inl (behind r.touched now o at))
+    call_speaks (Sees tx all) (Owns tx all) r.world r.me tx c.call c.answer (λ o at. inl (later_claims r.touched now o at))
     (λ o at. inl (owned_behind r.touched now o at)) (λ o numbered. inr numbered) in
-    let before : All (Speaks (Owns tx all)) r.trail =
-    All-weaker (Speaks (Owns tx r.touched)) (Speaks (Owns tx all))
+    let before : All (SpeaksOnlyOf (Owns tx all)) r.trail =
+    All-weaker (SpeaksOnlyOf (Owns tx r.touched)) (SpeaksOnlyOf (Owns tx all))
     (λ u of. All-weaker (Owns tx r.touched) (Owns tx all) (owns_in_front tx r.touched now) (objects_of u) of) r.trail so.trail in
     let kept : All (LooksWithin (Sees tx all) (Owns tx all)) r.late =
     All-weaker (LooksWithin (Sees tx r.touched) (Owns tx r.touched)) (LooksWithin (Sees tx all) (Owns tx all))
@@ -244,12 +244,12 @@ step_speaks tx r c so =
       changes = All-weaker (Owns tx r.touched) (Owns tx all) (owns_in_front tx r.touched now) (late_changes l) of.changes;
     }) r.late so.late in
     record {
-      trail = All-append (Speaks (Owns tx all)) r.trail (recorded r.world r.me tx c.call s.reply) before one.trail;
+      trail = All-append (SpeaksOnlyOf (Owns tx all)) r.trail (recorded r.world r.me tx c.call s.reply) before one.trail;
       late = All-append (LooksWithin (Sees tx all) (Owns tx all)) r.late (kept_call c.call r.me s.reply) kept one.late;
     }
 
 -- the claims that later calls add
-touched_on : (tx : ℕ) (r : BodyResult) (asked : List CallWithAnswer) → (more : List Claim) × ((goes_on tx r asked).touched ≡ r.touched ++ more)
+touched_on : (tx : ℕ) (r : BodyResult) (asked : List CallWithAnswer) → (more : List Claim) × ((after_calls tx r asked).touched ≡ r.touched ++ more)
 touched_on tx r [] = ([], sym (append-nil r.touched))
 touched_on tx r (c ∷ asked) =
     let now = claims_of c.call r.me (length r.world.words) in
@@ -262,7 +262,7 @@ speaks_with : (tx : ℕ) (r : BodyResult) (more : List Claim) → SpeaksOfOwn tx
 speaks_with tx r more so all e =
     subst (λ l. CallSpeaks (Sees tx l) (Owns tx l) r.trail r.late) (sym e)
     (record {
-      trail = All-weaker (Speaks (Owns tx r.touched)) (Speaks (Owns tx (r.touched ++ more)))
+      trail = All-weaker (SpeaksOnlyOf (Owns tx r.touched)) (SpeaksOnlyOf (Owns tx (r.touched ++ more)))
           (λ u of. All-weaker (Owns tx r.touched) (Owns tx (r.touched ++ more)) (owns_in_front tx r.touched more) (objects_of u) of) r.trail so.trail;
       late = All-weaker (LooksWithin (Sees tx r.touched) (Owns tx r.touched)) (LooksWithin (Sees tx (r.touched ++ more)) (Owns tx (r.touched ++ more)))
           (λ l of. record {
@@ -271,10 +271,10 @@ speaks_with tx r more so all e =
           }) r.late so.late;
     })
 
-back_speaks : (tx : ℕ) (s : BodyResult) (calls : List CallWithAnswer) → SpeaksOfOwn tx s → SpeaksOfOwn tx (gone_back s (goes_on tx s calls))
+back_speaks : (tx : ℕ) (s : BodyResult) (calls : List CallWithAnswer) → SpeaksOfOwn tx s → SpeaksOfOwn tx (gone_back s (after_calls tx s calls))
 back_speaks tx s calls so =
     let more = touched_on tx s calls in
-    let with_more = speaks_with tx s more.0 so (goes_on tx s calls).touched more.1 in
+    let with_more = speaks_with tx s more.0 so (after_calls tx s calls).touched more.1 in
     record { trail = with_more.trail; late = with_more.late }
 
 -- the records and the late calls of a body speak of its own
@@ -283,4 +283,4 @@ body_speaks w me tx asked =
     (runs_keep tx Any (SpeaksOfOwn tx) (record { plain = λ r c fit so. step_speaks tx r c so; back = λ s calls fit was is. back_speaks tx s calls was })
     (opens w me) asked
     (any_all tx (opens w me) asked)
-    (record { now = record { trail = All-nil (Speaks (Owns tx [])); late = All-nil (LooksWithin (Sees tx []) (Owns tx [])) }; saved = tt })).now
+    (record { now = record { trail = All-nil (SpeaksOnlyOf (Owns tx [])); late = All-nil (LooksWithin (Sees tx []) (Owns tx [])) }; saved = tt })).now

@@ -19,23 +19,23 @@ use Rattle.xc_world.specs.Sound.{IsFree, IsSound}
 use Rattle.xc_world.specs.Act.Names.{next_num}
 use Rattle.xc_world.specs.Checks.{is_bad_handle, is_too_big, is_too_much, is_bad_word, is_refused}
 use Rattle.xc_data.specs.Calls.{bytes_of}
-use Rattle.xc_world.specs.Act.Step.{Stepped, step_to, counted}
+use Rattle.xc_world.specs.Act.Step.{Stepped, step_to, bytes_counted}
 use Rattle.xc_world.specs.Act.{fine, faulty, done, act}
 use Rattle.xc_world.specs.Fits.{fits, asks_host, may_stop, is_write, is_done}
-use Rattle.xc_world.specs.Run.{BodyResult, step, goes_on, gone_back, opens, body, body_fits}
+use Rattle.xc_world.specs.Run.{BodyResult, step, after_calls, gone_back, opens, body, body_fits}
 use Rattle.xc_data.specs.declared.call.CallWithAnswer.{CallWithAnswer}
 use Rattle.xc_world.proofs.Blocks.{FitEach, Fits, fit_all, runs_keep}
 use Rattle.xc_world.proofs.EffectsBody.{step_sound, back_sound}
 use Rattle.xc_world.specs.Trail.{overwrite_record, append_record, recorded, undone, all_undone}
 use Rattle.xc_world.specs.Undoing.{BroughtBack}
 use Rattle.xc_world.proofs.UndoingParts.{same-back}
-use Rattle.xc_world.proofs.UndoingCalls.{Undoes, Stops, as_is, overwrite_at-undoes, overwrite_short-undoes, append_at-undoes, append_short-undoes}
+use Rattle.xc_world.proofs.UndoingCalls.{BringsBack, StopsBefore, as_is, overwrite_at-undoes, overwrite_short-undoes, append_at-undoes, append_short-undoes}
 use Rattle.xc_world.proofs.UndoingCalls.{created-undoes, renamed-undoes, opened-undoes, read_at-undoes, seek_at-undoes, len_at-undoes, new_pipe-undoes}
 use Rattle.xc_world.proofs.UndoingCalls.{new_pair-undoes, read_pipe_at-undoes, receive_at-undoes}
 
 -- what a call with its reply records brings the world before it back
 abbrev pub UndoesCall : World → Private → ℕ → Call → Stepped → Type 0
-UndoesCall w me tx call s = Undoes w s.world (recorded w me tx call s.reply)
+UndoesCall w me tx call s = BringsBack w s.world (recorded w me tx call s.reply)
 
 -- ---- a call that is refused records nothing
 overwrite_record-none : (w : World) (bytes : List ℕ) (p : Place) → overwrite_record w bytes 0 p ≡ []
@@ -67,8 +67,8 @@ refusal-none w me tx (call.XWriteSeq h bytes) =
     record { bad_handle = e; too_big = e; too_much = e; bad_word = e }
 refusal-none w me tx _ = record { bad_handle = refl; too_big = refl; too_much = refl; bad_word = refl }
 
-refused-undoes : (w : World) (us : List Undo) → us ≡ [] → Undoes w w us
-refused-undoes w us e = subst (Undoes w w) (sym e) (as_is w)
+refused-undoes : (w : World) (us : List Undo) → us ≡ [] → BringsBack w w us
+refused-undoes w us e = subst (BringsBack w w) (sym e) (as_is w)
 
 -- ---- a call that passed the checks
 -- the next number of a transaction is free
@@ -106,7 +106,7 @@ fine-undoes w me tx _ sound = as_is w
 
 -- a fault after the first byte stops a write that would be done
 pub stops : (w : World) (me : Private) (tx : ℕ) (c : Call) (n : ℕ) → IsTrue (fits w me tx c (answer.Fault n)) → (n == 0) ≡ false
-    → Stops n (bytes_of c) (fine w me tx c)
+    → StopsBefore n (bytes_of c) (fine w me tx c)
 stops w me tx c n fit some =
     let fault = and_parts (not (is_refused c me (length w.words))) (if n == 0 then asks_host c else may_stop w me tx c n) fit in
     let stop : may_stop w me tx c n ≡ true = subst (λ b. (if b then asks_host c else may_stop w me tx c n) ≡ true) some fault.1 in
@@ -135,7 +135,7 @@ done-undoes w me tx c (answer.Undone n) sound fit = refused-undoes w _ (undone-n
 -- a call is refused by a check, or is done
 pub act-cases : (w : World) (me : Private) (tx : ℕ) (c : Call) (a : Answer) (P : Stepped → Type 0)
     → P (step_to w me reply.BadHandle) → P (step_to w me reply.TooBig) → P (step_to w me reply.TooMuch) → P (step_to w me reply.BadWord)
-    → P (counted c (done w me tx c a)) → P (act w me tx c a)
+    → P (bytes_counted c (done w me tx c a)) → P (act w me tx c a)
 act-cases w me tx c a P bad_handle too_big too_much bad_word passed =
     cond_both (is_bad_handle c me) _ _ P (λ _. bad_handle) (λ _.
     cond_both (is_too_big c) _ _ P (λ _. too_big) (λ _.
@@ -170,7 +170,7 @@ step_rewinds w tx r c fit so =
     }
 
 back_rewinds : (w : World) (tx : ℕ) (s : BodyResult) (calls : List CallWithAnswer) → FitEach tx (Fits tx) s calls → Rewinds w tx s
-    → Rewinds w tx (goes_on tx s calls) → Rewinds w tx (gone_back s (goes_on tx s calls))
+    → Rewinds w tx (after_calls tx s calls) → Rewinds w tx (gone_back s (after_calls tx s calls))
 back_rewinds w tx s calls fit was is = record { sound = back_sound tx s calls fit was.sound is.sound; back = was.back }
 
 -- all records of a body undone bring its world back

@@ -17,49 +17,49 @@ use Rattle.xc_data.specs.declared.private.Place.TheVariants.{Vacant, File, Pipe,
 use Rattle.xc_data.specs.declared.private.Private.{Private}
 use Rattle.xc_data.specs.Private.{with_place, lowest_vacant}
 use Rattle.xc_maps.specs.Keys.{name_cmp}
-use Rattle.xc_maps.proofs.Laws.{get-insert_same, insert-remove_same, num_total, num_exact, undone as removed_again}
+use Rattle.xc_maps.proofs.Laws.{get-insert_same, insert-remove_same, num_total, num_exact, insert_undone as removed_again}
 use Rattle.xc_world.specs.World.{World, Pair as PairOf, file_of, with_file, pipe_of, empty_pipe, pair_of, empty_pair, waiting, with_waiting}
 use Rattle.xc_world.specs.Sound.{IsKnown, IsFree}
 use Rattle.xc_world.specs.Act.Step.{Stepped}
-use Rattle.xc_world.specs.Act.Names.{next_num, opened, created, renamed}
+use Rattle.xc_world.specs.Act.Names.{next_num, open_step, create_step, rename_step}
 use Rattle.xc_world.specs.Act.Files.{read_at, overwritten, overwrite_at, append_at, seek_at, len_at, overwrite_short, append_short}
 use Rattle.xc_world.specs.Act.Pipes.{new_pipe, read_pipe_at, pair_made, new_pair, received, receive_at}
 use Rattle.xc_world.specs.Fits.{is_done}
 use Rattle.xc_world.specs.Trail.{done_of, overwrite_record, append_record, create_record, rename_record, pipe_record, pair_record, move_name, all_undone}
 use Rattle.xc_world.specs.Undoing.{IsPairRest, BroughtBack}
-use Rattle.xc_world.proofs.UndoingParts.{restored, rest-all, rest-drop, file-back, pipe-back, pair-back, new_pipe-back, new_pair-back}
+use Rattle.xc_world.proofs.UndoingParts.{bytes_restored, rest-all, rest-drop, file-back, pipe-back, pair-back, new_pipe-back, new_pair-back}
 
 -- records that bring the world w back, from a world that was brought back to s
-abbrev pub Undoes : World → World → List Undo → Type 0
-Undoes w s us = (v : World) → BroughtBack s v → BroughtBack w (all_undone v us)
+abbrev pub BringsBack : World → World → List Undo → Type 0
+BringsBack w s us = (v : World) → BroughtBack s v → BroughtBack w (all_undone v us)
 
 -- a call needs no record to be undone
 abbrev pub UndoesNone : World → Stepped → Type 0
-UndoesNone w s = Undoes w s.world []
+UndoesNone w s = BringsBack w s.world []
 
 -- nothing is recorded, and the world is as it was
-pub as_is : (w : World) → Undoes w w []
+pub as_is : (w : World) → BringsBack w w []
 as_is w v back = back
 
 -- a write of no byte records nothing, any other one record
-none_recorded : (w : World) (us : List Undo) (b : Bool) → b ≡ true → Undoes w w (if b then [] else us)
-none_recorded w us b e = subst (λ c. Undoes w w (if c then [] else us)) (sym e) (as_is w)
+none_recorded : (w : World) (us : List Undo) (b : Bool) → b ≡ true → BringsBack w w (if b then [] else us)
+none_recorded w us b e = subst (λ c. BringsBack w w (if c then [] else us)) (sym e) (as_is w)
 
-one_recorded : (w s : World) (us : List Undo) (b : Bool) → b ≡ false → Undoes w s us → Undoes w s (if b then [] else us)
-one_recorded w s us b e h = subst (λ c. Undoes w s (if c then [] else us)) (sym e) h
+one_recorded : (w s : World) (us : List Undo) (b : Bool) → b ≡ false → BringsBack w s us → BringsBack w s (if b then [] else us)
+one_recorded w s us b e h = subst (λ c. BringsBack w s (if c then [] else us)) (sym e) h
 
 -- ---- overwrites
 abbrev pub UndoesOverwrite : World → List ℕ → Place → Stepped → Type 0
-UndoesOverwrite w bytes p s = Undoes w s.world (overwrite_record w bytes (done_of (length bytes) s.reply) p)
+UndoesOverwrite w bytes p s = BringsBack w s.world (overwrite_record w bytes (done_of (length bytes) s.reply) p)
 
 -- the old bytes stand again where n bytes were written
 put-undoes : (w : World) (num : Num) (at n : ℕ) (bytes written : List ℕ) → is_some (map.get w.files num) ≡ true → length written ≡ n
     → n ≤ length bytes
     → at + n ≤ length (file_of w num)
-    → Undoes w (with_file w num (overwritten at written (file_of w num))) (Bytes num at (take (length bytes) (drop at (file_of w num))) bytes n ∷ [])
+    → BringsBack w (with_file w num (overwritten at written (file_of w num))) (Bytes num at (take (length bytes) (drop at (file_of w num))) bytes n ∷ [])
 put-undoes w num at n bytes written there e le inside v back =
     file-back w v num (overwritten at written (file_of w num)) (overwritten at (take n (take (length bytes) (drop at (file_of w num))))) there
-    (restored at n (length bytes) written (file_of w num) e le inside) back
+    (bytes_restored at n (length bytes) written (file_of w num) e le inside) back
 
 -- the record of an overwrite undoes it
 pub overwrite_at-undoes : (w : World) (me : Private) (h : ℕ) (bytes : List ℕ) (p : Place) → IsKnown w p
@@ -84,13 +84,13 @@ done-inside w me h bytes num at some =
     ltb-false (length (file_of w num)) (at + length bytes) inside))
 
 -- a write stops before its last byte
-pub record Stops (n : ℕ) (bytes : List ℕ) (s : Stepped) : Type 0 where
+pub record StopsBefore (n : ℕ) (bytes : List ℕ) (s : Stepped) : Type 0 where
   pub would : IsTrue (is_done s.reply)
   pub before : n < length bytes
 
 -- the record of an overwrite that stops after n bytes undoes it
 pub overwrite_short-undoes : (w : World) (me : Private) (h : ℕ) (bytes : List ℕ) (n : ℕ) (p : Place) → IsKnown w p
-    → ((n == 0) ≡ false → Stops n bytes (overwrite_at w me h bytes p)) → UndoesOverwrite w bytes p (overwrite_short w me (h, p) bytes n)
+    → ((n == 0) ≡ false → StopsBefore n bytes (overwrite_at w me h bytes p)) → UndoesOverwrite w bytes p (overwrite_short w me (h, p) bytes n)
 overwrite_short-undoes w me h bytes n (File num at) there stops =
     cond_both (n == 0) _ _ (UndoesOverwrite w bytes (File num at)) (λ none. none_recorded w _ (n == 0) none) (λ some.
     let before : n < length bytes = (stops some).before in
@@ -103,11 +103,11 @@ overwrite_short-undoes w me h bytes n (Pair num side) known stops = as_is w
 
 -- ---- appends
 abbrev pub UndoesAppend : World → List ℕ → Place → Stepped → Type 0
-UndoesAppend w bytes p s = Undoes w s.world (append_record w bytes (done_of (length bytes) s.reply) p)
+UndoesAppend w bytes p s = BringsBack w s.world (append_record w bytes (done_of (length bytes) s.reply) p)
 
 -- the old length cuts off what was appended
 appended-undoes : (w : World) (num : Num) (n : ℕ) (bytes written : List ℕ) → is_some (map.get w.files num) ≡ true
-    → Undoes w (with_file w num (file_of w num ++ written)) (Tail num (length (file_of w num)) bytes n ∷ [])
+    → BringsBack w (with_file w num (file_of w num ++ written)) (Tail num (length (file_of w num)) bytes n ∷ [])
 appended-undoes w num n bytes written there v back =
     file-back w v num (file_of w num ++ written) (take (length (file_of w num))) there (take-append_seam (file_of w num) written) back
 
@@ -136,7 +136,7 @@ append_short-undoes w me h bytes n (Pair num side) known = as_is w
 -- a new name and its new file are gone again
 pub created-undoes : (w : World) (me : Private) (tx : ℕ) (name : List ℕ) (o : Option Num) (vacant : Option ℕ) → map.get w.names name ≡ o
     → IsFree w (next_num me tx)
-    → Undoes w (created w me tx name (o, vacant)).world (create_record me tx name (created w me tx name (o, vacant)).reply)
+    → BringsBack w (create_step w me tx name (o, vacant)).world (create_record me tx name (create_step w me tx name (o, vacant)).reply)
 created-undoes w me tx name (Some num) vacant e free v back = back
 created-undoes w me tx name None None e free v back = back
 created-undoes w me tx name None (Some h) e free v back =
@@ -159,7 +159,7 @@ none-removed m from to none =
 
 -- the file has its old name again
 pub renamed-undoes : (w : World) (me : Private) (from to : List ℕ) (o there : Option Num) → map.get w.names from ≡ o → map.get w.names to ≡ there
-    → Undoes w (renamed w me from to (o, there)).world (rename_record from to (renamed w me from to (o, there)).reply)
+    → BringsBack w (rename_step w me from to (o, there)).world (rename_record from to (rename_step w me from to (o, there)).reply)
 renamed-undoes w me from to None there e f v back = back
 renamed-undoes w me from to (Some num) (Some other) e f v back = back
 renamed-undoes w me from to (Some num) None e f v back =
@@ -180,7 +180,7 @@ renamed-undoes w me from to (Some num) None e f v back =
     })
 
 -- to open a file leaves nothing to undo
-pub opened-undoes : (w : World) (me : Private) (o : Option Num) (vacant : Option ℕ) → UndoesNone w (opened w me o vacant)
+pub opened-undoes : (w : World) (me : Private) (o : Option Num) (vacant : Option ℕ) → UndoesNone w (open_step w me o vacant)
 opened-undoes w me None vacant v back = back
 opened-undoes w me (Some num) None v back = back
 opened-undoes w me (Some num) (Some h) v back = back
@@ -210,18 +210,18 @@ len_at-undoes w me (Pair num side) v back = back
 
 -- ---- pipes and pairs: a new one is gone again
 pub new_pipe-undoes : (w : World) (me : Private) (tx : ℕ) (vacant : Option ℕ) → IsFree w (next_num me tx)
-    → Undoes w (new_pipe w me tx vacant).world (pipe_record me tx (new_pipe w me tx vacant).reply)
+    → BringsBack w (new_pipe w me tx vacant).world (pipe_record me tx (new_pipe w me tx vacant).reply)
 new_pipe-undoes w me tx None free v back = back
 new_pipe-undoes w me tx (Some h) free v back = new_pipe-back w v (next_num me tx) empty_pipe free.pipe back
 
 pair_made-undoes : (w : World) (me : Private) (tx h : ℕ) (p : Place) (vacant : Option ℕ) → IsFree w (next_num me tx)
-    → Undoes w (pair_made w (with_place me h p) tx h vacant).world (pair_record me tx (pair_made w (with_place me h p) tx h vacant).reply)
+    → BringsBack w (pair_made w (with_place me h p) tx h vacant).world (pair_record me tx (pair_made w (with_place me h p) tx h vacant).reply)
 pair_made-undoes w me tx h p None free v back = back
 pair_made-undoes w me tx h p (Some g) free v back = new_pair-back w v (next_num me tx) empty_pair free.pair back
 
 -- the record of a new pair undoes it
 pub new_pair-undoes : (w : World) (me : Private) (tx : ℕ) (vacant : Option ℕ) → IsFree w (next_num me tx)
-    → Undoes w (new_pair w me tx vacant).world (pair_record me tx (new_pair w me tx vacant).reply)
+    → BringsBack w (new_pair w me tx vacant).world (pair_record me tx (new_pair w me tx vacant).reply)
 new_pair-undoes w me tx None free = as_is w
 new_pair-undoes w me tx (Some h) free =
     let first = Pair (next_num me tx) 0 in

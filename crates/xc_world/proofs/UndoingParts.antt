@@ -32,9 +32,9 @@ in_parts at n file =
     ∙ (ap (λ x. take at file ++ x) (take-append-drop n (drop at file)) ∙ take-append-drop at file)
 
 -- what stood under so many bytes of an overwrite, of which the first n were done, is put back
-pub restored : (at n all : ℕ) (bytes file : List ℕ) → length bytes ≡ n → n ≤ all → at + n ≤ length file
+pub bytes_restored : (at n all : ℕ) (bytes file : List ℕ) → length bytes ≡ n → n ≤ all → at + n ≤ length file
     → overwritten at (take n (take all (drop at file))) (overwritten at bytes file) ≡ file
-restored at n all bytes file e le inside =
+bytes_restored at n all bytes file e le inside =
     let m = take n (drop at file) in
     let q = drop n (drop at file) in
     let whole : length m ≡ n = length-take-le n (drop at file) (omega (arith, length-drop at file)) in

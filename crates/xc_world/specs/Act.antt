@@ -15,8 +15,8 @@ use Rattle.xc_data.specs.declared.private.Private.{Private}
 use Rattle.xc_data.specs.Private.{place_of, with_place, lowest_vacant}
 use Rattle.xc_world.specs.World.{World}
 use Rattle.xc_world.specs.Checks.{is_bad_handle, is_too_big, is_too_much, is_bad_word}
-use Rattle.xc_world.specs.Act.Step.{Stepped, step_to, counted}
-use Rattle.xc_world.specs.Act.Names.{opens, creates, renames}
+use Rattle.xc_world.specs.Act.Step.{Stepped, step_to, bytes_counted}
+use Rattle.xc_world.specs.Act.Names.{open_by_name, creates, renames}
 use Rattle.xc_world.specs.Act.Files.{read_at, overwrite_at, append_at, seek_at, len_at, overwrite_short, append_short}
 use Rattle.xc_world.specs.Act.Pipes.{new_pipe, read_pipe_at, new_pair, receive_at}
 
@@ -24,7 +24,7 @@ use Rattle.xc_world.specs.Act.Pipes.{new_pipe, read_pipe_at, new_pair, receive_a
 abbrev pub fine : World → Private → ℕ → Call → Stepped
 fine w me tx (call.Load at) = step_to w me (reply.Number (slice_index w.words at))
 fine w me tx (call.Store at value) = step_to (record w { words = slice_set w.words at value }) me reply.Done
-fine w me tx (call.XOpen name) = opens w me name
+fine w me tx (call.XOpen name) = open_by_name w me name
 fine w me tx (call.XCreate name) = creates w me tx name
 fine w me tx (call.XRead h n) = read_at w me h n (place_of me.places h)
 fine w me tx (call.XWriteOvr h bytes) = overwrite_at w me h bytes (place_of me.places h)
@@ -87,4 +87,4 @@ act w me tx call answer =
     else if is_too_big call then step_to w me reply.TooBig
     else if is_too_much call me then step_to w me reply.TooMuch
     else if is_bad_word call (length w.words) then step_to w me reply.BadWord
-    else counted call (done w me tx call answer)
+    else bytes_counted call (done w me tx call answer)

@@ -77,12 +77,12 @@ bytes_in (reply.Got bytes) = length bytes
 bytes_in r = 0
 
 -- the bytes of a call that passed the checks and of its reply are stored
-abbrev pub stored_after : Option Reply → Call → Reply → ℕ → ℕ
-stored_after (Some refused) c r stored = stored
-stored_after None c r stored = stored + length (bytes_of c) + bytes_in r
+abbrev pub stored_with_reply : Option Reply → Call → Reply → ℕ → ℕ
+stored_with_reply (Some refused) c r stored = stored
+stored_with_reply None c r stored = stored + length (bytes_of c) + bytes_in r
 
 -- the private state of the transaction of this number after a call with this reply
 pub record IsMeAfter (tx : ℕ) (c : Call) (r : Reply) (was is : Private) : Type 0 where
   pub places : ArePlaces tx c was r is.places
   pub made : is.made ≡ made_after c r was.made
-  pub stored : is.stored ≡ stored_after (refusal_of c was) c r was.stored
+  pub stored : is.stored ≡ stored_with_reply (refusal_of c was) c r was.stored

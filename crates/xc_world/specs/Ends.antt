@@ -26,13 +26,13 @@ is_undone (Failed done faults) = false
 is_undone (Blocked by) = false
 
 -- a newer record that stands in the way of an older one
-abbrev pub blocks : Undo → Ending → Bool
-blocks older (newer, end) = if is_undone end then false else share_object older newer
+abbrev pub stands_in_way : Undo → Ending → Bool
+stands_in_way older (newer, end) = if is_undone end then false else share_object older newer
 
 -- the smallest number of a newer record in the way, the first of them having the number `from`
 abbrev pub blocker : ℕ → Undo → List Ending → Option ℕ
 blocker from older [] = None
-blocker from older (r ∷ newer) = if blocks older r then Some from else blocker (from + 1) older newer
+blocker from older (r ∷ newer) = if stands_in_way older r then Some from else blocker (from + 1) older newer
 
 -- how many bytes a failed compensation may have restored: fewer than are covered, none but of an overwrite
 abbrev pub RestoredFits : Undo → ℕ → Type 0
@@ -55,13 +55,13 @@ AreLegal tries from [] = Unit {0}
 AreLegal tries from ((u, end) ∷ newer) = IsLegalEnd tries u end (blocker (from + 1) u newer) × AreLegal tries (from + 1) newer
 
 -- ---- what remains, in the order of the calls: each record that stands, and from which byte on
-abbrev pub standing_of : Undo → Option ℕ → Option (Undo × ℕ)
-standing_of u None = None
-standing_of u (Some k) = Some (u, k)
+abbrev pub standing_part : Undo → Option ℕ → Option (Undo × ℕ)
+standing_part u None = None
+standing_part u (Some k) = Some (u, k)
 
 -- the records that stand, each with the byte from which it does
 abbrev pub remains : List Ending → List (Undo × ℕ)
-remains records = filter_map (λ r. standing_of r.0 (remains_from r.0 r.1)) records
+remains records = filter_map (λ r. standing_part r.0 (remains_from r.0 r.1)) records
 
 -- the world with what remains
 abbrev pub with_remains : World → List (Undo × ℕ) → World

@@ -123,14 +123,14 @@ late_fits w c (late_answer.Fault n) = if n == 0 then not (is_thread c) else late
 late_fits w c (late_answer.NoMemory n) = if n == 0 then true else late_may_stop w c n
 
 -- how many bytes are done where a late call stops
-abbrev pub late_done : LateAnswer → ℕ
-late_done late_answer.Fine = 0
-late_done (late_answer.Fault n) = n
-late_done (late_answer.NoMemory n) = n
+abbrev pub late_bytes_done : LateAnswer → ℕ
+late_bytes_done late_answer.Fine = 0
+late_bytes_done (late_answer.Fault n) = n
+late_bytes_done (late_answer.NoMemory n) = n
 
 -- they are at most the bytes that the call carries
-abbrev pub is_within : LateCall → LateAnswer → Bool
-is_within c answer = nat_le (late_done answer) (length (late_bytes_of c))
+abbrev pub is_late_within : LateCall → LateAnswer → Bool
+is_late_within c answer = nat_le (late_bytes_done answer) (length (late_bytes_of c))
 
 -- ---- the answers that an entry records
 abbrev pub answer_of : Reply → Answer

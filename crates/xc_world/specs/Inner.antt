@@ -8,7 +8,7 @@ use Rattle.xc_world.specs.Ends.{with_remains}
 use Rattle.xc_world.specs.Effects.{whole}
 
 -- from the world w a body came to its save, and then to what is now
-pub record IsBlock (w : World) (saved now : BodyResult) : Type 0 where
+pub record IsInnerBlock (w : World) (saved now : BodyResult) : Type 0 where
   -- what it took and what it recorded since
   pub taken : List KeptItem
   pub trail : List Undo

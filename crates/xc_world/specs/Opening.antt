@@ -25,8 +25,8 @@ with_all_opened w k [] = w
 with_all_opened w k (o ∷ objects) = with_all_opened (with_opened w (line_num k) o) (k + 1) objects
 
 -- the script's words and blocks, its jobs started, and no object
-abbrev pub bare : Outline → World
-bare script =
+abbrev pub bare_world : Outline → World
+bare_world script =
     record {
       words = script.words;
       names = map.empty;
@@ -39,7 +39,7 @@ bare script =
 
 -- the world that a script opens with
 abbrev pub opening : Outline → World
-opening script = with_all_opened (bare script) 0 script.prologue.objects
+opening script = with_all_opened (bare_world script) 0 script.prologue.objects
 
 -- ---- the handles, in line order: a pipe has one, a pair has its two sides
 abbrev pub handles_of : ℕ → List Opened → List Place

@@ -119,12 +119,12 @@ abbrev pub step : ℕ → BodyResult → CallWithAnswer → BodyResult
 step tx ran asked = stepped tx ran asked.call (act ran.world ran.me tx asked.call asked.answer)
 
 -- calls one after another, none of which opens or closes a block
-abbrev pub goes_on : ℕ → BodyResult → List CallWithAnswer → BodyResult
-goes_on tx ran asked = fold (step tx) ran asked
+abbrev pub after_calls : ℕ → BodyResult → List CallWithAnswer → BodyResult
+after_calls tx ran asked = fold (step tx) ran asked
 
 -- such calls from a begin
 abbrev pub plain_body : World → Private → ℕ → List CallWithAnswer → BodyResult
-plain_body w me tx asked = goes_on tx (begins w me) asked
+plain_body w me tx asked = after_calls tx (begins w me) asked
 
 -- each answer fits its call where it is made
 abbrev pub plain_fits : World → Private → ℕ → List CallWithAnswer → Bool

@@ -10,7 +10,7 @@ ghost use Rattle.xc_data.specs.declared.call.CallWithAnswer.{CallWithAnswer};
 ghost use Rattle.xc_world.specs.Act.{act};
 ghost use Rattle.xc_world.specs.Sound.{IsSound};
 ghost use Rattle.xc_world.specs.Run.{BodyResult, body_state, body, body_fits, given_back};
-ghost use Rattle.xc_world.specs.Inner.{IsBlock};
+ghost use Rattle.xc_world.specs.Inner.{IsInnerBlock};
 ghost use Rattle.xc_world.specs.Trail.{recorded};
 ghost use Rattle.xc_world.specs.Ends.{Ending, blocker, IsLegalEnd, remains, with_remains};
 ghost use Rattle.xc_world.specs.Effects.{whole, takes_data, AreMadeIn, SparesNew, undone_to, IsCovered};
@@ -79,5 +79,5 @@ pub fn a_body_keeps_others_sound()
 /// What an open block took and recorded since its save, on the save's world.
 pub fn a_block_has_the_effects_of_its_records()
     ensures { (w : World) (me : Private) (tx : ℕ) (asked : List CallWithAnswer) → IsSound w me tx → IsTrue (body_fits w me tx asked)
-        → (saved : BodyResult) → (body_state w me tx asked).saved ≡ Some saved → IsBlock w saved (body w me tx asked) }
+        → (saved : BodyResult) → (body_state w me tx asked).saved ≡ Some saved → IsInnerBlock w saved (body w me tx asked) }
 {}

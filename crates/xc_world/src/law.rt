@@ -12,7 +12,7 @@ ghost use Rattle.xc_world.specs.Late.{late, kept_call};
 ghost use Rattle.xc_world.specs.Checks.{is_check_reply, is_refused, refusal};
 ghost use Rattle.xc_world.specs.Replies.{may_reply};
 ghost use Rattle.xc_world.specs.Act.Step.{step_to};
-ghost use Rattle.xc_world.specs.Fits.{fits, late_fits, is_within};
+ghost use Rattle.xc_world.specs.Fits.{fits, late_fits, is_late_within};
 ghost use Rattle.xc_world.specs.Touch.{touch, made_by};
 ghost use Rattle.xc_world.specs.Sound.{IsFit, IsSound, IsShortCall, names_there, IsReady};
 ghost use Rattle.xc_data.specs.Limits.{KeepsLimits};
@@ -46,7 +46,7 @@ pub fn a_call_is_local()
 
 /// An answer that fits a late call tells of no more bytes than the call carries.
 pub fn what_fits_a_late_call_is_within_it()
-    ensures { (w : World) (call : LateCall) (answer : LateAnswer) → IsTrue (late_fits w call answer) → IsTrue (is_within call answer) }
+    ensures { (w : World) (call : LateCall) (answer : LateAnswer) → IsTrue (late_fits w call answer) → IsTrue (is_late_within call answer) }
 {}
 
 /// The same for a late call and its object. Both worlds know the same blocks.

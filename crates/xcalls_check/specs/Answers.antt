@@ -13,11 +13,11 @@ use Rattle.xc_check.specs.declared.verdict.Verdict.TheVariants as verdict
 use Rattle.xc_judge.specs.declared.reason.Reason.{Reason}
 use Rattle.xc_judge.specs.declared.reason.Reason.TheVariants as reason
 use Rattle.xc_model.specs.declared.rules.Rules.{Rules}
-use Rattle.xcalls_check.specs.declared.answer.Answer.{Answer}
-use Rattle.xcalls_check.specs.declared.answer.Answer.TheVariants as answer
+use Rattle.xcalls_check.specs.declared.answer.CheckAnswer.{CheckAnswer}
+use Rattle.xcalls_check.specs.declared.answer.CheckAnswer.TheVariants as answer
 use Rattle.xcalls_check.specs.declared.status.CheckStatus.{CheckStatus}
 use Rattle.xcalls_check.specs.declared.status.CheckStatus.TheVariants as status
-use Rattle.xcalls_check.specs.Halves.{script_of, text_of}
+use Rattle.xcalls_check.specs.Halves.{script_part, text_of}
 use Rattle.xcalls_check.specs.Settings.{check_settings_of}
 
 -- ---- the lines
@@ -44,41 +44,41 @@ abbrev pub no_line : ℕ → CheckWhy → List ℕ
 no_line line why = codes "no line " ++ decimal line ++ codes " " ++ why_name why ++ codes "\n"
 
 -- the line of an answer
-abbrev pub line_of : Answer → List ℕ
-line_of (answer.Judged verdict.Yes) = codes "yes\n"
-line_of (answer.Judged (verdict.No line why)) = no_line line why
-line_of answer.Usage = codes "usage: xcalls_check [--attempts N] [--undo-tries N]\n"
-line_of answer.ReadFault = codes "read fault\n"
-line_of answer.NoMemory = codes "no memory\n"
+abbrev pub answer_line : CheckAnswer → List ℕ
+answer_line (answer.Judged verdict.Yes) = codes "yes\n"
+answer_line (answer.Judged (verdict.No line why)) = no_line line why
+answer_line answer.Usage = codes "usage: xcalls_check [--attempts N] [--undo-tries N]\n"
+answer_line answer.ReadFault = codes "read fault\n"
+answer_line answer.NoMemory = codes "no memory\n"
 
 -- ---- the statuses
 -- the status of an answer
-abbrev pub status_of : Answer → CheckStatus
-status_of (answer.Judged verdict.Yes) = status.Yes
-status_of (answer.Judged (verdict.No line why)) = status.No
-status_of answer.Usage = status.Usage
-status_of answer.ReadFault = status.ReadFault
-status_of answer.NoMemory = status.NoMemory
+abbrev pub check_status_of : CheckAnswer → CheckStatus
+check_status_of (answer.Judged verdict.Yes) = status.Yes
+check_status_of (answer.Judged (verdict.No line why)) = status.No
+check_status_of answer.Usage = status.Usage
+check_status_of answer.ReadFault = status.ReadFault
+check_status_of answer.NoMemory = status.NoMemory
 
 -- a status as the program's exit status
-abbrev pub status_number : CheckStatus → ℕ
-status_number status.Yes = 0
-status_number status.No = 1
-status_number status.Usage = 2
-status_number status.ReadFault = 3
-status_number status.WriteFault = 4
-status_number status.NoMemory = 5
+abbrev pub check_status_number : CheckStatus → ℕ
+check_status_number status.Yes = 0
+check_status_number status.No = 1
+check_status_number status.Usage = 2
+check_status_number status.ReadFault = 3
+check_status_number status.WriteFault = 4
+check_status_number status.NoMemory = 5
 
 -- ---- what is said
 -- all was written, and the program ends with the status that was meant; or a front, and it ends with the sink's failure
-abbrev pub IsWritten : CheckStatus → CheckStatus → List ℕ → Step StreamView → Type 0
-IsWritten meant ends line sink =
+abbrev pub IsCheckWritten : CheckStatus → CheckStatus → List ℕ → Step StreamView → Type 0
+IsCheckWritten meant ends line sink =
     ((ends ≡ meant) × AppendsWhole sink.old sink.new line)
     ⊎ ((ends ≡ status.WriteFault) × AppendsPart sink.old sink.new line × HasFailed sink.old sink.new)
 
 -- the line of an answer was written so
-abbrev pub IsSaid : Answer → CheckStatus → Step StreamView → Type 0
-IsSaid meant ends sink = IsWritten (status_of meant) ends (line_of meant) sink
+abbrev pub IsCheckSaid : CheckAnswer → CheckStatus → Step StreamView → Type 0
+IsCheckSaid meant ends sink = IsCheckWritten (check_status_of meant) ends (answer_line meant) sink
 
 -- ---- why it is said
 -- one byte more than a script, the line between and a text of the largest sizes
@@ -88,11 +88,11 @@ most_input = 68157446
 -- what is found of the bytes that came: they are too many, or this is the verdict on their halves
 pub record IsFound (rules : Rules) (input : List ℕ) (found : Verdict) : Type 0 where
   pub too_long : length input ≡ most_input → found ≡ verdict.No 0 why.TooLong
-  pub judged : length input < most_input → IsVerdict (script_of input) rules (text_of input) found
-  pub only : length input < most_input → AcceptsTrueTexts (script_of input) rules (text_of input) found
+  pub judged : length input < most_input → IsVerdict (script_part input) rules (text_of input) found
+  pub only : length input < most_input → AcceptsTrueTexts (script_part input) rules (text_of input) found
 
 -- by the rules that the words choose, this is found of the bytes that came from the source
-pub record IsJudged (rules : Option Rules) (source : Step StreamView) (found : Verdict) : Type 0 where
+pub record IsCheckJudged (rules : Option Rules) (source : Step StreamView) (found : Verdict) : Type 0 where
   pub chosen : Rules
   pub input : List ℕ
   pub rules_are : rules ≡ Some chosen
@@ -100,25 +100,25 @@ pub record IsJudged (rules : Option Rules) (source : Step StreamView) (found : V
   pub is_found : IsFound chosen input found
 
 -- an answer has its cause: in the rules that the words choose, and in the source before and after it was read
-abbrev pub IsCaused : Option Rules → Step StreamView → Answer → Type 0
-IsCaused rules source (answer.Judged found) = IsJudged rules source found
-IsCaused rules source answer.Usage = rules ≡ None
-IsCaused rules source answer.ReadFault = IsSome rules × HasFailed source.old source.new
-IsCaused rules source answer.NoMemory = Unit {0}
+abbrev pub IsCheckCaused : Option Rules → Step StreamView → CheckAnswer → Type 0
+IsCheckCaused rules source (answer.Judged found) = IsCheckJudged rules source found
+IsCheckCaused rules source answer.Usage = rules ≡ None
+IsCheckCaused rules source answer.ReadFault = IsSome rules × HasFailed source.old source.new
+IsCheckCaused rules source answer.NoMemory = Unit {0}
 
 -- an answer was meant that has its cause, and it was said
-pub record IsAnswered (words : List (List ℕ)) (source sink : Step StreamView) (ends : CheckStatus) : Type 0 where
-  pub meant : Answer
-  pub caused : IsCaused (check_settings_of words) source meant
-  pub said : IsSaid meant ends sink
+pub record IsCheckAnswered (words : List (List ℕ)) (source sink : Step StreamView) (ends : CheckStatus) : Type 0 where
+  pub meant : CheckAnswer
+  pub caused : IsCheckCaused (check_settings_of words) source meant
+  pub said : IsCheckSaid meant ends sink
 
 -- the words are refused, but for lack of memory
-abbrev pub IsUsage : Answer → Type 0
-IsUsage (answer.Judged found) = ⊥
-IsUsage answer.Usage = Unit {0}
-IsUsage answer.ReadFault = ⊥
-IsUsage answer.NoMemory = Unit {0}
+abbrev pub IsCheckUsage : CheckAnswer → Type 0
+IsCheckUsage (answer.Judged found) = ⊥
+IsCheckUsage answer.Usage = Unit {0}
+IsCheckUsage answer.ReadFault = ⊥
+IsCheckUsage answer.NoMemory = Unit {0}
 
 -- without the words of the command line: this is said of them
-abbrev pub IsWordless : CheckStatus → Step StreamView → Type 0
-IsWordless ends sink = (meant : Answer) × IsUsage meant × IsSaid meant ends sink
+abbrev pub IsCheckWordless : CheckStatus → Step StreamView → Type 0
+IsCheckWordless ends sink = (meant : CheckAnswer) × IsCheckUsage meant × IsCheckSaid meant ends sink

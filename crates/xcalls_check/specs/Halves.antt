@@ -3,17 +3,17 @@ use Rattle.std.specs.Prelude.{ℕ, suc, ◌+◌, ◌==◌, ◌&&◌, ◌||◌, B
 use Rattle.xc_tokens.specs.Words.{spells}
 
 -- the first line is `====`, with its LF or as the last line without it
-abbrev pub is_mark : List ℕ → Bool
-is_mark bytes = spells (take 5 bytes) (codes "====\n") || spells (take 5 bytes) (codes "====")
+abbrev pub is_divider : List ℕ → Bool
+is_divider bytes = spells (take 5 bytes) (codes "====\n") || spells (take 5 bytes) (codes "====")
 
 -- how many bytes stand in front of the first line that is `====`, or how many there are; and whether a line begins with them
 abbrev pub script_len_from : Bool → List ℕ → ℕ
 script_len_from starts [] = 0
-script_len_from starts (b ∷ bs) = if starts && is_mark (b ∷ bs) then 0 else suc (script_len_from (b == 10) bs)
+script_len_from starts (b ∷ bs) = if starts && is_divider (b ∷ bs) then 0 else suc (script_len_from (b == 10) bs)
 
 -- what stands in front of that line
-abbrev pub script_of : List ℕ → List ℕ
-script_of input = take (script_len_from true input) input
+abbrev pub script_part : List ℕ → List ℕ
+script_part input = take (script_len_from true input) input
 
 -- what stands behind it, with its five bytes
 abbrev pub text_of : List ℕ → List ℕ

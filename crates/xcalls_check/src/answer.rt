@@ -2,7 +2,7 @@ use xc_check::Verdict;
 
 /// What is to be said.
 #[derive(Clone, Copy, Debug)]
-pub enum Answer {
+pub enum CheckAnswer {
     Judged(Verdict),
     /// The words of the command line are refused.
     Usage,

@@ -1,14 +1,14 @@
 //! The two halves of an input, and the line between them.
 
 ghost use Rattle.std.specs.Prelude.{◌≡◌, ◌≤◌, length, true};
-ghost use Rattle.xcalls_check.specs.Halves.{is_mark, script_len_from, script_of, text_of};
+ghost use Rattle.xcalls_check.specs.Halves.{is_divider, script_len_from, script_part, text_of};
 
 // The line between them, with its LF.
 const MARK: &[u8] = b"====\n";
 
 // A line that is the mark begins here.
 fn begins_mark(bytes: &[u8]) -> bool
-    ensures { result ≡ is_mark bytes.now }
+    ensures { result ≡ is_divider bytes.now }
 {
     matches!(
         bytes,
@@ -35,7 +35,7 @@ fn script_len(input: &[u8]) -> usize
 
 /// The script and the text.
 pub fn halves(input: &[u8]) -> (&[u8], &[u8])
-    ensures script { result.0.now ≡ script_of input.now }
+    ensures script { result.0.now ≡ script_part input.now }
     ensures text { result.1.now ≡ text_of input.now }
 {
     let (script, behind) = input.split_at(script_len(input));

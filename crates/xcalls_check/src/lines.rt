@@ -1,11 +1,11 @@
 //! The line that the program writes.
 
 ghost use Rattle.std.specs.Prelude.{◌≡◌, ◌⊎◌, IfOk, string_bytes};
-ghost use Rattle.xcalls_check.specs.Answers.{IsSaid, IsWritten};
+ghost use Rattle.xcalls_check.specs.Answers.{IsCheckSaid, IsCheckWritten};
 ghost use Rattle.xcalls_check.specs.Answers.{no_line as no_line_of, reason_name as reason_name_of, why_name as why_name_of};
-ghost use Rattle.xcalls_check.specs.declared.answer.Answer.TheVariants as answer;
+ghost use Rattle.xcalls_check.specs.declared.answer.CheckAnswer.TheVariants as answer;
 
-use crate::answer::Answer;
+use crate::answer::CheckAnswer;
 use crate::status::CheckStatus;
 use std::alloc::{AllocError, Global};
 use xc_check::{CheckWhy, Verdict};
@@ -55,7 +55,7 @@ fn no_line(alloc: Global, line: u32, why: CheckWhy) -> Result<String, AllocError
 
 // Writes a line. With a sink that fails the status is another than was meant.
 fn write<K: Sink>(sink: &mut K, meant: CheckStatus, line: &str) -> CheckStatus
-    ensures { IsWritten meant result line.now (record { old = K.told sink.old; new = K.told sink.new }) }
+    ensures { IsCheckWritten meant result line.now (record { old = K.told sink.old; new = K.told sink.new }) }
 {
     match write_whole(sink, line.as_bytes()) {
         Ok(()) => meant,
@@ -65,24 +65,24 @@ fn write<K: Sink>(sink: &mut K, meant: CheckStatus, line: &str) -> CheckStatus
 
 // Says that there is no memory.
 fn say_no_memory<K: Sink>(sink: &mut K) -> CheckStatus
-    ensures { IsSaid answer.NoMemory result (record { old = K.told sink.old; new = K.told sink.new }) }
+    ensures { IsCheckSaid answer.NoMemory result (record { old = K.told sink.old; new = K.told sink.new }) }
 {
     write(sink, CheckStatus::NoMemory, "no memory\n")
 }
 
 /// Says what was found. Without memory for its line it says that there is none.
-pub fn say<K: Sink>(alloc: Global, sink: &mut K, found: Answer) -> CheckStatus
-    ensures { IsSaid found result (record { old = K.told sink.old; new = K.told sink.new })
-        ⊎ IsSaid answer.NoMemory result (record { old = K.told sink.old; new = K.told sink.new }) }
+pub fn say<K: Sink>(alloc: Global, sink: &mut K, found: CheckAnswer) -> CheckStatus
+    ensures { IsCheckSaid found result (record { old = K.told sink.old; new = K.told sink.new })
+        ⊎ IsCheckSaid answer.NoMemory result (record { old = K.told sink.old; new = K.told sink.new }) }
 {
     match found {
-        Answer::Judged(Verdict::Yes) => write(sink, CheckStatus::Yes, "yes\n"),
-        Answer::Judged(Verdict::No { line, why }) => match no_line(alloc, line, why) {
+        CheckAnswer::Judged(Verdict::Yes) => write(sink, CheckStatus::Yes, "yes\n"),
+        CheckAnswer::Judged(Verdict::No { line, why }) => match no_line(alloc, line, why) {
             Ok(text) => write(sink, CheckStatus::No, text.as_str()),
             Err(_) => say_no_memory(sink),
         },
-        Answer::Usage => write(sink, CheckStatus::Usage, USAGE),
-        Answer::ReadFault => write(sink, CheckStatus::ReadFault, "read fault\n"),
-        Answer::NoMemory => say_no_memory(sink),
+        CheckAnswer::Usage => write(sink, CheckStatus::Usage, USAGE),
+        CheckAnswer::ReadFault => write(sink, CheckStatus::ReadFault, "read fault\n"),
+        CheckAnswer::NoMemory => say_no_memory(sink),
     }
 }

@@ -1,9 +1,9 @@
 ghost use Rattle.std.specs.Prelude.{◌≡◌, ◌≤◌, IfOk, None, OnErr, Some, map, string_bytes};
 ghost use Rattle.xc_edge.specs.Streams.{ConsumesUpTo};
-ghost use Rattle.xcalls_check.specs.Answers.{IsAnswered, IsCaused, IsFound, IsWordless, most_input};
+ghost use Rattle.xcalls_check.specs.Answers.{IsCheckAnswered, IsCheckCaused, IsFound, IsCheckWordless, most_input};
 ghost use Rattle.xcalls_check.specs.Settings.{check_settings_of};
 
-use crate::answer::Answer;
+use crate::answer::CheckAnswer;
 use crate::halves::halves;
 use crate::lines::say;
 use crate::settings::check_settings;
@@ -35,33 +35,33 @@ fn verdict_on(alloc: Global, rules: &Rules, input: &[u8]) -> Result<Verdict, NoM
 }
 
 // What is to be said of the source, by these rules.
-fn answer_by<S: Source>(alloc: Global, rules: &Rules, source: &mut S) -> Answer
+fn answer_by<S: Source>(alloc: Global, rules: &Rules, source: &mut S) -> CheckAnswer
     requires rules { 1 ≤ rules.now.attempts }
-    ensures caused { IsCaused (Some rules.now) (record { old = S.told source.old; new = S.told source.new }) result }
+    ensures caused { IsCheckCaused (Some rules.now) (record { old = S.told source.old; new = S.told source.new }) result }
     ensures few { ConsumesUpTo most_input (S.told source.old) (S.told source.new) }
 {
     let input = match read_up_to(alloc, source, MOST_INPUT) {
         Ok(input) => input,
-        Err(ReadErr::Failed) => return Answer::ReadFault,
-        Err(ReadErr::NoMemory) => return Answer::NoMemory,
+        Err(ReadErr::Failed) => return CheckAnswer::ReadFault,
+        Err(ReadErr::NoMemory) => return CheckAnswer::NoMemory,
     };
     match verdict_on(alloc, rules, input.as_slice()) {
-        Ok(verdict) => Answer::Judged(verdict),
-        Err(NoMemory) => Answer::NoMemory,
+        Ok(verdict) => CheckAnswer::Judged(verdict),
+        Err(NoMemory) => CheckAnswer::NoMemory,
     }
 }
 
 // What is to be said of the words and the source.
-fn answer<S: Source>(alloc: Global, words: &[String], source: &mut S) -> Answer
-    ensures caused { IsCaused (check_settings_of (map string_bytes words.now))
+fn answer<S: Source>(alloc: Global, words: &[String], source: &mut S) -> CheckAnswer
+    ensures caused { IsCheckCaused (check_settings_of (map string_bytes words.now))
         (record { old = S.told source.old; new = S.told source.new }) result }
     ensures unread { check_settings_of (map string_bytes words.now) ≡ None → source.new ≡ source.old }
     ensures few { ConsumesUpTo most_input (S.told source.old) (S.told source.new) }
 {
     match check_settings(alloc, words) {
         Ok(rules) => answer_by(alloc, &rules, source),
-        Err(SettingsErr::Usage) => Answer::Usage,
-        Err(SettingsErr::NoMemory) => Answer::NoMemory,
+        Err(SettingsErr::Usage) => CheckAnswer::Usage,
+        Err(SettingsErr::NoMemory) => CheckAnswer::NoMemory,
     }
 }
 
@@ -75,7 +75,7 @@ pub fn check_run<R: AllocGlobal, S: Source, K: Sink>(
     sink: &mut K,
 ) -> CheckStatus
     // What was meant has its cause in the words and the bytes that came. It was said, or the sink failed after a front of that.
-    ensures answered { IsAnswered (map string_bytes words.now) (record { old = S.told source.old; new = S.told source.new })
+    ensures answered { IsCheckAnswered (map string_bytes words.now) (record { old = S.told source.old; new = S.told source.new })
         (record { old = K.told sink.old; new = K.told sink.new }) result }
 
     // Nothing is read if the words are refused.
@@ -90,12 +90,12 @@ pub fn check_run<R: AllocGlobal, S: Source, K: Sink>(
 
 // The words could not be had: for lack of memory, or since one is no text, which no option takes.
 fn say_wordless<K: Sink>(alloc: Global, sink: &mut K, error: io::Error) -> CheckStatus
-    ensures { IsWordless result (record { old = K.told sink.old; new = K.told sink.new }) }
+    ensures { IsCheckWordless result (record { old = K.told sink.old; new = K.told sink.new }) }
 {
     if error.kind() == io::ErrorKind::OutOfMemory {
-        return say(alloc, sink, Answer::NoMemory);
+        return say(alloc, sink, CheckAnswer::NoMemory);
     }
-    say(alloc, sink, Answer::Usage)
+    say(alloc, sink, CheckAnswer::Usage)
 }
 
 /// Runs the whole program, with the words of its command line if they could be had.
@@ -106,7 +106,7 @@ pub fn run_program<R: AllocGlobal, S: Source, K: Sink>(
     sink: &mut K,
 ) -> CheckStatus
     // It is answered as by `check_run`.
-    ensures answered { IfOk words (λ words. IsAnswered (map string_bytes words.items)
+    ensures answered { IfOk words (λ words. IsCheckAnswered (map string_bytes words.items)
         (record { old = S.told source.old; new = S.told source.new }) (record { old = K.told sink.old; new = K.told sink.new }) result) }
 
     // Nothing is read if the words are refused.
@@ -117,7 +117,7 @@ pub fn run_program<R: AllocGlobal, S: Source, K: Sink>(
 
     // Without its words nothing is read.
     ensures wordless { OnErr words (
-        IsWordless result (record { old = K.told sink.old; new = K.told sink.new }) × (source.new ≡ source.old)) }
+        IsCheckWordless result (record { old = K.told sink.old; new = K.told sink.new }) × (source.new ≡ source.old)) }
 {
     match words {
         Ok(words) => check_run(rt, words.as_slice(), source, sink),

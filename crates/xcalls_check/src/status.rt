@@ -1,5 +1,5 @@
 ghost use Rattle.std.specs.Prelude.{◌≡◌};
-ghost use Rattle.xcalls_check.specs.Answers.{status_number};
+ghost use Rattle.xcalls_check.specs.Answers.{check_status_number};
 
 /// How the program ended.
 #[derive(Clone, Copy, Debug, PartialEq, Eq)]
@@ -18,7 +18,7 @@ pub enum CheckStatus {
 impl CheckStatus {
     /// The exit status.
     pub fn number(self) -> u8
-        ensures { result ≡ status_number self }
+        ensures { result ≡ check_status_number self }
     {
         match self {
             CheckStatus::Yes => 0,

@@ -1,64 +1,64 @@
 ghost use Rattle.std.specs.Prelude.{◌≡◌, ◌+◌};
-ghost use Rattle.xcalls_picture.specs.Statuses.{IsDrawn, IsSaid, refusal_text};
-ghost use Rattle.xcalls_picture.specs.declared.status.Status.TheVariants as status;
+ghost use Rattle.xcalls_picture.specs.Statuses.{IsDrawn, IsRefusalSaid, refusal_text};
+ghost use Rattle.xcalls_picture.specs.declared.status.PictureStatus.TheVariants as status;
 
-use crate::status::Status;
+use crate::status::PictureStatus;
 use std::alloc::Global;
 use xc_edge::{ReadErr, Sink, Source, read_up_to, write_whole};
 use xc_picture::{Unpictured, picture_of};
 use xc_sheet::MOST_TEXT_BYTES;
 
 // What is written where there is no picture.
-fn refusal(meant: Status) -> &'static str
+fn refusal(meant: PictureStatus) -> &'static str
     ensures { result.now ≡ refusal_text meant }
 {
     match meant {
-        Status::Refused => "this is no journal, or one of more than 67,108,864 bytes\n",
-        Status::Usage => "usage: xcalls_picture\n",
-        Status::ReadFault => "read fault\n",
-        Status::NoMemory => "no memory\n",
-        Status::Drawn | Status::WriteFault => "",
+        PictureStatus::Refused => "this is no journal, or one of more than 67,108,864 bytes\n",
+        PictureStatus::Usage => "usage: xcalls_picture\n",
+        PictureStatus::ReadFault => "read fault\n",
+        PictureStatus::NoMemory => "no memory\n",
+        PictureStatus::Drawn | PictureStatus::WriteFault => "",
     }
 }
 
 // Says why there is no picture. With a sink that fails the status is another than was meant.
-fn refuse<K: Sink>(sink: &mut K, meant: Status) -> Status
-    ensures said { IsSaid meant result (K.told sink.old) (K.told sink.new) }
+fn refuse<K: Sink>(sink: &mut K, meant: PictureStatus) -> PictureStatus
+    ensures said { IsRefusalSaid meant result (K.told sink.old) (K.told sink.new) }
     ensures undrawn { result ≡ status.Drawn → meant ≡ status.Drawn }
 {
     match write_whole(sink, refusal(meant).as_bytes()) {
         Ok(()) => meant,
-        Err(_) => Status::WriteFault,
+        Err(_) => PictureStatus::WriteFault,
     }
 }
 
 /// Refuses a command line with a word.
-pub fn refuse_words<K: Sink>(sink: &mut K) -> Status
-    ensures { IsSaid status.Usage result (K.told sink.old) (K.told sink.new) }
+pub fn refuse_words<K: Sink>(sink: &mut K) -> PictureStatus
+    ensures { IsRefusalSaid status.Usage result (K.told sink.old) (K.told sink.new) }
 {
-    refuse(sink, Status::Usage)
+    refuse(sink, PictureStatus::Usage)
 }
 
-fn status_of(why: Unpictured) -> Status
+fn status_of(why: Unpictured) -> PictureStatus
     ensures { result ≡ status.Drawn → ⊥ }
 {
     match why {
-        Unpictured::TooLong | Unpictured::Unread => Status::Refused,
-        Unpictured::NoMemory => Status::NoMemory,
+        Unpictured::TooLong | Unpictured::Unread => PictureStatus::Refused,
+        Unpictured::NoMemory => PictureStatus::NoMemory,
     }
 }
 
-fn read_status(why: ReadErr) -> Status
+fn read_status(why: ReadErr) -> PictureStatus
     ensures { result ≡ status.Drawn → ⊥ }
 {
     match why {
-        ReadErr::Failed => Status::ReadFault,
-        ReadErr::NoMemory => Status::NoMemory,
+        ReadErr::Failed => PictureStatus::ReadFault,
+        ReadErr::NoMemory => PictureStatus::NoMemory,
     }
 }
 
 /// Reads a journal, and writes its picture.
-pub fn draw<S: Source, K: Sink>(alloc: Global, source: &mut S, sink: &mut K) -> Status
+pub fn draw<S: Source, K: Sink>(alloc: Global, source: &mut S, sink: &mut K) -> PictureStatus
     ensures drawn { result ≡ status.Drawn → IsDrawn (S.told source.old) (S.told source.new) (K.told sink.old) (K.told sink.new) }
 {
     let bytes = match read_up_to(alloc, source, MOST_TEXT_BYTES + 1) {
@@ -70,7 +70,7 @@ pub fn draw<S: Source, K: Sink>(alloc: Global, source: &mut S, sink: &mut K) -> 
         Err(why) => return refuse(sink, status_of(why)),
     };
     match write_whole(sink, text.as_slice()) {
-        Ok(()) => Status::Drawn,
-        Err(_) => Status::WriteFault,
+        Ok(()) => PictureStatus::Drawn,
+        Err(_) => PictureStatus::WriteFault,
     }
 }

@@ -1,9 +1,9 @@
 ghost use Rattle.std.specs.Prelude.{◌≡◌};
-ghost use Rattle.xcalls_picture.specs.Statuses.{status_number};
+ghost use Rattle.xcalls_picture.specs.Statuses.{picture_status_number};
 
 /// How the program ended.
 #[derive(Clone, Copy, Debug)]
-pub enum Status {
+pub enum PictureStatus {
     Drawn,
     /// The text is too long, or no line of a journal stands in front of it.
     Refused,
@@ -14,18 +14,18 @@ pub enum Status {
     NoMemory,
 }
 
-impl Status {
+impl PictureStatus {
     /// The exit status, as `xcalls` has it.
     pub fn number(self) -> u8
-        ensures { result ≡ status_number self }
+        ensures { result ≡ picture_status_number self }
     {
         match self {
-            Status::Drawn => 0,
-            Status::Refused => 1,
-            Status::Usage => 2,
-            Status::ReadFault => 3,
-            Status::WriteFault => 4,
-            Status::NoMemory => 5,
+            PictureStatus::Drawn => 0,
+            PictureStatus::Refused => 1,
+            PictureStatus::Usage => 2,
+            PictureStatus::ReadFault => 3,
+            PictureStatus::WriteFault => 4,
+            PictureStatus::NoMemory => 5,
         }
     }
 }

@@ -7,7 +7,7 @@ ghost use Rattle.xc_world.specs.World.{file_of, with_file, with_pipe, empty_pipe
 
 use super::parts::{behind, front};
 use super::shared::joined;
-use super::{PairBody, PipeBody, World};
+use super::{MachinePair, MachinePipe, World};
 use xc_data::{Chunk, Name, NoMemory, Num, Undo};
 
 // The covered bytes of a record from this one on.
@@ -63,7 +63,7 @@ impl World {
         ensures { OnOk result (self.new ≡ with_pipe self.old num empty_pipe) }
     {
         let held = Chunk::new(self.alloc, &[])?;
-        self.pipes.insert(num, PipeBody { held, shut: false })
+        self.pipes.insert(num, MachinePipe { held, shut: false })
     }
 
     /// Puts into the world what a record tells of, of its covered bytes from this one on.
@@ -88,7 +88,7 @@ impl World {
             Undo::Made { name, num } => self.add_named(*name.value(), *num),
             Undo::Moved { from, to } => self.give_name(*from.value(), *to.value()),
             Undo::NewPipe(num) => self.add_pipe(*num),
-            Undo::NewPair(num) => self.pairs.insert(*num, PairBody::empty(self.alloc)),
+            Undo::NewPair(num) => self.pairs.insert(*num, MachinePair::empty(self.alloc)),
         }
     }
 }

@@ -1,7 +1,7 @@
 ghost use Rattle.std.specs.Prelude.{◌≡◌, ◌≤◌, ℕ, length, IsTrue, IfOk, OnOk, OnErr};
 ghost use Rattle.xc_data.specs.declared.private.Private.{Private};
 ghost use Rattle.xc_world.specs.World.{pipe_of, pair_of, with_pair};
-ghost use Rattle.xc_world.specs.Fits.{is_within};
+ghost use Rattle.xc_world.specs.Fits.{is_late_within};
 ghost use Rattle.xc_world.specs.Sound.{IsSound, IsShortCall, late_bytes_of, is_there, names_there};
 ghost use Rattle.xc_world.specs.Late.{late, late_fine, ends, unlinked, room, with_put, pipe_written, stopped};
 ghost use Rattle.xc_world.specs.Late.{shut_down, sent, sent_to, is_block, thread_started};
@@ -9,7 +9,7 @@ ghost use Rattle.std.specs.FinMap as map;
 
 use super::pipes::other_side;
 use super::shared::{joined, shared};
-use super::{PairBody, PipeBody, World};
+use super::{MachinePair, MachinePipe, World};
 use xc_data::{Chunk, Ident, LateAnswer, LateCall, LateEnd, Name, NoMemory, Num, Object};
 
 impl World {
@@ -61,7 +61,7 @@ impl World {
         ensures err { OnErr result (self.new ≡ self.old) }
     {
         let held = Chunk::new(self.alloc, self.held(num))?;
-        self.pipes.insert(num, PipeBody { held, shut: true })
+        self.pipes.insert(num, MachinePipe { held, shut: true })
     }
 
     fn shut_pair(&mut self, num: Num) -> Result<(), NoMemory>
@@ -73,7 +73,7 @@ impl World {
         let shut = true;
         self.pairs.insert(
             num,
-            PairBody {
+            MachinePair {
                 first,
                 second,
                 shut,
@@ -195,7 +195,7 @@ impl World {
     }
 
     fn late_step(&mut self, call: &LateCall, answer: LateAnswer) -> Result<LateEnd, NoMemory>
-        requires { IsTrue (is_within call.now answer) }
+        requires { IsTrue (is_late_within call.now answer) }
         ensures ok { IfOk result (λ end. late self.old call.now answer ≡ ends self.new end) }
         ensures err { OnErr result (self.new ≡ self.old) }
     {
@@ -214,7 +214,7 @@ impl World {
 
     /// One late call on the plain machine, with what it met at the host.
     pub fn late(&mut self, call: &LateCall, answer: LateAnswer) -> Result<LateEnd, NoMemory>
-        requires within { IsTrue (is_within call.now answer) }
+        requires within { IsTrue (is_late_within call.now answer) }
         requires short { IsShortCall call.now }
         requires there { IsTrue (names_there self.old call.now) }
         ensures sound { (me : Private) (tx : ℕ) → IsSound self.old me tx → OnOk result (IsSound self.new me tx) }

@@ -1,14 +1,14 @@
 ghost use Rattle.std.specs.Prelude.{◌≡◌, ◌≤◌, Some, None, IfOk, OnOk, OnErr};
 ghost use Rattle.std.specs.FinMap as map;
 ghost use Rattle.xc_world.specs.Act.Step.{step_to};
-ghost use Rattle.xc_world.specs.Act.Names.{opens, creates, renames, with_moved, next_num, with_new_file};
+ghost use Rattle.xc_world.specs.Act.Names.{open_by_name, creates, renames, with_moved, next_num, with_new_file};
 
 use super::World;
 use xc_data::{Chunk, Name, NoMemory, Num, Place, Private, Reply};
 
 impl World {
     pub(super) fn open(&self, me: &mut Private, name: Name) -> Reply
-        ensures { opens self.now me.old name ≡ step_to self.now me.new result }
+        ensures { open_by_name self.now me.old name ≡ step_to self.now me.new result }
     {
         let Some(num) = self.names.get(name) else {
             return Reply::NoName;

@@ -2,9 +2,9 @@ ghost use Rattle.std.specs.Prelude.{◌≡◌, ◌<◌, ◌≤◌, ◌++◌, ℕ
 ghost use Rattle.xc_world.specs.World.{beginning};
 ghost use Rattle.xc_world.specs.Sound.{IsSound};
 ghost use Rattle.xc_data.specs.Limits.{KeepsLimits};
-ghost use Rattle.xc_world.specs.Opening.{opening, bare, with_opened, opening_handles};
+ghost use Rattle.xc_world.specs.Opening.{opening, bare_world, with_opened, opening_handles};
 
-use super::{PairBody, PipeBody, World};
+use super::{MachinePair, MachinePipe, World};
 use std::alloc::Global;
 use xc_data::{Ident, IdentList, Items, NoMemory, Num, Opened, Outline, WordList};
 use xc_maps::{NameMap, NumMap};
@@ -35,7 +35,7 @@ pub(super) fn names_of(
 impl World {
     // The script's words and blocks, its jobs started, and no object.
     fn bare(alloc: Global, script: &Outline) -> Result<World, NoMemory>
-        ensures { IfOk result (λ world. world ≡ bare script.now) }
+        ensures { IfOk result (λ world. world ≡ bare_world script.now) }
     {
         Ok(World {
             alloc,
@@ -59,9 +59,9 @@ impl World {
             }
             Opened::Pipe { bytes } => {
                 let held = bytes.share()?;
-                self.pipes.insert(num, PipeBody { held, shut: false })
+                self.pipes.insert(num, MachinePipe { held, shut: false })
             }
-            Opened::Pair => self.pairs.insert(num, PairBody::empty(self.alloc)),
+            Opened::Pair => self.pairs.insert(num, MachinePair::empty(self.alloc)),
         }
     }
 

@@ -5,7 +5,7 @@ ghost use Rattle.xc_world.specs.Act.Step.{step_to};
 ghost use Rattle.xc_world.specs.Act.Pipes.{new_pipe, read_pipe_at, new_pair, receive_at};
 
 use super::shared::shared;
-use super::{PairBody, PipeBody, World};
+use super::{MachinePair, MachinePipe, World};
 use std::alloc::Global;
 use xc_data::{Chunk, Items, NoMemory, Num, Place, Private, Reply};
 
@@ -36,7 +36,7 @@ impl World {
         ensures err { OnErr result (self.new ≡ self.old) }
     {
         let shut = self.is_pipe_shut(num);
-        self.pipes.insert(num, PipeBody { held, shut })
+        self.pipes.insert(num, MachinePipe { held, shut })
     }
 
     pub(super) fn make_pipe(&mut self, me: &mut Private, tx: u32) -> Result<Reply, NoMemory>
@@ -50,7 +50,7 @@ impl World {
         };
         let num = Num { tx, k: me.made };
         let held = Chunk::new(self.alloc, &[])?;
-        self.pipes.insert(num, PipeBody { held, shut: false })?;
+        self.pipes.insert(num, MachinePipe { held, shut: false })?;
         me.set_place(h, Place::Pipe(num));
         me.made += 1;
         Ok(Reply::Made(h))
@@ -95,7 +95,7 @@ impl World {
         };
         next.set_place(g, Place::Pair { num, side: 1 });
         next.made += 1;
-        self.pairs.insert(num, PairBody::empty(self.alloc))?;
+        self.pairs.insert(num, MachinePair::empty(self.alloc))?;
         *me = next;
         Ok(Reply::MadePair(h, g))
     }
@@ -112,7 +112,7 @@ impl World {
     {
         let other = shared(self.alloc, self.waiting(num, other_side(side)))?;
         let shut = self.is_pair_shut(num);
-        let pair = PairBody::of(side, messages, other, shut);
+        let pair = MachinePair::of(side, messages, other, shut);
         self.pairs.insert(num, pair)
     }
 
@@ -135,11 +135,11 @@ impl World {
     }
 }
 
-impl PairBody {
-    pub(super) fn empty(alloc: Global) -> PairBody
+impl MachinePair {
+    pub(super) fn empty(alloc: Global) -> MachinePair
         ensures { result ≡ empty_pair }
     {
-        PairBody {
+        MachinePair {
             first: Items::new(alloc),
             second: Items::new(alloc),
             shut: false,
@@ -147,19 +147,19 @@ impl PairBody {
     }
 
     // A pair with these messages for a side and others for the other one.
-    fn of(side: u8, messages: Items<Chunk>, other: Items<Chunk>, shut: bool) -> PairBody
+    fn of(side: u8, messages: Items<Chunk>, other: Items<Chunk>, shut: bool) -> MachinePair
         ensures { result ≡ (if side == 0
             then record { first = messages; second = other; shut = shut }
             else record { first = other; second = messages; shut = shut }) }
     {
         if side == 0 {
-            return PairBody {
+            return MachinePair {
                 first: messages,
                 second: other,
                 shut,
             };
         }
-        PairBody {
+        MachinePair {
             first: other,
             second: messages,
             shut,

@@ -1,6 +1,6 @@
 use super::{Folder, Tail, path};
 use crate::errors::or_fault;
-use crate::held::{Entry, Inode, Opened};
+use crate::held::{HeldFile, Inode, OpenFile};
 use std::fs::{File, Metadata, OpenOptions, TryLockError};
 use std::io::ErrorKind;
 use std::rt::Files;
@@ -31,7 +31,7 @@ impl<R: Files<File = File> + Drop> Folder<R> {
     // Opens a regular file that is there, for reading and writing, or for reading alone if it may not be written. A fault where
     // another process has its lock. What took the file's place since is opened and closed again, and nothing is read or written
     // through it.
-    pub(super) fn open(&self, name: &Name, there: &Metadata) -> Result<Opened, Fault> {
+    pub(super) fn open(&self, name: &Name, there: &Metadata) -> Result<OpenFile, Fault> {
         if !there.is_file() {
             return Err(Fault);
         }
@@ -50,7 +50,7 @@ impl<R: Files<File = File> + Drop> Folder<R> {
     }
 
     // Makes a file. What is there already isn't opened, be it a link or anything else.
-    pub(super) fn make(&self, name: &Name) -> Result<Opened, Fault> {
+    pub(super) fn make(&self, name: &Name) -> Result<OpenFile, Fault> {
         let path = path(name)?;
         let file = or_fault(File::create_new(&self.rt, path))?;
         match file.try_lock() {
@@ -65,10 +65,10 @@ impl<R: Files<File = File> + Drop> Folder<R> {
     }
 
     // An open file whose lock was taken, if the name still is that file: who had the lock before may have taken it away.
-    fn hold(&self, name: &Name, file: File, is_writable: bool) -> Result<Opened, Fault> {
+    fn hold(&self, name: &Name, file: File, is_writable: bool) -> Result<OpenFile, Fault> {
         let inode = Inode::of(&or_fault(file.metadata())?);
         self.check(name, inode)?;
-        Ok(Opened {
+        Ok(OpenFile {
             inode,
             file,
             is_writable,
@@ -76,7 +76,7 @@ impl<R: Files<File = File> + Drop> Folder<R> {
     }
 
     // A file opened for appending too, if its name still is that file.
-    pub(super) fn open_tail(&self, num: Num, entry: &Entry) -> Result<Tail, Fault> {
+    pub(super) fn open_tail(&self, num: Num, entry: &HeldFile) -> Result<Tail, Fault> {
         let name = entry.name.as_ref().ok_or(Fault)?;
         self.check(name, entry.opened.inode)?;
         let mut options = OpenOptions::new();

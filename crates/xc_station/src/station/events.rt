@@ -5,9 +5,9 @@ ghost use Rattle.xc_model.specs.Rows.{IsTurn};
 ghost use Rattle.xc_data.specs.declared.entry.Event.TheVariants.{Turned, Picked, Looked};
 ghost use Rattle.xc_station.specs.Waits.{IsFairWait};
 ghost use Rattle.xc_station.specs.Stations.{ChangesOne, IsNextOf, KeepsOpening};
-ghost use Rattle.xc_station.specs.Events.{IsEvent, IsTried};
+ghost use Rattle.xc_station.specs.Events.{IsEvent, IsTurnTried};
 ghost use Rattle.xc_station.specs.Stations.{live_at, now_of, setting_of};
-ghost use Rattle.xc_station.specs.Events.{noted};
+ghost use Rattle.xc_station.specs.Events.{with_event};
 
 use crate::Station;
 use xc_data::{Event, Turn};
@@ -17,7 +17,7 @@ use xc_turnstile::Chronicle;
 impl<H: Host> Station<H> {
     // One event more, which is the last one from then on.
     fn note(&mut self, event: Event)
-        ensures noted { self.new ≡ noted self.old event }
+        ensures noted { self.new ≡ with_event self.old event }
         ensures few { length self.old.journal ≤ 10000 }
         ensures few_jobs { length self.old.jobs ≤ 1000 }
     {
@@ -27,7 +27,7 @@ impl<H: Host> Station<H> {
 
     // A turn with this answer was the last event from then on.
     fn note_turn(&mut self, job: u32, answer: &Turn)
-        ensures noted { self.new ≡ noted self.old (Turned job (Some answer.now)) }
+        ensures noted { self.new ≡ with_event self.old (Turned job (Some answer.now)) }
         ensures few { length self.old.journal ≤ 10000 }
     {
         self.note(Event::Turned {
@@ -81,7 +81,7 @@ impl<H: Host> Station<H> {
 
     /// What `turn` does and answers where the job is live; None exactly where it isn't, and then nothing but the events changes.
     pub fn try_turn(&mut self, job: u32) -> Option<Turn>
-        ensures tried { IsTried H.model job (record { old = self.old; new = self.new }) (live_at self.old.jobs job) result }
+        ensures tried { IsTurnTried H.model job (record { old = self.old; new = self.new }) (live_at self.old.jobs job) result }
         ensures event { IsEvent self.old self.new (Turned job result) }
     {
         if self.live(job) {
@@ -113,7 +113,7 @@ impl<H: Host> Station<H> {
     /// The journal's length. Nothing but the events changes, and it takes no memory.
     pub fn look(&mut self) -> u32
         ensures length { result ≡ length self.old.journal }
-        ensures noted { self.new ≡ noted self.old (Looked result) }
+        ensures noted { self.new ≡ with_event self.old (Looked result) }
         ensures event { IsEvent self.old self.new (Looked result) }
     {
         let length = self.journal.len() as u32;

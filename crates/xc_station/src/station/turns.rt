@@ -13,13 +13,13 @@ ghost use Rattle.xc_station.specs.Stations.{live_at, now_of, setting_of};
 
 use crate::Station;
 use crate::backing::go_back;
-use crate::begin::begin;
+use crate::begin_tx::begin;
 use crate::calls::Shared;
-use crate::close::{Closing, abort, commit, end_late, end_start, undo};
+use crate::child_jobs::{Start, join, start_job};
+use crate::end_tx::{TxResult, abort, commit, end_late, end_start, undo};
 use crate::job::Stage;
 use crate::places::block_at;
 use crate::running::run;
-use crate::starting::{Start, join, start_job};
 use xc_data::{Ident, JobEnd, NoMemory, Turn};
 use xc_host::Host;
 
@@ -145,7 +145,7 @@ impl<H: Host> Station<H> {
         ensures quiet { KeepsEvents self.old self.new }
         ensures row { IsTurn (setting_of H.model self.old) at (now_of H.model self.old) result (now_of H.model self.new) }
     {
-        let Closing { entry, children } = commit(
+        let TxResult { entry, children } = commit(
             self.alloc,
             at as u32 + 1,
             &mut self.jobs[at],

@@ -1,16 +1,16 @@
 ghost use Rattle.std.specs.Prelude.{false, [], None};
-ghost use Rattle.xc_host.specs.Contents.{nothing};
+ghost use Rattle.xc_host.specs.Contents.{no_contents};
 ghost use Rattle.xc_host.specs.Counting.{calls_of};
 
-use super::{Asked, TestHost};
-use xc_data::{Chunk, Kind, MOST_FILE_BYTES, Name, Num, Object, Prologue};
+use super::{AskedCall, TestHost};
+use xc_data::{Chunk, HostCallKind, MOST_FILE_BYTES, Name, Num, Object, Prologue};
 use xc_host::{Fault, Host, HostErr, HostState, KindCounts, OpenErr, Took};
 
 impl Host for TestHost {
     ghost model = { record {
       tells = false;
       takes_scripts = false;
-      contents = λ _. nothing;
+      contents = λ _. no_contents;
       fault_count = λ s. s.faults;
       calls = λ s. calls_of s.calls;
       plan = λ _. record { faults = []; grain = None };
@@ -33,7 +33,7 @@ impl Host for TestHost {
     }
 
     fn lookup(&mut self, name: &Name) -> Result<Option<Num>, HostErr> {
-        if self.fails(Asked::plain(Kind::Lookup)) {
+        if self.fails(AskedCall::plain(HostCallKind::Lookup)) {
             return Err(HostErr::Fault);
         }
         if self.starves {
@@ -43,14 +43,14 @@ impl Host for TestHost {
     }
 
     fn create(&mut self, name: &Name, num: Num) -> Result<(), HostErr> {
-        if self.fails(Asked::plain(Kind::Create)) {
+        if self.fails(AskedCall::plain(HostCallKind::Create)) {
             return Err(HostErr::Fault);
         }
         Ok(self.names.push((*name, num))?)
     }
 
     fn len(&mut self, file: Num) -> Result<u32, Fault> {
-        if self.fails(Asked::plain(Kind::Len)) {
+        if self.fails(AskedCall::plain(HostCallKind::Len)) {
             return Err(Fault);
         }
         let len = self.opened(file) as usize + self.tail(file).len();
@@ -58,7 +58,7 @@ impl Host for TestHost {
     }
 
     fn read_at(&mut self, file: Num, at: u32, n: u32) -> Result<Chunk, HostErr> {
-        if self.fails(Asked::new(Kind::ReadAt, at, n as usize)) {
+        if self.fails(AskedCall::new(HostCallKind::ReadAt, at, n as usize)) {
             return Err(HostErr::Fault);
         }
         let n = n.min(self.grain) as usize;
@@ -66,14 +66,14 @@ impl Host for TestHost {
     }
 
     fn write_at(&mut self, file: Num, at: u32, bytes: &[u8]) -> Result<u32, Fault> {
-        if self.fails(Asked::new(Kind::WriteAt, at, bytes.len())) {
+        if self.fails(AskedCall::new(HostCallKind::WriteAt, at, bytes.len())) {
             return Err(Fault);
         }
         Ok(self.write(file, at, bytes))
     }
 
     fn append(&mut self, file: Num, bytes: &[u8]) -> Result<u32, HostErr> {
-        if self.fails(Asked::new(Kind::Append, 0, bytes.len())) {
+        if self.fails(AskedCall::new(HostCallKind::Append, 0, bytes.len())) {
             return Err(HostErr::Fault);
         }
         let n = self.grained(bytes);
@@ -82,7 +82,7 @@ impl Host for TestHost {
     }
 
     fn rename(&mut self, from: &Name, to: &Name) -> Result<(), Fault> {
-        if self.fails(Asked::plain(Kind::Rename)) {
+        if self.fails(AskedCall::plain(HostCallKind::Rename)) {
             return Err(Fault);
         }
         self.change_name(from, to);
@@ -90,7 +90,7 @@ impl Host for TestHost {
     }
 
     fn unlink(&mut self, name: &Name) -> Result<(), Fault> {
-        if self.fails(Asked::plain(Kind::Unlink)) {
+        if self.fails(AskedCall::plain(HostCallKind::Unlink)) {
             return Err(Fault);
         }
         self.names.retain(|entry| entry.0 != *name);
@@ -98,35 +98,35 @@ impl Host for TestHost {
     }
 
     fn sync(&mut self, _file: Num) -> Result<(), Fault> {
-        if self.fails(Asked::plain(Kind::Sync)) {
+        if self.fails(AskedCall::plain(HostCallKind::Sync)) {
             return Err(Fault);
         }
         Ok(())
     }
 
     fn new_pipe(&mut self, num: Num) -> Result<(), HostErr> {
-        if self.fails(Asked::plain(Kind::NewPipe)) {
+        if self.fails(AskedCall::plain(HostCallKind::NewPipe)) {
             return Err(HostErr::Fault);
         }
         Ok(self.pipes.make(num)?)
     }
 
     fn pipe_state(&mut self, pipe: Num) -> Result<HostState, Fault> {
-        if self.fails(Asked::plain(Kind::PipeState)) {
+        if self.fails(AskedCall::plain(HostCallKind::PipeState)) {
             return Err(Fault);
         }
         Ok(self.pipes.state(pipe))
     }
 
     fn take(&mut self, pipe: Num, n: u32) -> Result<Took, HostErr> {
-        if self.fails(Asked::new(Kind::Take, 0, n as usize)) {
+        if self.fails(AskedCall::new(HostCallKind::Take, 0, n as usize)) {
             return Err(HostErr::Fault);
         }
         Ok(self.pipes.take(pipe, n.min(self.grain).max(1))?)
     }
 
     fn put(&mut self, pipe: Num, bytes: &[u8]) -> Result<u32, HostErr> {
-        if self.fails(Asked::new(Kind::Put, 0, bytes.len())) {
+        if self.fails(AskedCall::new(HostCallKind::Put, 0, bytes.len())) {
             return Err(HostErr::Fault);
         }
         let n = self.grained(bytes);
@@ -135,35 +135,35 @@ impl Host for TestHost {
     }
 
     fn new_pair(&mut self, num: Num) -> Result<(), HostErr> {
-        if self.fails(Asked::plain(Kind::NewPair)) {
+        if self.fails(AskedCall::plain(HostCallKind::NewPair)) {
             return Err(HostErr::Fault);
         }
         Ok(self.pairs.make(num)?)
     }
 
     fn pair_state(&mut self, pair: Num, side: u8) -> Result<HostState, Fault> {
-        if self.fails(Asked::plain(Kind::PairState)) {
+        if self.fails(AskedCall::plain(HostCallKind::PairState)) {
             return Err(Fault);
         }
         Ok(self.pairs.state(pair, side))
     }
 
     fn recv(&mut self, pair: Num, side: u8) -> Result<Took, HostErr> {
-        if self.fails(Asked::plain(Kind::Recv)) {
+        if self.fails(AskedCall::plain(HostCallKind::Recv)) {
             return Err(HostErr::Fault);
         }
         Ok(self.pairs.recv(pair, side))
     }
 
     fn send(&mut self, pair: Num, side: u8, bytes: &[u8]) -> Result<(), HostErr> {
-        if self.fails(Asked::new(Kind::Send, 0, bytes.len())) {
+        if self.fails(AskedCall::new(HostCallKind::Send, 0, bytes.len())) {
             return Err(HostErr::Fault);
         }
         Ok(self.pairs.send(pair, side, bytes)?)
     }
 
     fn shut(&mut self, object: &Object) -> Result<(), Fault> {
-        if self.fails(Asked::plain(Kind::Shut)) {
+        if self.fails(AskedCall::plain(HostCallKind::Shut)) {
             return Err(Fault);
         }
         match object {
@@ -175,14 +175,14 @@ impl Host for TestHost {
     }
 
     fn restore(&mut self, file: Num, at: u32, bytes: &[u8]) -> Result<u32, Fault> {
-        if self.fails(Asked::new(Kind::Restore, at, bytes.len())) {
+        if self.fails(AskedCall::new(HostCallKind::Restore, at, bytes.len())) {
             return Err(Fault);
         }
         Ok(self.write(file, at, bytes))
     }
 
     fn cut(&mut self, file: Num, len: u32) -> Result<(), Fault> {
-        if self.fails(Asked::new(Kind::Cut, len, 0)) {
+        if self.fails(AskedCall::new(HostCallKind::Cut, len, 0)) {
             return Err(Fault);
         }
         let opened = self.opened(file);
@@ -191,7 +191,7 @@ impl Host for TestHost {
     }
 
     fn uncreate(&mut self, name: &Name, num: Num) -> Result<(), Fault> {
-        if self.fails(Asked::plain(Kind::Uncreate)) {
+        if self.fails(AskedCall::plain(HostCallKind::Uncreate)) {
             return Err(Fault);
         }
         self.names.retain(|entry| entry.0 != *name);
@@ -200,7 +200,7 @@ impl Host for TestHost {
     }
 
     fn name_back(&mut self, from: &Name, to: &Name) -> Result<(), Fault> {
-        if self.fails(Asked::plain(Kind::NameBack)) {
+        if self.fails(AskedCall::plain(HostCallKind::NameBack)) {
             return Err(Fault);
         }
         self.change_name(to, from);
@@ -208,7 +208,7 @@ impl Host for TestHost {
     }
 
     fn drop_pipe(&mut self, num: Num) -> Result<(), Fault> {
-        if self.fails(Asked::plain(Kind::DropPipe)) {
+        if self.fails(AskedCall::plain(HostCallKind::DropPipe)) {
             return Err(Fault);
         }
         self.pipes.remove(num);
@@ -216,7 +216,7 @@ impl Host for TestHost {
     }
 
     fn drop_pair(&mut self, num: Num) -> Result<(), Fault> {
-        if self.fails(Asked::plain(Kind::DropPair)) {
+        if self.fails(AskedCall::plain(HostCallKind::DropPair)) {
             return Err(Fault);
         }
         self.pairs.remove(num);

@@ -2,13 +2,13 @@ ghost use Rattle.std.specs.Prelude.{◌≡◌, [], length, IfOk};
 ghost use Rattle.xc_compensate.specs.Records.{IsRecord};
 
 use super::{FILE, host_of, name, shared_name};
-use Kind::{Append, Create, Cut, DropPipe, NameBack, NewPipe, Rename, Restore, Uncreate};
+use HostCallKind::{Append, Create, Cut, DropPipe, NameBack, NewPipe, Rename, Restore, Uncreate};
 use std::alloc::Global;
 use std::test::Fail;
 use xc_compensate::{Stack, UndoTurn};
-use xc_data::{Chunk, Kind, Name, NoMemory, Num, Undo};
+use xc_data::{Chunk, HostCallKind, Name, NoMemory, Num, Undo};
 use xc_host::Host;
-use xc_testhost::{Asked, TestHost};
+use xc_testhost::{AskedCall, TestHost};
 
 const UNDONE: UndoTurn = UndoTurn::Undone { faults: 0 };
 
@@ -43,11 +43,11 @@ fn fails_in_one_turn(mut host: TestHost, mut stack: Stack) -> bool {
     host.fails = [1, 3, 5];
     let turn = stack.undo_next(&mut host, 3);
     let calls = [
-        Asked::new(Restore, 2, 5),
-        Asked::new(Restore, 2, 5),
-        Asked::new(Restore, 4, 3),
-        Asked::new(Restore, 4, 3),
-        Asked::new(Restore, 6, 1),
+        AskedCall::new(Restore, 2, 5),
+        AskedCall::new(Restore, 2, 5),
+        AskedCall::new(Restore, 4, 3),
+        AskedCall::new(Restore, 4, 3),
+        AskedCall::new(Restore, 6, 1),
     ];
     turn == UndoTurn::Failed { done: 4, faults: 3 }
         && host.bytes.as_slice() == b"abcdefGh".as_slice()
@@ -115,12 +115,12 @@ fn is_undone(host: &mut TestHost, mut stack: Stack) -> bool {
 // The file is gone with its name, and the other file is there.
 fn is_undone_call_by_call(mut host: TestHost, made: &Name, moved: &Name, stack: Stack) -> bool {
     let calls = [
-        Asked::plain(Create),
-        Asked::plain(Rename),
-        Asked::new(Append, 0, 5),
-        Asked::new(Cut, 0, 0),
-        Asked::plain(NameBack),
-        Asked::plain(Uncreate),
+        AskedCall::plain(Create),
+        AskedCall::plain(Rename),
+        AskedCall::new(Append, 0, 5),
+        AskedCall::new(Cut, 0, 0),
+        AskedCall::plain(NameBack),
+        AskedCall::plain(Uncreate),
     ];
     has_made(&mut host, made, moved)
         && is_undone(&mut host, stack)
@@ -152,9 +152,9 @@ fn with_pipe(alloc: Global) -> Result<Stack, NoMemory> {
 fn drops_the_pipe(mut host: TestHost, mut stack: Stack) -> bool {
     host.fails = [2, 0, 0];
     let calls = [
-        Asked::plain(NewPipe),
-        Asked::plain(DropPipe),
-        Asked::plain(DropPipe),
+        AskedCall::plain(NewPipe),
+        AskedCall::plain(DropPipe),
+        AskedCall::plain(DropPipe),
     ];
     host.new_pipe(PIPE).is_ok()
         && stack.undo_next(&mut host, 3) == UndoTurn::Undone { faults: 1 }
@@ -206,7 +206,7 @@ fn goes_back(mut host: TestHost, mut stack: Stack) -> bool
         return false;
     }
     stack.forget(1);
-    let calls = [Asked::new(Restore, 0, 1), Asked::new(Restore, 0, 1)];
+    let calls = [AskedCall::new(Restore, 0, 1), AskedCall::new(Restore, 0, 1)];
     faults == 1
         && stack.mark() == 1
         && host.bytes.as_slice() == b"abCDEFGh".as_slice()

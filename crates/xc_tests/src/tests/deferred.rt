@@ -1,11 +1,11 @@
 ghost use Rattle.std.specs.Prelude.{◌≡◌, [], IfOk};
 
 use super::{FILE, are_of, host_of, shared_name};
-use Kind::{Lookup, Sync, Unlink};
+use HostCallKind::{Lookup, Sync, Unlink};
 use std::alloc::Global;
 use std::test::Fail;
 use xc_buffers::Kept;
-use xc_data::{Kind, LateCall, LateEnd, NoMemory};
+use xc_data::{HostCallKind, LateCall, LateEnd, NoMemory};
 use xc_deferred::Late;
 use xc_testhost::TestHost;
 
@@ -25,7 +25,7 @@ fn ends_so(
     mut late: Late,
     kept: &Kept,
     ends: &[LateEnd],
-    calls: &[Kind],
+    calls: &[HostCallKind],
 ) -> bool {
     for _ in 0..9 {
         if late.has_left() && late.next_thread().is_none() {

@@ -1,13 +1,13 @@
 ghost use Rattle.std.specs.Prelude.{◌≡◌, ◌≤◌};
 
 use super::{FILE, host_of};
-use Kind::{Append, Len, ReadAt, WriteAt};
+use HostCallKind::{Append, Len, ReadAt, WriteAt};
 use std::alloc::Global;
 use std::test::Fail;
 use xc_compensate::Stack;
-use xc_data::{Chunk, Kind, NoMemory, Place, Private, Reply};
+use xc_data::{Chunk, HostCallKind, NoMemory, Place, Private, Reply};
 use xc_file::{x_read, x_write_ovr, x_write_seq};
-use xc_testhost::{Asked, TestHost};
+use xc_testhost::{AskedCall, TestHost};
 
 // The file is open at handle 0, with so many bytes stored.
 fn opened(stored: u32) -> Private
@@ -38,10 +38,10 @@ fn reads_by_two(alloc: Global, mut host: TestHost) -> Result<bool, NoMemory> {
     let mut me = opened(7);
     let reply = x_read(alloc, &mut host, &mut me, 0, 9)?;
     let calls = [
-        Asked::new(ReadAt, 0, 9),
-        Asked::new(ReadAt, 2, 7),
-        Asked::new(ReadAt, 4, 5),
-        Asked::new(ReadAt, 5, 4),
+        AskedCall::new(ReadAt, 0, 9),
+        AskedCall::new(ReadAt, 2, 7),
+        AskedCall::new(ReadAt, 4, 5),
+        AskedCall::new(ReadAt, 5, 4),
     ];
     Ok(is_got(&reply, b"hello") && me.stored == 12 && host.log.as_slice() == calls.as_slice())
 }
@@ -62,13 +62,13 @@ fn overwrite(alloc: Global, host: &mut TestHost, bytes: &Chunk) -> Result<Reply,
 fn overwrites_by_two(alloc: Global, mut host: TestHost, bytes: &Chunk) -> Result<bool, NoMemory> {
     let reply = overwrite(alloc, &mut host, bytes)?;
     let calls = [
-        Asked::plain(Len),
-        Asked::new(ReadAt, 0, 5),
-        Asked::new(ReadAt, 2, 3),
-        Asked::new(ReadAt, 4, 1),
-        Asked::new(WriteAt, 0, 5),
-        Asked::new(WriteAt, 2, 3),
-        Asked::new(WriteAt, 4, 1),
+        AskedCall::plain(Len),
+        AskedCall::new(ReadAt, 0, 5),
+        AskedCall::new(ReadAt, 2, 3),
+        AskedCall::new(ReadAt, 4, 1),
+        AskedCall::new(WriteAt, 0, 5),
+        AskedCall::new(WriteAt, 2, 3),
+        AskedCall::new(WriteAt, 4, 1),
     ];
     Ok(
         reply == Reply::Done
@@ -89,9 +89,9 @@ fn is_past_the_end(alloc: Global, mut host: TestHost, bytes: &Chunk) -> Result<b
     host.len = 9;
     let reply = overwrite(alloc, &mut host, bytes)?;
     let calls = [
-        Asked::plain(Len),
-        Asked::new(ReadAt, 0, 9),
-        Asked::new(ReadAt, 5, 4),
+        AskedCall::plain(Len),
+        AskedCall::new(ReadAt, 0, 9),
+        AskedCall::new(ReadAt, 5, 4),
     ];
     Ok(
         reply == Reply::PastEnd
@@ -112,10 +112,10 @@ fn appends_by_two(alloc: Global, mut host: TestHost, bytes: &Chunk) -> Result<bo
     let mut undo = Stack::new(alloc);
     let reply = x_write_seq(&mut host, &mut me, &mut undo, 0, bytes)?;
     let calls = [
-        Asked::plain(Len),
-        Asked::new(Append, 0, 5),
-        Asked::new(Append, 0, 3),
-        Asked::new(Append, 0, 1),
+        AskedCall::plain(Len),
+        AskedCall::new(Append, 0, 5),
+        AskedCall::new(Append, 0, 3),
+        AskedCall::new(Append, 0, 1),
     ];
     Ok(
         reply == Reply::Done

@@ -1,16 +1,16 @@
 use super::{FILE, are_of, host_of, name};
-use Kind::{Lookup, ReadAt, Restore, WriteAt};
+use HostCallKind::{Lookup, ReadAt, Restore, WriteAt};
 use std::test::Fail;
-use xc_data::{Kind, Name, Num};
+use xc_data::{HostCallKind, Name, Num};
 use xc_host::{Host, HostErr};
-use xc_testhost::{Asked, TestHost};
+use xc_testhost::{AskedCall, TestHost};
 
 fn fails_twice(mut host: TestHost) -> bool {
     host.fails = [1, 3, 0];
     let calls = [
-        Asked::new(ReadAt, 0, 1),
-        Asked::new(WriteAt, 3, 2),
-        Asked::new(Restore, 3, 2),
+        AskedCall::new(ReadAt, 0, 1),
+        AskedCall::new(WriteAt, 3, 2),
+        AskedCall::new(Restore, 3, 2),
     ];
     host.read_at(FILE, 0, 1).is_err()
         && host.write_at(FILE, 3, b"LO") == Ok(2)

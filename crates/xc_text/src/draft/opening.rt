@@ -4,12 +4,12 @@ ghost use Rattle.std.specs.Prelude.{◌≡◌, false, Some};
 ghost use Rattle.std.specs.List.{list_any};
 ghost use Rattle.xc_tokens.specs.Answers.{Gives};
 ghost use Rattle.xc_text.specs.Places.{variable};
-ghost use Rattle.xc_text.specs.Steps.{is_file_of, sized_by, valued_by, filed, added, piped, piped_at, paired, faulted, grained};
+ghost use Rattle.xc_text.specs.Steps.{is_file_of, sized_by, valued_by, filed, file_added, piped, piped_at, paired, faulted, grain_stated};
 
 use crate::draft::{Draft, zeros};
 use crate::limits::{MOST_GRAIN, MOST_OBJECTS, MOST_WORDS};
 use std::alloc::Global;
-use xc_data::{Chunk, FaultLine, Kind, Name};
+use xc_data::{Chunk, FaultLine, HostCallKind, Name};
 use xc_tokens::{IdentWord, Stop, Why};
 
 impl Draft {
@@ -40,7 +40,7 @@ impl Draft {
 
     fn add_file(&mut self, name: Name, bytes: Chunk) -> Result<(), Stop>
         requires new { list_any (is_file_of name) self.old.objects ≡ false }
-        ensures { Gives (λ _. self.new) result (added self.old name (Some bytes)) }
+        ensures { Gives (λ _. self.new) result (file_added self.old name (Some bytes)) }
     {
         if self.objects.len() >= MOST_OBJECTS {
             return Err(Stop::Refused(Why::TooMany));
@@ -95,7 +95,7 @@ impl Draft {
         Ok(())
     }
 
-    pub(super) fn fault(&mut self, kind: Kind, first: u64, last: u64) -> Result<(), Stop>
+    pub(super) fn fault(&mut self, kind: HostCallKind, first: u64, last: u64) -> Result<(), Stop>
         ensures { Gives (λ _. self.new) result (faulted self.old kind first last) }
     {
         if first < 1 || last < first {
@@ -106,7 +106,7 @@ impl Draft {
     }
 
     pub(super) fn set_grain(&mut self, n: u64) -> Result<(), Stop>
-        ensures { Gives (λ _. self.new) result (grained self.old n) }
+        ensures { Gives (λ _. self.new) result (grain_stated self.old n) }
     {
         if n < 1 || n > MOST_GRAIN {
             return Err(Stop::Refused(Why::BadNumber));

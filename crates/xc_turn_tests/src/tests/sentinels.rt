@@ -6,7 +6,7 @@ use std::sync::ledger::{Blank, Ledger};
 use std::test::Fail;
 use xc_data::{Claim, HeldList, Mode, NoMemory, Object};
 use xc_locks::{Holding, Steps};
-use xc_sentinel::{Sentinels, Verdict};
+use xc_sentinel::{ClaimVerdict, Sentinels};
 
 fn word(at: u32) -> [Claim; 1] {
     [Claim {
@@ -22,7 +22,7 @@ fn ask(
     tx: u32,
     held: &mut Holding,
     patient: bool,
-) -> Result<Verdict, NoMemory>
+) -> Result<ClaimVerdict, NoMemory>
     requires holds { Holds sentinels.old.claims tx held.old.items }
     requires few { length claims.now < 2 ^ 32 }
     ensures holds { Holds sentinels.new.claims tx held.new.items }
@@ -41,15 +41,15 @@ fn an_older_one_waits_and_the_younger_is_marked(rt: HostRuntime) -> Result<(), F
     let mut older = Holding::new(alloc);
     let mut younger = Holding::new(alloc);
     let granted = ask(&mut sentinels, &word(0), 2, &mut younger, true)?;
-    assert!(rt; matches!(granted, Verdict::Granted));
+    assert!(rt; matches!(granted, ClaimVerdict::Granted));
     let busy = ask(&mut sentinels, &word(0), 1, &mut older, true)?;
-    assert!(rt; matches!(busy, Verdict::Busy { holder: 2, .. }));
+    assert!(rt; matches!(busy, ClaimVerdict::Busy { holder: 2, .. }));
     assert!(rt; matches!(sentinels.doomed(2), Some(mark) if mark.by == 1));
     assert!(rt; sentinels.doomed(1).is_none());
     sentinels.settle(2);
     assert!(rt; sentinels.active(2));
     let conflict = ask(&mut sentinels, &word(0), 1, &mut older, false)?;
-    assert!(rt; matches!(conflict, Verdict::Conflict { holder: 2, .. }));
+    assert!(rt; matches!(conflict, ClaimVerdict::Conflict { holder: 2, .. }));
     Ok(())
 }
 

@@ -32,15 +32,15 @@ open_at h num at = record { handle = h; num = num; at = at }
 
 module _ (w : World) (me : Private) where
   -- these bytes are read, and the position moves on
-  abbrev pub got : OpenFile → List ℕ → Stepped
-  got file bytes = step_to w (with_place me file.handle (File file.num (file.at + length bytes))) (Got bytes)
+  abbrev pub read_step : OpenFile → List ℕ → Stepped
+  read_step file bytes = step_to w (with_place me file.handle (File file.num (file.at + length bytes))) (Got bytes)
 
   -- the next n bytes, or all to the end where those are fewer
   abbrev pub read_at : ℕ → ℕ → Place → Stepped
   read_at h n (File num at) =
       if n == 0 then step_to w me (Got [])
       else if nat_le (length (file_of w num)) at then step_to w me End
-      else got (open_at h num at) (take n (drop at (file_of w num)))
+      else read_step (open_at h num at) (take n (drop at (file_of w num)))
   read_at h n _ = step_to w me BadHandle
 
   -- these bytes are written over, and the position moves on
@@ -58,8 +58,8 @@ module _ (w : World) (me : Private) where
   overwrite_at h bytes _ = step_to w me BadHandle
 
   -- these bytes are appended, and the position is the new end
-  abbrev pub appended : OpenFile → List ℕ → Reply → Stepped
-  appended file bytes r =
+  abbrev pub append_step : OpenFile → List ℕ → Reply → Stepped
+  append_step file bytes r =
       step_to (with_file w file.num (file_of w file.num ++ bytes))
       (with_place me file.handle (File file.num (length (file_of w file.num) + length bytes))) r
 
@@ -68,7 +68,7 @@ module _ (w : World) (me : Private) where
   append_at h bytes (File num at) =
       if length bytes == 0 then step_to w me Done
       else if nat_lt 65536 (length (file_of w num) + length bytes) then step_to w me TooBig
-      else appended (open_at h num at) bytes Done
+      else append_step (open_at h num at) bytes Done
   append_at h bytes _ = step_to w me BadHandle
 
   -- the handle's position is set, and stays where it would be past 65536
@@ -84,5 +84,5 @@ module _ (w : World) (me : Private) where
 
   -- an append that stops after n bytes
   abbrev pub append_short : ℕ × Place → List ℕ → ℕ → Stepped
-  append_short (h, File num at) bytes n = if n == 0 then step_to w me (Fault n) else appended (open_at h num at) (take n bytes) (Fault n)
+  append_short (h, File num at) bytes n = if n == 0 then step_to w me (Fault n) else append_step (open_at h num at) (take n bytes) (Fault n)
   append_short (h, place) bytes n = step_to w me (Fault n)

@@ -28,32 +28,32 @@ with_moved w from to num = record w { names = map.insert (map.remove w.names fro
 
 module _ (w : World) (me : Private) where
   -- a file's number, and the vacant handle
-  abbrev pub opened : Option Num → Option ℕ → Stepped
-  opened None vacant = step_to w me NoName
-  opened (Some num) (Some h) = step_to w (with_place me h (File num 0)) (Made h)
-  opened (Some num) None = step_to w me TooMuch
+  abbrev pub open_step : Option Num → Option ℕ → Stepped
+  open_step None vacant = step_to w me NoName
+  open_step (Some num) (Some h) = step_to w (with_place me h (File num 0)) (Made h)
+  open_step (Some num) None = step_to w me TooMuch
 
   -- the file of a name is put at the lowest vacant handle
-  abbrev pub opens : List ℕ → Stepped
-  opens name = opened (map.get w.names name) (lowest_vacant me.places)
+  abbrev pub open_by_name : List ℕ → Stepped
+  open_by_name name = open_step (map.get w.names name) (lowest_vacant me.places)
 
   -- a new name and a vacant handle make an empty file at its start: by what has the name, and the vacant handle
-  abbrev pub created : ℕ → List ℕ → Option Num × Option ℕ → Stepped
-  created tx name (Some num, vacant) = step_to w me Exists
-  created tx name (None, Some h) =
+  abbrev pub create_step : ℕ → List ℕ → Option Num × Option ℕ → Stepped
+  create_step tx name (Some num, vacant) = step_to w me Exists
+  create_step tx name (None, Some h) =
       step_to (with_new_file w name (next_num me tx)) (making (with_place me h (File (next_num me tx) 0))) (Made h)
-  created tx name (None, None) = step_to w me TooMuch
+  create_step tx name (None, None) = step_to w me TooMuch
 
   -- an empty file is made under a name, at the lowest vacant handle
   abbrev pub creates : ℕ → List ℕ → Stepped
-  creates tx name = created tx name (map.get w.names name, lowest_vacant me.places)
+  creates tx name = create_step tx name (map.get w.names name, lowest_vacant me.places)
 
   -- a file that is there takes a name that is not: by what has the first name, and what the second
-  abbrev pub renamed : List ℕ → List ℕ → Option Num × Option Num → Stepped
-  renamed from to (None, there) = step_to w me NoName
-  renamed from to (Some num, Some there) = step_to w me Exists
-  renamed from to (Some num, None) = step_to (with_moved w from to num) me Done
+  abbrev pub rename_step : List ℕ → List ℕ → Option Num × Option Num → Stepped
+  rename_step from to (None, there) = step_to w me NoName
+  rename_step from to (Some num, Some there) = step_to w me Exists
+  rename_step from to (Some num, None) = step_to (with_moved w from to num) me Done
 
   -- a file takes another name
   abbrev pub renames : List ℕ → List ℕ → Stepped
-  renames from to = renamed from to (map.get w.names from, map.get w.names to)
+  renames from to = rename_step from to (map.get w.names from, map.get w.names to)

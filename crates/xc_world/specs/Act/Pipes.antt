@@ -13,8 +13,8 @@ use Rattle.xc_world.specs.Act.Step.{Stepped, step_to}
 use Rattle.xc_world.specs.Act.Names.{next_num, making}
 
 -- nothing is there now, or ever again
-abbrev pub nothing : Pipe → Reply
-nothing pipe = if pipe.shut then End else Empty
+abbrev pub empty_or_end : Pipe → Reply
+empty_or_end pipe = if pipe.shut then End else Empty
 
 -- an empty pipe is made, at a vacant handle
 abbrev pub new_pipe : World → Private → ℕ → Option ℕ → Stepped
@@ -31,7 +31,7 @@ took w me num n =
 abbrev pub read_pipe_at : World → Private → ℕ → Place → Stepped
 read_pipe_at w me n (place.Pipe num) =
     if n == 0 then step_to w me (Got [])
-    else if length (pipe_of w num).held == 0 then step_to w me (nothing (pipe_of w num))
+    else if length (pipe_of w num).held == 0 then step_to w me (empty_or_end (pipe_of w num))
     else took w me num n
 read_pipe_at w me n _ = step_to w me BadHandle
 

@@ -55,8 +55,8 @@ storing_reply (Got bytes) me = storing me (length bytes)
 storing_reply _ me = me
 
 -- a call that passed the checks has its bytes and its reply's counted
-abbrev pub counted : Call → Stepped → Stepped
-counted call s = step_to s.world (storing_reply s.reply (storing_call call s.me)) s.reply
+abbrev pub bytes_counted : Call → Stepped → Stepped
+bytes_counted call s = step_to s.world (storing_reply s.reply (storing_call call s.me)) s.reply
 
 -- the bytes that a reply brings are at most 1,024
 abbrev pub IsShortReply : Reply → Type 0

@@ -2,7 +2,7 @@ use Rattle.std.proofs.Common.{◌∷◌, [], sym, arith, subst, ◌≡◌}
 use Rattle.std.specs.Prelude.{List, slice_get}
 use Rattle.std.specs.declared.option.Option.TheVariants.{Some}
 use Rattle.xc_model.specs.Asked.{ScriptJob, script_started}
-use Rattle.xc_asked.proofs.Children.{one_more, still_there}
+use Rattle.xc_asked.proofs.Children.{mapped_one_more, still_there}
 use Rattle.xc_asked.proofs.script_jobs.start_jobs.Goals as goal
 
 pub loop-block-preserved : goal.loop-block-preserved
@@ -16,7 +16,7 @@ loop-block-preserved c =
           subst (λ (js : List ScriptJob). slice_get js c.args.at ≡ Some j) (sym (went.child j now))
           (still_there l.jobs.items (script_started c.args.script.now j.job c.block-item.result ∷ []) c.args.at j now);
       children = λ j is.
-          one_more (script_started c.args.script.now j.job) c.args.jobs.now.items l.jobs.items c.start_one.new.jobs.items c.args.blocks.now
+          mapped_one_more (script_started c.args.script.now j.job) c.args.jobs.now.items l.jobs.items c.start_one.new.jobs.items c.args.blocks.now
           l.block-index c.block-item.result c.loop-block-test.true c.block-item.is (l.invariant.children j is)
           (went.child j (l.invariant.starter j is));
     }

@@ -3,8 +3,8 @@ use Rattle.std.specs.Prelude.{reverse, List}
 use Rattle.xc_data.specs.declared.entry.KeptItem.{KeptItem}
 use Rattle.xc_buffers.specs.Changes.{TakesBytes}
 use Rattle.xc_buffers.specs.Items.{AreKept, item_bytes}
-use Rattle.xc_buffers.specs.declared.source.Source.TheVariants.{Pipe}
-use Rattle.xc_buffers.proofs.Takes.{took_whole, took_kept, part_taken, part_kept}
+use Rattle.xc_buffers.specs.declared.source.Endpoint.TheVariants.{Pipe}
+use Rattle.xc_buffers.proofs.Takes.{took_whole, took_kept, part_taken, rest_kept}
 use Rattle.xc_buffers.proofs.rows.take_bytes.Goals as goal
 
 pub returns-then-len-n-clause-some : goal.returns-then-len-n-clause-some
@@ -34,6 +34,6 @@ returns-clause-taken c =
 pub returns-clause-kept : goal.returns-clause-kept
 returns-clause-kept c =
     let more : c.args.n < length c.chunk_of-bytes.result.now = omega (arith, c.len.ensures.value, c.if-len-n.false) in
-    part_kept c.args.items.now.items c.args.at c.args.pipe c.args.n c.len-2.result c.index.result.now c.chunk_of-bytes.result.now c.in_ok-front.front
+    rest_kept c.args.items.now.items c.args.at c.args.pipe c.args.n c.len-2.result c.index.result.now c.chunk_of-bytes.result.now c.in_ok-front.front
     c.in_ok-rest.rest
     c.index.ensures c.chunk_of-bytes.ensures more c.requires.kept c.requires.first c.len-2.ensures.value c.in_ok-front.ensures c.in_ok-rest.ensures

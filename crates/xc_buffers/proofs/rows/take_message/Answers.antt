@@ -3,7 +3,7 @@ use Rattle.std.specs.Prelude.{reverse, List}
 use Rattle.xc_data.specs.declared.entry.KeptItem.{KeptItem}
 use Rattle.xc_buffers.specs.Changes.{TakesMessage}
 use Rattle.xc_buffers.specs.Items.{AreKept, item_bytes}
-use Rattle.xc_buffers.specs.declared.source.Source.TheVariants.{Side}
+use Rattle.xc_buffers.specs.declared.source.Endpoint.TheVariants.{Side}
 use Rattle.xc_buffers.proofs.Takes.{took_message, took_kept}
 use Rattle.xc_buffers.proofs.rows.take_message.Goals as goal
 

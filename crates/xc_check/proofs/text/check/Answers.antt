@@ -1,7 +1,7 @@
 use Rattle.std.proofs.Common.{subst}
 use Rattle.std.proofs.lemmas.Result.{IfOk-weaker}
 use Rattle.xc_sheet.specs.Sheets.{AreWholeFrom, IsReadSheet}
-use Rattle.xc_sheet.specs.declared.places.Place.TheVariants.{Between}
+use Rattle.xc_sheet.specs.declared.places.LinePlace.TheVariants.{Between}
 use Rattle.xc_text.specs.declared.script.Script.{Script}
 use Rattle.xc_check.specs.TrueTexts.{IsTrueAsPrinted, telling}
 use Rattle.xc_check.specs.Verdicts.{IsVerdict, IsVerdictOn}

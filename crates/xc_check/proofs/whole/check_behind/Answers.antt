@@ -6,7 +6,8 @@ use Rattle.xc_grounds.specs.Numbered.{AreNumbered, part_begins}
 use Rattle.xc_model.specs.Grounds.{AreGrounded, scene_of}
 use Rattle.xc_check.specs.Refusals.{line_behind}
 use Rattle.xc_check.specs.TrueTexts.{telling}
-use Rattle.xc_check.proofs.Verdicts.{false_ground, found_none, found_some, judged_count, parts_numbered}
+use Rattle.xc_check.proofs.Verdicts.{false_ground, none_is_so, judged_count, parts_numbered}
+use Rattle.xc_judge.proofs.Laws.{found_some}
 use Rattle.xc_check.proofs.whole.check_behind.Goals as goal
 
 pub first_groundless-requires-clause-numbered : goal.first_groundless-requires-clause-numbered
@@ -62,7 +63,7 @@ returns-in-None c entries judged lines are =
     let s = telling c.args.script.now c.args.rules.now in
     let grounded : AreGrounded (scene_of true c.args.judging.parts.items []) =
     subst (λ parts. AreGrounded (scene_of true parts [])) c.as_slice.ensures.value
-    (found_none c.in_ok-place.field-0 (AreGrounded (scene_of true c.as_slice.result.now [])) (IsFirstGroundless c.as_slice.result.now)
+    (none_is_so c.in_ok-place.field-0 (AreGrounded (scene_of true c.as_slice.result.now [])) (IsFirstGroundless c.as_slice.result.now)
     c.in-None.is c.in_ok-place.ensures) in
     let at = length c.as_slice-in-None.result.now in
     let count : at ≡ length entries = ap length c.as_slice-in-None.ensures.value ∙ judged_count s entries c.args.judging judged in

@@ -5,7 +5,7 @@ use Rattle.xc_check.specs.Refusals.{AreFirstLines}
 use Rattle.xc_check.specs.TrueTexts.{telling}
 use Rattle.xc_check.specs.Verdicts.{IsVerdictIn}
 use Rattle.xc_check.proofs.Texts.{entries_within}
-use Rattle.xc_check.proofs.Verdicts.{begins_count, found_none, judged_all, refused_of_all, refused_within}
+use Rattle.xc_check.proofs.Verdicts.{begins_shown_count, none_is_so, judged_all, refused_of_all, refused_within}
 use Rattle.xc_check.proofs.whole.check_entries.Goals as goal
 
 -- src/whole.rt
@@ -18,7 +18,7 @@ totals_of_shown-totals-requires c =
 
 pub first_misnumbered-requires : goal.first_misnumbered-requires
 first_misnumbered-requires c =
-    let size = ap length (c.as_slice-4.ensures.value ∙ c.in_ok-begins.ensures ∙ ap begins_shown c.as_slice-3.ensures) ∙ begins_count c.args.entries in
+    let size = ap length (c.as_slice-4.ensures.value ∙ c.in_ok-begins.ensures ∙ ap begins_shown c.as_slice-3.ensures) ∙ begins_shown_count c.args.entries in
     let within = entries_within c.args.entries in
     let few = c.requires.few in
     omega (arith, size, within, few)
@@ -48,7 +48,7 @@ check_behind-requires-clause-judged c =
     let entries = c.args.entries in
     let begins = c.as_slice-4.result.now in
     let are : begins ≡ begins_shown entries = c.as_slice-4.ensures.value ∙ c.in_ok-begins.ensures ∙ ap begins_shown c.as_slice-3.ensures in
-    let numbered = found_none c.in_ok-misnumbered.misnumbered (AreNumbered (length begins) begins) (IsFirstMisnumbered (length begins) begins)
+    let numbered = none_is_so c.in_ok-misnumbered.misnumbered (AreNumbered (length begins) begins) (IsFirstMisnumbered (length begins) begins)
     c.in_default.is c.in_ok-misnumbered.ensures in
     let lines : AreFirstLines entries c.as_slice-lines.result.now =
     subst (λ ls. AreFirstLines entries ls) (sym c.as_slice-lines.ensures.value)
@@ -65,7 +65,7 @@ returns-in-Ok c =
     let entries = c.args.entries in
     let begins = c.as_slice-4.result.now in
     let are : begins ≡ begins_shown entries = c.as_slice-4.ensures.value ∙ c.in_ok-begins.ensures ∙ ap begins_shown c.as_slice-3.ensures in
-    let numbered = found_none c.in_ok-misnumbered.misnumbered (AreNumbered (length begins) begins) (IsFirstMisnumbered (length begins) begins)
+    let numbered = none_is_so c.in_ok-misnumbered.misnumbered (AreNumbered (length begins) begins) (IsFirstMisnumbered (length begins) begins)
     c.in_default.is c.in_ok-misnumbered.ensures in
     let lines : AreFirstLines entries c.as_slice-lines.result.now =
     subst (λ ls. AreFirstLines entries ls) (sym c.as_slice-lines.ensures.value)
@@ -80,7 +80,7 @@ refused_at-requires c =
     let entries = c.args.entries in
     let begins = c.as_slice-4.result.now in
     let are : begins ≡ begins_shown entries = c.as_slice-4.ensures.value ∙ c.in_ok-begins.ensures ∙ ap begins_shown c.as_slice-3.ensures in
-    let numbered = found_none c.in_ok-misnumbered.misnumbered (AreNumbered (length begins) begins) (IsFirstMisnumbered (length begins) begins)
+    let numbered = none_is_so c.in_ok-misnumbered.misnumbered (AreNumbered (length begins) begins) (IsFirstMisnumbered (length begins) begins)
     c.in_default.is c.in_ok-misnumbered.ensures in
     let lines : AreFirstLines entries c.as_slice-lines.result.now =
     subst (λ ls. AreFirstLines entries ls) (sym c.as_slice-lines.ensures.value)
@@ -97,7 +97,7 @@ returns c =
     let entries = c.args.entries in
     let begins = c.as_slice-4.result.now in
     let are : begins ≡ begins_shown entries = c.as_slice-4.ensures.value ∙ c.in_ok-begins.ensures ∙ ap begins_shown c.as_slice-3.ensures in
-    let numbered = found_none c.in_ok-misnumbered.misnumbered (AreNumbered (length begins) begins) (IsFirstMisnumbered (length begins) begins)
+    let numbered = none_is_so c.in_ok-misnumbered.misnumbered (AreNumbered (length begins) begins) (IsFirstMisnumbered (length begins) begins)
     c.in_default.is c.in_ok-misnumbered.ensures in
     let lines : AreFirstLines entries c.as_slice-lines.result.now =
     subst (λ ls. AreFirstLines entries ls) (sym c.as_slice-lines.ensures.value)

@@ -1,13 +1,13 @@
 use Rattle.std.proofs.Common.{sym, ◌∙◌, rules}
 use Rattle.xc_host.specs.Uses.{back_kind}
 use Rattle.xc_host.proofs.Laws.{used_again, rises_sum}
-use Rattle.xc_compensate.proofs.Calling.{taken_back, failed_try}
+use Rattle.xc_compensate.proofs.Calling.{tried_until_done, failed_try}
 use Rattle.xc_compensate.proofs.taking_back.take_back.Goals as goal
 
 pub returns-then-is_ok-clause-undoes : goal.returns-then-is_ok-clause-undoes
 returns-then-is_ok-clause-undoes g c = record {
   faults = search rules;
-  uses = taken_back g.H.Host.model c.args.undo.now c.loop-faults.faults c.args.host.now c.loop-faults.host c.call_back.new.host c.requires.one
+  uses = tried_until_done g.H.Host.model c.args.undo.now c.loop-faults.faults c.args.host.now c.loop-faults.host c.call_back.new.host c.requires.one
       c.loop-faults.invariant.used c.call_back.ensures.answered.used;
   effect = search rules;
 }

@@ -1,7 +1,7 @@
 use Rattle.std.proofs.Common.{subst, length}
-use Rattle.xc_data.specs.declared.script.Kind.TheVariants.{Restore}
+use Rattle.xc_data.specs.declared.script.HostCallKind.TheVariants.{Restore}
 use Rattle.xc_host.specs.Uses.{Uses, MovesBy}
-use Rattle.xc_compensate.proofs.Calling.{restored_more, within, few_yet}
+use Rattle.xc_compensate.proofs.Calling.{restored_more, step_within, few_yet}
 use Rattle.xc_compensate.proofs.undoing.restore_whole.Goals as goal
 
 pub returns-then-progress-tries-clause-uses : goal.returns-then-progress-tries-clause-uses
@@ -17,7 +17,7 @@ loop-progress-preserved g c =
     let was = c.loop-progress.invariant in
     let next = c.restore_more-progress.ensures in
     record {
-      room = within _ _ _ next.step was.room;
+      room = step_within _ _ _ next.step was.room;
       left = few_yet _ _ _ c.args.tries next.step was.left c.if-progress-tries.false;
       fits = next.fits;
       told = λ t. next.effect t (g.H.Host.model.contents c.args.host.now) (c.requires.fits t) (was.told t);

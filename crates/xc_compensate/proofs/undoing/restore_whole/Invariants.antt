@@ -1,6 +1,6 @@
 use Rattle.std.proofs.Common.{◌≡◌, ◌+◌, ◌-◌, ◌≤◌, ◌<◌, length, take, IsTrue}
 use Rattle.xc_data.specs.Counts.{RisesBy}
-use Rattle.xc_data.specs.declared.script.Kind.TheVariants.{Restore}
+use Rattle.xc_data.specs.declared.script.HostCallKind.TheVariants.{Restore}
 use Rattle.xc_host.specs.Contents.{wrote_front}
 use Rattle.xc_host.specs.Uses.{Uses, MovesBy}
 use Rattle.xc_compensate.specs.Restoring.{FitsIn}

@@ -1,16 +1,16 @@
 use Rattle.std.proofs.Common.{refl, map, string_bytes}
-use Rattle.xc_coop.specs.Headline.{IsFinished}
-use Rattle.xc_coop.proofs.Finishing.{finished}
+use Rattle.xc_coop.specs.Headline.{IsCoopFinished}
+use Rattle.xc_coop.proofs.Finishing.{coop_finished}
 use Rattle.xc_coop.proofs.run.coop_run.Goals as goal
 
 -- the run is finished
-by_polls : (g : _) (c : goal.After-finish_run g) → IsFinished g.H.Host.model (map string_bytes c.args.words.now) (record {
+by_polls : (g : _) (c : goal.After-finish_run g) → IsCoopFinished g.H.Host.model (map string_bytes c.args.words.now) (record {
   source = record { old = g.S.Source.told c.args.source.now; new = g.S.Source.told c.start.new.source };
   sink = record { old = g.K.Sink.told c.args.sink.now; new = g.K.Sink.told c.finish_run.new.sink };
 }) c.args.host c.finish_run.result
 by_polls g c =
     let (end, some, left, meant, due, is, written) = c.finish_run.ensures.end in
-    finished _ _ _ _ _ meant _ due written c.finish_run.result _ _ end refl some c.finish_run.ensures.host c.in-Ok.ensures.started
+    coop_finished _ _ _ _ _ meant _ due written c.finish_run.result _ _ end refl some c.finish_run.ensures.host c.in-Ok.ensures.started
     c.take_cooperatively-station.ensures.origin left is
 
 pub returns-in-Ok-clause-answered : goal.returns-in-Ok-clause-answered

@@ -1,5 +1,5 @@
 use Rattle.std.proofs.Common.{[], ◌∷◌, inr, refl, rules}
-use Rattle.xc_data.specs.declared.script.Kind.TheVariants.{Lookup, Unlink}
+use Rattle.xc_data.specs.declared.script.HostCallKind.TheVariants.{Lookup, Unlink}
 use Rattle.xc_host.proofs.Laws.{used_then}
 use Rattle.xc_deferred.proofs.doing.unlink.Goals as goal
 

@@ -1,5 +1,5 @@
 use Rattle.std.proofs.Common.{rules, ◌∙◌, ◌+◌, ◌-◌, ◌≤◌, length, take, drop, arith, length-take, length-drop}
-use Rattle.xc_data.specs.declared.script.Kind.TheVariants.{Put}
+use Rattle.xc_data.specs.declared.script.HostCallKind.TheVariants.{Put}
 use Rattle.xc_host.proofs.Laws.{moves_more, moves_none}
 use Rattle.xc_deferred.proofs.PipePuts.{put_more, put_keeps}
 use Rattle.xc_deferred.proofs.putting.put_whole.Goals as goal

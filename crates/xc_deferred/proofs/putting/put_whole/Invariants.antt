@@ -1,5 +1,5 @@
 use Rattle.std.proofs.Common.{◌≡◌, ◌+◌, ◌-◌, ◌<◌, ◌≤◌, true, false, length, take, IsTrue}
-use Rattle.xc_data.specs.declared.script.Kind.TheVariants.{Put}
+use Rattle.xc_data.specs.declared.script.HostCallKind.TheVariants.{Put}
 use Rattle.xc_host.specs.Pipes.{has_pipe, pipe_in, put_front}
 use Rattle.xc_host.specs.Uses.{Uses, MovesBy}
 use Rattle.xc_deferred.proofs.putting.put_whole.Given as goal

@@ -1,5 +1,5 @@
 use Rattle.std.proofs.Common.{rules, ◌∙◌, ◌+◌, ◌-◌, ◌≤◌, length, take, drop, arith, length-take, length-drop}
-use Rattle.xc_data.specs.declared.script.Kind.TheVariants.{Append}
+use Rattle.xc_data.specs.declared.script.HostCallKind.TheVariants.{Append}
 use Rattle.xc_host.proofs.Laws.{moves_more}
 use Rattle.xc_file.proofs.Appends.{append_more, append_grows}
 use Rattle.xc_file.proofs.FileUses.{append_stops}

@@ -1,5 +1,5 @@
 use Rattle.std.proofs.Common.{◌≡◌, ◌+◌, ◌-◌, ◌≤◌, true, length, take, IsTrue}
-use Rattle.xc_data.specs.declared.script.Kind.TheVariants.{Append}
+use Rattle.xc_data.specs.declared.script.HostCallKind.TheVariants.{Append}
 use Rattle.xc_host.specs.Contents.{file_in, has_file, appended_front}
 use Rattle.xc_host.specs.Uses.{Uses, MovesBy}
 use Rattle.xc_file.proofs.appending.append_whole.Given as goal

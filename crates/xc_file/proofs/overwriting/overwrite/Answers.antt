@@ -1,5 +1,5 @@
 use Rattle.std.proofs.Common.{Ok, ◌∙◌, ap, subst, cond, length}
-use Rattle.xc_data.specs.declared.script.Kind.TheVariants.{WriteAt}
+use Rattle.xc_data.specs.declared.script.HostCallKind.TheVariants.{WriteAt}
 use Rattle.xc_host.specs.Uses.{Uses, MovesBy}
 use Rattle.xc_file.proofs.FileUses.{overwrites_all, overwrites_front, looked_there}
 use Rattle.xc_file.proofs.overwriting.overwrite.Goals as goal

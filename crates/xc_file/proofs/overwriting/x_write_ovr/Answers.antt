@@ -4,7 +4,7 @@ use Rattle.xc_data.specs.declared.call.Reply.{Reply}
 use Rattle.xc_data.specs.declared.private.Place.TheVariants.{File}
 use Rattle.xc_world.specs.Trail.{overwrite_record, done_of}
 use Rattle.xc_host.specs.Contents.{world_of}
-use Rattle.xc_file.specs.Checks.{refusal_at}
+use Rattle.xc_file.specs.Checks.{file_refusal_at}
 use Rattle.xc_calls.proofs.Laws.{refused_call, passed_call}
 use Rattle.xc_file.proofs.FileCalls.{some_grow, at_handle}
 use Rattle.xc_file.proofs.Refusals.{refused_overwrite}
@@ -12,13 +12,13 @@ use Rattle.xc_file.proofs.overwriting.x_write_ovr.Goals as goal
 
 pub returns-in-Err-clause-call : goal.returns-in-Err-clause-call
 returns-in-Err-clause-call g c =
-    let refused = ap (refusal_at c.args.me.now c.args.h) (sym c.len.ensures.value) ∙ c.in-Err.ensures.checks in
+    let refused = ap (file_refusal_at c.args.me.now c.args.h) (sym c.len.ensures.value) ∙ c.in-Err.ensures.checks in
     λ number. refused_call g.H.Host.model _ (record { host = c.args.host.now; number = number; me = c.args.me.now; undo = c.args.undo.now }) _ refused
     (refused_overwrite c.args.me.now c.args.h c.args.bytes.now _ refused)
 
 pub returns-clause-call : goal.returns-clause-call
 returns-clause-call g c =
-    let free = ap (refusal_at c.args.me.now c.args.h) (sym c.len.ensures.value) ∙ c.in-Ok.ensures.checks in
+    let free = ap (file_refusal_at c.args.me.now c.args.h) (sym c.len.ensures.value) ∙ c.in-Ok.ensures.checks in
     let next = c.write_next.ensures in
     let w = world_of (g.H.Host.model.contents c.args.host.now) in
     let file = c.in-Ok.file in

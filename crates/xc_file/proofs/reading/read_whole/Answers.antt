@@ -1,5 +1,5 @@
 use Rattle.std.proofs.Common.{◌+◌, ◌-◌, length, ◌∙◌, arith}
-use Rattle.xc_data.specs.declared.script.Kind.TheVariants.{ReadAt}
+use Rattle.xc_data.specs.declared.script.HostCallKind.TheVariants.{ReadAt}
 use Rattle.xc_host.proofs.Laws.{moves_more}
 use Rattle.xc_calls.proofs.Laws.{always_err}
 use Rattle.xc_file.proofs.FileUses.{reads_end, reads_fail}

@@ -1,5 +1,5 @@
 use Rattle.std.proofs.Common.{◌≡◌, ◌-◌, ◌≤◌, length, take, drop, IsTrue}
-use Rattle.xc_data.specs.declared.script.Kind.TheVariants.{ReadAt}
+use Rattle.xc_data.specs.declared.script.HostCallKind.TheVariants.{ReadAt}
 use Rattle.xc_host.specs.Contents.{file_in}
 use Rattle.xc_host.specs.Uses.{Uses, MovesBy}
 use Rattle.xc_file.proofs.reading.read_whole.Given as goal

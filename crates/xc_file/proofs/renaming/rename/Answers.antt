@@ -1,12 +1,12 @@
 use Rattle.std.proofs.Common.{[], ◌∷◌, inl, inr, refl}
-use Rattle.xc_data.specs.declared.script.Kind.TheVariants.{Lookup}
+use Rattle.xc_data.specs.declared.script.HostCallKind.TheVariants.{Lookup}
 use Rattle.xc_host.proofs.Laws.{used_then}
-use Rattle.xc_file.proofs.FileUses.{renames}
+use Rattle.xc_file.proofs.FileUses.{uses_rename}
 use Rattle.xc_file.proofs.renaming.rename.Goals as goal
 
 pub returns-in-Ok-None-lookup-clause-uses : goal.returns-in-Ok-None-lookup-clause-uses
 returns-in-Ok-None-lookup-clause-uses g c =
-    renames g.H.Host.model c.args.from.now c.args.to.now c.args.host.now c.lookup.new.self c.lookup-2.new.self c.rename_recorded.new.host
+    uses_rename g.H.Host.model c.args.from.now c.args.to.now c.args.host.now c.lookup.new.self c.lookup-2.new.self c.rename_recorded.new.host
     c.rename_recorded.result c.lookup.ensures.answered.used c.lookup-2.ensures.answered.used c.rename_recorded.ensures.uses
 
 pub returns-in-Err-Fault-lookup-clause-uses : goal.returns-in-Err-Fault-lookup-clause-uses

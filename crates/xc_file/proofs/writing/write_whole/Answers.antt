@@ -1,5 +1,5 @@
 use Rattle.std.proofs.Common.{IsTrue, ◌∙◌, ◌+◌, ◌-◌, ◌≤◌, length, take, drop, arith, length-take, length-drop}
-use Rattle.xc_data.specs.declared.script.Kind.TheVariants.{WriteAt}
+use Rattle.xc_data.specs.declared.script.HostCallKind.TheVariants.{WriteAt}
 use Rattle.xc_host.proofs.Laws.{moves_more, moves_none}
 use Rattle.xc_file.proofs.WriteFronts.{write_more, write_keeps}
 use Rattle.xc_file.proofs.writing.write_whole.Goals as goal

@@ -1,5 +1,5 @@
 use Rattle.std.proofs.Common.{◌≡◌, ◌+◌, ◌-◌, ◌≤◌, true, length, take, IsTrue}
-use Rattle.xc_data.specs.declared.script.Kind.TheVariants.{WriteAt}
+use Rattle.xc_data.specs.declared.script.HostCallKind.TheVariants.{WriteAt}
 use Rattle.xc_host.specs.Contents.{file_in, has_file, wrote_front}
 use Rattle.xc_host.specs.Uses.{Uses, MovesBy}
 use Rattle.xc_file.proofs.writing.write_whole.Given as goal

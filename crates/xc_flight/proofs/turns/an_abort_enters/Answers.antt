@@ -1,5 +1,5 @@
-use Rattle.xc_flight.proofs.Undoing.{aborted}
+use Rattle.xc_flight.proofs.Undoing.{abort_enters}
 use Rattle.xc_flight.proofs.turns.an_abort_enters.Goals as goal
 
 pub returns : goal.returns
-returns c = λ s job t f. aborted s job t f.all f.active f.phase
+returns c = λ s job t f. abort_enters s job t f.all f.active f.phase

@@ -1,4 +1,4 @@
-use Rattle.xc_judge.proofs.Blocking.{blocker_is}
+use Rattle.xc_compensate.proofs.Laws.{blocker_is}
 use Rattle.xc_judge.proofs.legal.blocker.Goals as goal
 
 pub returns-in-Some : goal.returns-in-Some

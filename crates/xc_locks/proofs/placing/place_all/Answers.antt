@@ -1,7 +1,7 @@
 use Rattle.std.proofs.Common.{◌∷◌, ◌++◌, [], None, cond, List, take, ap, ap₂, sym, ◌∙◌, subst}
 use Rattle.xc_data.specs.declared.object.Object.{Object}
 use Rattle.xc_data.specs.declared.claim.Claim.{Claim}
-use Rattle.xc_locks.specs.Placing.{Placed}
+use Rattle.xc_locks.specs.Placing.{IsPlaced}
 use Rattle.xc_locks.specs.Table.{Table, has, held_mode}
 use Rattle.xc_locks.proofs.Claimed.{take-more}
 use Rattle.xc_locks.proofs.Places.{placed-append, taken_back}
@@ -13,9 +13,9 @@ loop-claim-preserved g c =
     let i = c.loop-claim.claim-index in
     let one = c.claim-item.result ∷ [] in
     let more = c.in_default.ensures.ok in
-    subst (λ (seen : List Claim). Placed c.args.tx seen c.args.holders.now c.place.new.holders c.place.new.added.items)
+    subst (λ (seen : List Claim). IsPlaced c.args.tx seen c.args.holders.now c.place.new.holders c.place.new.added.items)
     (sym (take-more claims i c.claim-item.result c.loop-claim-test.true c.claim-item.is))
-    (subst (λ (added : List Object). Placed c.args.tx (take i claims ++ one) c.args.holders.now c.place.new.holders added) (sym more.1)
+    (subst (λ (added : List Object). IsPlaced c.args.tx (take i claims ++ one) c.args.holders.now c.place.new.holders added) (sym more.1)
     (placed-append c.args.tx (take i claims) one c.args.holders.now c.loop-claim.holders c.place.new.holders c.loop-claim.added.items more.0
     c.loop-claim.invariant more.2))
 

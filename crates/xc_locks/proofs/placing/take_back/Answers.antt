@@ -1,7 +1,7 @@
 use Rattle.std.proofs.Common.{subst, drop, ◌+◌, sym, List}
 use Rattle.xc_data.specs.declared.object.Object.{Object}
 use Rattle.xc_locks.specs.Table.{Table}
-use Rattle.xc_locks.proofs.Claimed.{Removing, left-cons, removing_more}
+use Rattle.xc_locks.proofs.Claimed.{Removing, rest-cons, removing_more}
 use Rattle.xc_locks.proofs.placing.take_back.Goals as goal
 
 pub loop-object-preserved : goal.loop-object-preserved
@@ -12,4 +12,4 @@ loop-object-preserved g c =
     subst (λ (t : Table). Removing c.args.tx c.args.holders.now t objects rest) (sym c.take.ensures.removed)
     (removing_more c.args.tx c.args.holders.now c.loop-object.holders objects rest c.object-item.result
     (subst (λ (left : List Object). Removing c.args.tx c.args.holders.now c.loop-object.holders objects left)
-    (left-cons objects i c.object-item.result c.loop-object-test.true c.object-item.is) c.loop-object.invariant))
+    (rest-cons objects i c.object-item.result c.loop-object-test.true c.object-item.is) c.loop-object.invariant))

@@ -5,15 +5,15 @@ use Rattle.xc_data.specs.declared.private.Private.{Private}
 use Rattle.xc_world.specs.Run.{BlockState, asked_of, opens}
 use Rattle.xc_machine.specs.Replay.{IsReplayed, AreReplayedOn, told}
 use Rattle.xc_machine.proofs.MachineRun.{left-cons}
-use Rattle.xc_machine.proofs.MachineReplay.{asked_at, asked_length, as_many, next, back}
-use Rattle.xc_machine.proofs.MachineBlocks.{made_none, made_more, made_whole, so_far, state_more}
+use Rattle.xc_machine.proofs.MachineReplay.{asked_stands, asked_length, replies_as_many, replayed_next, replayed_back}
+use Rattle.xc_machine.proofs.MachineBlocks.{made_none, body_made_more, made_whole, so_far, state_more}
 use Rattle.xc_machine.specs.Traced.{TracesAt}
 use Rattle.xc_machine.proofs.MachineTraces.{traces_whole}
 use Rattle.xc_machine.proofs.traced.replay_traced.Goals as goal
 
 pub returns-then-calls-replies-clause-decides : goal.returns-then-calls-replies-clause-decides
 returns-then-calls-replies-clause-decides c = λ all.
-    search (rules, as_many c.args.tx (opens c.args.world.now c.args.me.now) c.args.calls.now c.args.replies.now all)
+    search (rules, replies_as_many c.args.tx (opens c.args.world.now c.args.me.now) c.args.calls.now c.args.replies.now all)
 
 pub loop-at-init : goal.loop-at-init
 loop-at-init c =
@@ -45,7 +45,7 @@ loop-at-preserved c =
     let inside : i < length calls = search rules in
     let behind : i < length replies = search rules in
     let within : i < length asked = subst (λ n. i < n) (sym (asked_length calls replies)) inside in
-    let at = asked_at calls replies i call reply inside behind c.index-calls-at.is c.index-replies-at.is in
+    let at = asked_stands calls replies i call reply inside behind c.index-calls-at.is c.index-replies-at.is in
     let left = left-cons calls i call inside c.index-calls-at.is in
     let left_replies = left-cons replies i reply behind c.index-replies-at.is in
     let stood = before.made.stands in
@@ -53,7 +53,7 @@ loop-at-preserved c =
     subst (λ (v : World). IsReplayed v b.now.me tx call reply) stood.world_is
     (subst (λ (m : Private). IsReplayed c.loop-at.world m tx call reply) stood.me_is (gave.decides.0 yes)) in
     let made =
-    made_more w me tx asked i (told call reply) c.trace_call.new.world c.trace_call.new.me c.trace_call.new.self c.requires.sound within at
+    body_made_more w me tx asked i (told call reply) c.trace_call.new.world c.trace_call.new.me c.trace_call.new.self c.requires.sound within at
     before.made.fits here.fits (OnTrue_at yes (gave.stands b stood)) in
     let same = state_more w me tx asked i (told call reply) within at in
     record {
@@ -62,8 +62,9 @@ loop-at-preserved c =
       sound = made.sound;
       words = subst (λ n. n < 2 ^ 32) (sym made.words) c.requires.words;
       to = λ all. subst (λ (s : BlockState). AreReplayedOn tx s (drop (i + 1) calls) (drop (i + 1) replies)) (sym same)
-          (next tx b call reply (drop i calls) (drop (i + 1) calls) (drop i replies) (drop (i + 1) replies) left left_replies (before.to all)).1;
-      from = λ rest. before.from (back tx b call reply (drop i calls) (drop (i + 1) calls) (drop i replies) (drop (i + 1) replies) left left_replies here
+          (replayed_next tx b call reply (drop i calls) (drop (i + 1) calls) (drop i replies) (drop (i + 1) replies) left left_replies (before.to all)).1;
+      from =
+          λ rest. before.from (replayed_back tx b call reply (drop i calls) (drop (i + 1) calls) (drop i replies) (drop (i + 1) replies) left left_replies here
           (subst (λ (s : BlockState). AreReplayedOn tx s (drop (i + 1) calls) (drop (i + 1) replies)) same rest));
     }
 

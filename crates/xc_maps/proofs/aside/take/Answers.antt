@@ -5,13 +5,13 @@ use Rattle.std.specs.Cmp.Lexicographic.{nat_list_cmp_total}
 use Rattle.std.proofs.lemmas.Map.Lookups.{exact_bytes}
 use Rattle.xc_maps.specs.Keys.{name_cmp}
 use Rattle.xc_maps.specs.Moved.{AreNew}
-use Rattle.xc_maps.proofs.Moved.{behind, found_at, cut_at, tree_changed, fresh_cut, fresh_changed}
+use Rattle.xc_maps.proofs.Moved.{tree_behind, found_outside, cut_at, tree_changed, fresh_cut, fresh_changed}
 use Rattle.xc_maps.proofs.aside.take.Goals as goal
 
 pub returns-in-Some-clause-value : goal.returns-in-Some-clause-value
 returns-in-Some-clause-value g c =
     let p = c.in-Some.ensures.some in
-    sym (found_at nat_list_cmp_total exact_bytes c.args.moved.now.items c.args.entries.now.entries p.0 c.args.name c.in-Some.value c.requires p.1)
+    sym (found_outside nat_list_cmp_total exact_bytes c.args.moved.now.items c.args.entries.now.entries p.0 c.args.name c.in-Some.value c.requires p.1)
 
 pub returns-in-Some-clause-taken : goal.returns-in-Some-clause-taken
 returns-in-Some-clause-taken g c = λ q.
@@ -28,7 +28,7 @@ returns-in-Some-clause-fresh g c =
 pub returns-in-None-clause-value : goal.returns-in-None-clause-value
 returns-in-None-clause-value g c =
     c.remove.ensures.value
-    ∙ sym (behind nat_list_cmp_total exact_bytes c.args.moved.now.items c.args.entries.now.entries c.args.name c.in-None.ensures.none)
+    ∙ sym (tree_behind nat_list_cmp_total exact_bytes c.args.moved.now.items c.args.entries.now.entries c.args.name c.in-None.ensures.none)
 
 pub returns-in-None-clause-taken : goal.returns-in-None-clause-taken
 returns-in-None-clause-taken g c = λ q.

@@ -1,5 +1,5 @@
 use Rattle.std.proofs.Common.{arith, sym, ◌∙◌}
-use Rattle.xc_options.proofs.Numerals.{number_in-inside, number_in-unread}
+use Rattle.xc_options.proofs.Numerals.{number_between-inside, number_in-unread}
 use Rattle.xc_options.proofs.numbers.number_of.Goals as goal
 
 pub returns-in_err-number-clause-value : goal.returns-in_err-number-clause-value
@@ -10,5 +10,5 @@ returns-in_err-number-clause-value c =
 
 pub returns-clause-value : goal.returns-clause-value
 returns-clause-value c =
-    sym (number_in-inside c.args.least c.args.most c.args.text.now c.parse.result c.parse.ensures.value.0 c.in_ok-number.number
+    sym (number_between-inside c.args.least c.args.most c.args.text.now c.parse.result c.parse.ensures.value.0 c.in_ok-number.number
     (sym c.ok.ensures.value ∙ c.in_ok-number.was) (omega (arith, c.if-number-least.false)) (omega (arith, c.if-number-most.false)))

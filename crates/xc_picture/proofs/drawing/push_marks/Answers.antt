@@ -2,7 +2,7 @@ use Rattle.std.proofs.Common.{◌≡◌, ◌++◌, ◌∙◌, ap, codes}
 use Rattle.xc_picture.specs.Drawn.{mark_if, mark_area}
 use Rattle.xc_picture.specs.Elements.{elements_text}
 use Rattle.xc_picture.specs.declared.shapes.Area.{Area}
-use Rattle.xc_picture.specs.declared.shapes.Look.TheVariants as look
+use Rattle.xc_picture.specs.declared.shapes.ShapeStyle.TheVariants as look
 use Rattle.xc_picture.proofs.Texts.{two_texts}
 use Rattle.xc_picture.proofs.drawing.push_marks.Goals as goal
 

@@ -8,8 +8,8 @@ use Rattle.xc_world.specs.Checks.{has_made_all}
 use Rattle.xc_deferred.proofs.Laws.{uses_fronted}
 use Rattle.xc_calls.proofs.Laws.{refused_call, passed_call, told_grow, much_none, by_much, before_fronted}
 use Rattle.xc_host.specs.Fronted.{before, fronted}
-use Rattle.xc_pipe.specs.Making.{made_record}
-use Rattle.xc_pipe.proofs.Made.{made_acts, made_me, made_kind, made_recorded, made_reply}
+use Rattle.xc_pipe.specs.Making.{pipe_made_record}
+use Rattle.xc_pipe.proofs.Made.{pipe_made_acts, pipe_made_me, pipe_made_kind, pipe_made_recorded, pipe_made_reply}
 use Rattle.xc_pipe.proofs.making.x_pipe.Goals as goal
 
 pub returns-then-me-ge-MOST_MADE-clause-call : goal.returns-then-me-ge-MOST_MADE-clause-call
@@ -41,14 +41,14 @@ returns-clause-call g c =
     (record { host = before c.make_at.new.host items; number = c.args.tx; me = c.make_at.new.me; undo = c.make_at.new.undo }) result
     (ap by_much (much_none (has_made_all me) (lowest_vacant me.places) c.in-Some.h (lt-leb 16 me.made few) vacant))
     (record {
-      reply = made_reply c.in-Some.h result making.made;
+      reply = pipe_made_reply c.in-Some.h result making.made;
       uses = uses_fronted model items c.args.host.now c.make_at.new.host next.uses;
-      after = made_me c.args.tx me c.make_at.new.me c.in-Some.h result vacant making.made next.me;
-      acts = λ t. made_acts (model.contents c.args.host.now) (model.contents c.make_at.new.host) items c.args.tx me c.make_at.new.me c.in-Some.h result few
+      after = pipe_made_me c.args.tx me c.make_at.new.me c.in-Some.h result vacant making.made next.me;
+      acts = λ t. pipe_made_acts (model.contents c.args.host.now) (model.contents c.make_at.new.host) items c.args.tx me c.make_at.new.me c.in-Some.h result few
           vacant (none t) next.me (making.told t);
       err = next.err;
       cause = making.cause;
     })
-    (told_grow (fronted model) XPipe (made_record (next_num me c.args.tx)) _ _ result c.requires.none (made_kind me c.args.tx)
-    (λ r w. made_recorded me c.args.tx r) making.records)
+    (told_grow (fronted model) XPipe (pipe_made_record (next_num me c.args.tx)) _ _ result c.requires.none (pipe_made_kind me c.args.tx)
+    (λ r w. pipe_made_recorded me c.args.tx r) making.records)
     (before_fronted model items c.args.host.now c.make_at.new.host c.args.undo.now c.make_at.new.undo result making.err)

@@ -10,15 +10,15 @@ use Rattle.xc_host.specs.declared.pipes.Took.{Took}
 use Rattle.xc_host.specs.declared.pipes.Took.TheVariants.{Empty, End}
 use Rattle.xc_host.specs.declared.pipes.Took.TheVariants as took
 use Rattle.xc_world.specs.Run.{given_back}
-use Rattle.xc_pipe.specs.Reading.{Leads, TakesUntil}
-use Rattle.xc_calls.specs.Taking.{back}
+use Rattle.xc_pipe.specs.Reading.{GivesSameWorld, TakesUntil}
+use Rattle.xc_calls.specs.Taking.{bytes_back}
 use Rattle.xc_pipe.specs.Taking.{TakesAfter}
 use Rattle.xc_host.proofs.Laws.{keeps_then}
 use Rattle.xc_calls.proofs.Laws.{keeps_same}
 use Rattle.xc_pipe.proofs.KeptData.{keeps_take}
 use Rattle.xc_pipe.proofs.Takings.{fails_back, rest_joined, taken_there}
 use Rattle.xc_pipe.proofs.TakeRuns.{takes_end, takes_fail, takes_more}
-use Rattle.xc_pipe.proofs.Behind.{GoesOn, back_after, found_after, goes_further}
+use Rattle.xc_pipe.proofs.Behind.{Extends, back_after, found_after, extends_further}
 use Rattle.xc_pipe.proofs.reading.take_rest.Goals as goal
 
 pub returns-in-Err-join-clause-err : goal.returns-in-Err-join-clause-err
@@ -39,7 +39,7 @@ returns-in-Err-join-clause-err g c =
     let did = c.in-Ok-Bytes.ensures.answered.done t ∙ ap (λ (o : Took). after_take pipe o here) c.in-Ok-Bytes.field-0-is in
     let leads = rest_joined pipe c.args.kept_front front more old here next items items (was.leads t) (was.there t) none some.0 is did in
     fails_back pipe c.args.kept_front (front ++ more) old next next items items c.join.new.kept.items leads refl
-    (λ w. c.in-Err-join.ensures.err w ∙ ap (λ (k : KeptView). given_back (given_back w k.items) (back pipe (front ++ more))) was.same)
+    (λ w. c.in-Err-join.ensures.err w ∙ ap (λ (k : KeptView). given_back (given_back w k.items) (bytes_back pipe (front ++ more))) was.same)
 
 pub returns-in-Err-join-clause-uses : goal.returns-in-Err-join-clause-uses
 returns-in-Err-join-clause-uses g c =
@@ -65,12 +65,12 @@ loop-alloc-preserved g c =
     record {
       most = omega (arith, size, some.1, c.len-in-loop-alloc.ensures.value, was.most);
       least = omega (arith, size, was.least);
-      goes = subst (GoesOn c.args.kept_front) (sym c.in-Ok.ensures.all) (goes_further c.args.kept_front front more was.goes);
+      goes = subst (Extends c.args.kept_front) (sym c.in-Ok.ensures.all) (extends_further c.args.kept_front front more was.goes);
       same = c.in-Ok.ensures.kept ∙ was.same;
       there = λ t. taken_there here next pipe (length more) (did t);
       leads = λ t.
           let is = subst (IsTakenOf (pipe_in here pipe)) c.in-Ok-Bytes.field-0-is (c.in-Ok-Bytes.ensures.value t) in
-          subst (λ (bytes : List ℕ). Leads pipe c.args.kept_front bytes (record {
+          subst (λ (bytes : List ℕ). GivesSameWorld pipe c.args.kept_front bytes (record {
             old = record { contents = old; items = items };
             new =
                 record { contents = next; items = items };
@@ -140,8 +140,8 @@ returns-in-Err-join-clause-after g c =
     let front = c.loop-alloc.front in
     let more = c.in-Ok-Bytes.more in
     back_after c.args.kept.now.items c.join.new.kept.items c.args.pipe c.args.kept_front (front ++ more) NoMemory
-    (goes_further c.args.kept_front front more was.goes)
-    (λ w. c.in-Err-join.ensures.err w ∙ ap (λ (k : KeptView). given_back (given_back w k.items) (back c.args.pipe (front ++ more))) was.same)
+    (extends_further c.args.kept_front front more was.goes)
+    (λ w. c.in-Err-join.ensures.err w ∙ ap (λ (k : KeptView). given_back (given_back w k.items) (bytes_back c.args.pipe (front ++ more))) was.same)
 
 pub returns-in-Ok-Empty-clause-after : goal.returns-in-Ok-Empty-clause-after
 returns-in-Ok-Empty-clause-after g c =
@@ -159,7 +159,7 @@ pub returns-in-Err-clause-after : goal.returns-in-Err-clause-after
 returns-in-Err-clause-after g c =
     let was = c.loop-alloc.invariant in
     back_after c.args.kept.now.items c.give_back.new.self.items c.args.pipe c.args.kept_front c.loop-alloc.front c.in-Err.error was.goes
-    (λ w. c.give_back.ensures.world w ∙ ap (λ (k : KeptView). given_back (given_back w k.items) (back c.args.pipe c.loop-alloc.front)) was.same)
+    (λ w. c.give_back.ensures.world w ∙ ap (λ (k : KeptView). given_back (given_back w k.items) (bytes_back c.args.pipe c.loop-alloc.front)) was.same)
 
 pub returns-clause-after : goal.returns-clause-after
 returns-clause-after g c = c.loop-alloc.invariant.goes

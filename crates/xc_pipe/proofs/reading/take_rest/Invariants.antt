@@ -1,10 +1,10 @@
 use Rattle.std.proofs.Common.{◌≡◌, ℕ, ◌+◌, ◌-◌, ◌≤◌, true, length, replicate, IsTrue}
-use Rattle.xc_data.specs.declared.script.Kind.TheVariants.{Take}
+use Rattle.xc_data.specs.declared.script.HostCallKind.TheVariants.{Take}
 use Rattle.xc_host.specs.Kept.{KeepsData}
 use Rattle.xc_host.specs.Pipes.{has_pipe}
 use Rattle.xc_host.specs.Uses.{Uses}
-use Rattle.xc_pipe.specs.Reading.{Leads}
-use Rattle.xc_pipe.proofs.Behind.{GoesOn}
+use Rattle.xc_pipe.specs.Reading.{GivesSameWorld}
+use Rattle.xc_pipe.proofs.Behind.{Extends}
 use Rattle.xc_pipe.proofs.reading.take_rest.Given as goal
 
 -- a longer front was taken so far, and no fault came
@@ -14,10 +14,10 @@ invariant-loop-alloc g l =
     record {
       most : length l.front ≤ l.n;
       least : length l.fn.kept_front ≤ length l.front;
-      goes : GoesOn l.fn.kept_front l.front;
+      goes : Extends l.fn.kept_front l.front;
       same : l.kept ≡ l.fn.kept;
       there : IsTrue model.tells → has_pipe (model.contents l.host) l.pipe ≡ true;
-      leads : IsTrue model.tells → Leads l.pipe l.fn.kept_front l.front (record {
+      leads : IsTrue model.tells → GivesSameWorld l.pipe l.fn.kept_front l.front (record {
         old = record { contents = model.contents l.fn.host; items = l.fn.kept.items };
         new = record { contents = model.contents l.host; items = l.fn.kept.items };
       });

@@ -1,6 +1,6 @@
 use Rattle.std.proofs.Common.{ap}
 use Rattle.xc_runner.specs.Walks.{over, picked, turning}
-use Rattle.xc_turnstile.proofs.Laws.{goes_further}
+use Rattle.xc_turnstile.proofs.Laws.{pass_goes_further}
 use Rattle.xc_runner.proofs.Stories.{finds_none, leads_further, leads_pick}
 use Rattle.xc_runner.proofs.worker.work.Goals as goal
 
@@ -18,7 +18,7 @@ pub loop-preserved : goal.loop-preserved
 loop-preserved g c =
     record {
       runs = (tt, tt);
-      goes = goes_further _ _ _ c.loop.invariant.goes (goes_further _ _ _ c.pick-back.ensures.gains.gains.goes c.work_job-mine.ensures.goes);
+      goes = pass_goes_further _ _ _ c.loop.invariant.goes (pass_goes_further _ _ _ c.pick-back.ensures.gains.gains.goes c.work_job-mine.ensures.goes);
       story = leads_further _ _ _ _ _ _ c.loop.invariant.story
           (leads_further _ _ _ _ _ _
           (leads_pick c.pick-back.result.1 (turning c.in-Some-job.job) _ _ c.pick-back.ensures.gains (ap picked c.in-Some-job.is))

@@ -5,7 +5,8 @@ use Rattle.xc_station.specs.Stations.{StationView}
 use Rattle.xc_turnstile.specs.declared.view.View.{View}
 use Rattle.xc_serve.specs.Answers.{text_at}
 use Rattle.xc_serve.specs.Gains.{IsTold}
-use Rattle.xc_serve.proofs.Gained.{event_next, gains_quietly, unboxed}
+use Rattle.xc_serve.proofs.Gained.{gains_quietly, unboxed}
+use Rattle.xc_runner.proofs.Laws.{event_next}
 use Rattle.xc_serve.proofs.Told.{look_is}
 use Rattle.xc_serve.proofs.ask.look_up.Goals as goal
 

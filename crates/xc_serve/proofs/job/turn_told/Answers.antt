@@ -8,7 +8,8 @@ use Rattle.xc_turnstile.specs.declared.view.View.{View}
 use Rattle.xc_turnstile.specs.Views.{added}
 use Rattle.xc_serve.specs.Gains.{TellsTurn}
 use Rattle.xc_serve.proofs.Blocks.{own_known}
-use Rattle.xc_serve.proofs.Gained.{event_next, unboxed}
+use Rattle.xc_serve.proofs.Gained.{unboxed}
+use Rattle.xc_runner.proofs.Laws.{event_next}
 use Rattle.xc_turnstile.proofs.Laws.{gains_at}
 use Rattle.xc_serve.proofs.job.turn_told.Goals as goal
 

@@ -1,5 +1,5 @@
 use Rattle.std.proofs.Common.{[], ◌∷◌, ◌++◌, inl, refl, subst, take, length-take, arith}
-use Rattle.xc_links.specs.Lines.{IsLine}
+use Rattle.xc_links.specs.Lines.{IsWireLine}
 use Rattle.xc_serve.proofs.serve.next_order.Goals as goal
 
 pub returns-in-Whole-clause-asked : goal.returns-in-Whole-clause-asked
@@ -7,7 +7,7 @@ returns-in-Whole-clause-asked g c =
     let told = g.L.Duplex.told in
     let buffer = c.read_line.new.buffer in
     let n = c.in-Whole.size in
-    let l = subst (IsLine (told c.args.link.now) (told c.read_line.new.link) buffer) c.in-Whole.is c.in_ok-size.ensures.line in (
+    let l = subst (IsWireLine (told c.args.link.now) (told c.read_line.new.link) buffer) c.in-Whole.is c.in_ok-size.ensures.line in (
       take n buffer ++ 10 ∷ [],
       inl (record {
         line = take n buffer;

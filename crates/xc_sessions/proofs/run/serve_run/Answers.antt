@@ -4,8 +4,8 @@ use Rattle.xc_data.specs.Step.{Step}
 use Rattle.xc_links.specs.Links.{LinksView}
 use Rattle.xc_sessions.specs.Headline.{IsStatusOf, wanted_of}
 use Rattle.xc_sessions.specs.Options.{serve_settings_of}
-use Rattle.xc_sessions.proofs.Endings.{ends_so, sessions_so}
-use Rattle.xc_sessions.proofs.Finishing.{finished}
+use Rattle.xc_sessions.proofs.Endings.{status_by_counts, sessions_so}
+use Rattle.xc_sessions.proofs.Finishing.{serve_finished}
 use Rattle.xc_sessions.proofs.run.serve_run.Goals as goal
 
 pub returns-in-Ok-clause-served : goal.returns-in-Ok-clause-served
@@ -15,12 +15,12 @@ returns-in-Ok-clause-served g c =
     let links : Step (LinksView g.row.M.Denot) = record { old = g.L.Links.told c.args.links; new = g.L.Links.told c.work-worked.result.links } in
     record {
       finish = finish;
-      finished = finished _ _ _ _ _ meant _ due written finish _ _ end refl some c.finish_run-finish.ensures.host c.in-Ok.ensures.started
+      finished = serve_finished _ _ _ _ _ meant _ due written finish _ _ end refl some c.finish_run-finish.ensures.host c.in-Ok.ensures.started
           c.work-worked.ensures.origin left is;
       end = refl;
       host = refl;
       ends = subst (IsStatusOf finish links) (sym c.status_of-status.ensures)
-          (ends_so finish links (subst IsSome (sym some) refl) _ _ _ c.faults-failed_before.ensures c.faults.ensures);
+          (status_by_counts finish links (subst IsSome (sym some) refl) _ _ _ c.faults-failed_before.ensures c.faults.ensures);
     }
 
 pub returns-in-Ok-clause-sessions : goal.returns-in-Ok-clause-sessions

@@ -1,15 +1,15 @@
 use Rattle.std.proofs.Common.{rules, ◌≡◌, ◌+◌, ◌<◌, ◌++◌, ◌∷◌, List, [], length, None, sym, ap, subst, ◌∙◌}
 use Rattle.xc_sheet.specs.declared.ending.Ending.TheVariants.{Broken}
 use Rattle.xc_sheet.specs.declared.lines.Line.{Line}
-use Rattle.xc_sheet.specs.declared.places.Place.TheVariants as place
+use Rattle.xc_sheet.specs.declared.places.LinePlace.TheVariants as place
 use Rattle.xc_sheet.specs.Sheets.{IsLineRead}
-use Rattle.xc_sheet.proofs.Readings.{IsReading, begins, goes_on, read_some, broken_sheet, ended_sheet}
+use Rattle.xc_sheet.proofs.Readings.{IsReading, reading_begins, reading_goes_on, read_some, broken_sheet, ended_sheet}
 use Rattle.xc_sheet.proofs.sheet.read_lines.Goals as goal
 
 pub loop-rest-init : goal.loop-rest-init
 loop-rest-init c =
     subst (λ lines. IsReading c.args.text.now lines place.Between c.new-rest.result) (sym c.new-lines.ensures)
-    (subst (IsReading c.args.text.now [] place.Between) (sym c.new-rest.ensures) (begins c.args.text.now))
+    (subst (IsReading c.args.text.now [] place.Between) (sym c.new-rest.ensures) (reading_begins c.args.text.now))
 
 pub loop-rest-preserved : goal.loop-rest-preserved
 loop-rest-preserved c =
@@ -17,7 +17,7 @@ loop-rest-preserved c =
     × IsLineRead l c.loop-rest.place c.in-Some.next c.loop-rest.rest c.add_line.new.text =
     search rules in
     let r = c.loop-rest.invariant in
-    goes_on c.args.text.now c.loop-rest.lines c.add_line.new.lines c.loop-rest.place c.in-Some.next c.loop-rest.rest c.add_line.new.text r read
+    reading_goes_on c.args.text.now c.loop-rest.lines c.add_line.new.lines c.loop-rest.place c.in-Some.next c.loop-rest.rest c.add_line.new.text r read
 
 pub returns-in-None-clause-only : goal.returns-in-None-clause-only
 returns-in-None-clause-only c =

@@ -4,8 +4,8 @@ use Rattle.xc_world.specs.Act.Names.{next_num}
 use Rattle.xc_deferred.proofs.Laws.{uses_fronted}
 use Rattle.xc_calls.proofs.Laws.{refused_call, passed_call, told_grow, by_much, before_fronted}
 use Rattle.xc_host.specs.Fronted.{before, fronted}
-use Rattle.xc_socket.specs.Making.{made_record}
-use Rattle.xc_socket.proofs.Made.{all_made, made_acts, made_me, made_kind, made_recorded, made_reply, room_for_pair, too_few}
+use Rattle.xc_socket.specs.Making.{pair_made_record}
+use Rattle.xc_socket.proofs.Made.{all_made, pair_made_acts, pair_made_me, pair_made_kind, pair_made_recorded, pair_made_reply, room_for_pair, too_few}
 use Rattle.xc_socket.proofs.making.x_pair.Goals as goal
 
 pub returns-then-me-ge-MOST_MADE-clause-call : goal.returns-then-me-ge-MOST_MADE-clause-call
@@ -37,14 +37,14 @@ returns-clause-call g c =
     (record { host = before c.make_at.new.host items; number = c.args.tx; me = c.make_at.new.me; undo = c.make_at.new.undo }) result
     (ap by_much free)
     (record {
-      reply = made_reply at result making.made;
+      reply = pair_made_reply at result making.made;
       uses = uses_fronted model items c.args.host.now c.make_at.new.host next.uses;
-      after = made_me c.args.tx me at vacant c.make_at.new.me result making.made next.me;
-      acts = λ t. made_acts c.args.tx me at vacant (model.contents c.args.host.now) (model.contents c.make_at.new.host) items c.make_at.new.me result free
+      after = pair_made_me c.args.tx me at vacant c.make_at.new.me result making.made next.me;
+      acts = λ t. pair_made_acts c.args.tx me at vacant (model.contents c.args.host.now) (model.contents c.make_at.new.host) items c.make_at.new.me result free
           (none t) next.me (making.told t);
       err = next.err;
       cause = making.cause;
     })
-    (told_grow (fronted model) XPair (made_record (next_num me c.args.tx)) _ _ result c.requires.none (made_kind me c.args.tx)
-    (λ r w. made_recorded me c.args.tx r) making.records)
+    (told_grow (fronted model) XPair (pair_made_record (next_num me c.args.tx)) _ _ result c.requires.none (pair_made_kind me c.args.tx)
+    (λ r w. pair_made_recorded me c.args.tx r) making.records)
     (before_fronted model items c.args.host.now c.make_at.new.host c.args.undo.now c.make_at.new.undo result making.err)

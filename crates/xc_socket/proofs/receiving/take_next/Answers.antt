@@ -1,6 +1,6 @@
 use Rattle.std.proofs.Common.{sym, subst}
 use Rattle.std.specs.Prelude.{IfOk}
-use Rattle.xc_socket.specs.Receiving.{Finds}
+use Rattle.xc_socket.specs.Receiving.{ReceiptFinds}
 use Rattle.xc_socket.proofs.KeptPairs.{keeps_received}
 use Rattle.xc_socket.proofs.Receipts.{host_finds}
 use Rattle.xc_socket.proofs.receiving.take_next.Goals as goal
@@ -15,7 +15,8 @@ returns-in-None-clause-finds g c =
     let is = contents c.recv.new.self in
     let (none, same) = c.in-None.ensures.found in
     λ t. subst
-    (λ new. IfOk c.recv.result (Finds pair side (record { old = record { contents = was; items = items }; new = record { contents = is; items = new } })))
+    (λ new. IfOk c.recv.result
+    (ReceiptFinds pair side (record { old = record { contents = was; items = items }; new = record { contents = is; items = new } })))
     (sym same)
     (host_finds items pair side c.spare-spare.ensures.kept.fit c.requires.side none was is c.recv.result (c.requires.there t) (c.recv.ensures.value t)
     (c.recv.ensures.answered.done t))

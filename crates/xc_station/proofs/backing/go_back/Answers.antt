@@ -13,7 +13,7 @@ use Rattle.xc_station.specs.Jobs.{job_view, tx_view}
 use Rattle.xc_station.specs.Moments.{Front, front_of, marks_of, moved, runs, seated_as}
 use Rattle.xc_station.specs.Returning.{Returns}
 use Rattle.xc_station.specs.declared.calls.Shared.{Shared}
-use Rattle.xc_station.proofs.Closed.{active_again, is_active, its_active, moves_on}
+use Rattle.xc_station.proofs.Closed.{active_again, active_with_job, its_active, moves_on}
 use Rattle.xc_station.proofs.RowsBack.{back_row, revoked_back}
 use Rattle.xc_station.proofs.RowsMarked.{its_rank, revoked_row}
 use Rattle.xc_station.proofs.backing.go_back.Goals as goal
@@ -46,7 +46,7 @@ returns-in-Some-clause-row g c now at here =
     let shared = c.args.shared.now in
     let shared' : Shared g.row.H.Denot = record shared { sentinels = c.settle.new.sentinels } in
     let new = c.revoke-answer.new.tx in
-    let doing = is_active job was.tx was.doing in
+    let doing = active_with_job job was.tx was.doing in
     let running : runs job.tx.phase ≡ true = ap (λ (t : TxView). runs t.phase) (its_active job was.tx was.doing) ∙ ap runs was.backing in
     let number : new.number ≡ job.tx.number = ap (λ (t : TxView). t.number) c.revoke-answer.ensures.tx in
     let mark : Some c.in-Some.mark.now ≡ marks_of shared.sentinels.seats job.tx.number = sym (ap option_copied c.in-Some.is) ∙ c.doomed.ensures in
@@ -76,14 +76,14 @@ returns-clause-row g c now at here =
     let mid = c.step_back.new.shared in
     let shared' : Shared g.row.H.Denot = record mid { sentinels = c.settle-2.new.sentinels } in
     let new = c.step_back.new.job in
-    let doing = is_active job was.tx was.doing in
+    let doing = active_with_job job was.tx was.doing in
     let running : runs job.tx.phase ≡ true = ap (λ (t : TxView). runs t.phase) (its_active job was.tx was.doing) ∙ ap runs was.backing in
     let went = c.step_back.ensures.returns (tx_view job.tx) doing in
     let behind = went.0 in
     let its : tx_view new.tx ≡ behind = its_active new behind went.1 in
     let r = went.2 in
     back_row model s shared now at (job_view job) (tx_view job.tx) here doing shared' (job_view new) (tx_view new.tx)
-    (sym (ap option_copied c.in_default.is) ∙ c.doomed.ensures) (is_active new behind went.1)
+    (sym (ap option_copied c.in_default.is) ∙ c.doomed.ensures) (active_with_job new behind went.1)
     (ap (λ (t : TxView). t.number) its ∙ r.number) (ap (λ (t : TxView). t.rank) its ∙ r.rank) (ap (λ (t : TxView). t.held) its ∙ r.held)
     mid (c.step_back.ensures.row now at here) c.step_back.ensures.sentinels refl refl c.settle-2.ensures.claims c.settle-2.ensures.marks running
     c.settle-2.ensures.others c.settle-2.ensures.own

@@ -8,11 +8,11 @@ use Rattle.xc_model.specs.Movers.{with_tx, mover}
 use Rattle.xc_data.specs.declared.entry.Turn.{Turn}
 use Rattle.xc_station.specs.declared.calls.Shared.{Shared}
 use Rattle.xc_station.specs.Jobs.{job_view, tx_view}
-use Rattle.xc_station.specs.Moments.{HasNeeds, IsRunningRow, counted, moved, runs, seated_as}
+use Rattle.xc_station.specs.Moments.{HasNeeds, IsRunningRow, busy_counted, moved, runs, seated_as}
 use Rattle.xc_station.specs.Backs.{CanGoBack}
 use Rattle.xc_station.specs.Moments as moments
 use Rattle.xc_station.specs.declared.tx.Tx.{Tx}
-use Rattle.xc_station.proofs.Closed.{counted_doing, moves_on, is_active, its_active, active_again}
+use Rattle.xc_station.proofs.Closed.{counted_doing, moves_on, active_with_job, its_active, active_again}
 use Rattle.xc_station.proofs.RowsMarked.{gone_row, its_rank, revoked_row}
 use Rattle.xc_station.proofs.running.run.Goals as goal
 use Rattle.xc_station.proofs.Lending.{lends_from, lends_still}
@@ -26,7 +26,7 @@ returns-in-Some-clause-row g c now at here journal =
     let shared = c.args.shared.now in
     let shared' : Shared g.row.H.Denot = record shared { sentinels = c.settle.new.sentinels } in
     let new = c.revoke-answer.new.tx in
-    let doing = is_active job was.tx was.doing in
+    let doing = active_with_job job was.tx was.doing in
     let running : runs job.tx.phase ≡ true = ap (λ (t : TxView). runs t.phase) (its_active job was.tx was.doing) ∙ ap runs was.may.running in
     let number : new.number ≡ job.tx.number = ap (λ (t : TxView). t.number) c.revoke-answer.ensures.tx in
     let mine : seated_as (seat_in c.settle.new.sentinels.seats job.tx.number) ≡ Some (job.tx.rank, runs new.phase) =
@@ -51,12 +51,12 @@ returns-clause-row g c now at here journal =
     let mid = c.step_running-answer.new.shared in
     let shared' : Shared g.row.H.Denot = record mid { sentinels = c.settle-2.new.sentinels } in
     let new = c.step_running-answer.new.tx in
-    let doing = is_active job was.tx was.doing in
+    let doing = active_with_job job was.tx was.doing in
     let running : runs job.tx.phase ≡ true = ap (λ (t : TxView). runs t.phase) (its_active job was.tx was.doing) ∙ ap runs was.may.running in
     let answer = c.step_running-answer.result in
-    let gone = counted answer (with_tx (job_view job) c.step_running-answer.new.place (tx_view new)) in
+    let gone = busy_counted answer (with_tx (job_view job) c.step_running-answer.new.place (tx_view new)) in
     let behind : gone ≡ job_view c.count_wait.new.job =
-    ap (counted answer) (moves_on job was.tx c.step_running-answer.new.place new was.doing c.step_running-answer.ensures.begun)
+    ap (busy_counted answer) (moves_on job was.tx c.step_running-answer.new.place new was.doing c.step_running-answer.ensures.begun)
     ∙ sym c.count_wait.ensures.counted in
     subst (λ (j : JobView). IsRunningRow (mover s at now (job_view job)) (moved model shared' j now at) answer c.settle-2.new.sentinels) behind
     (gone_row model s c.args.shared.now now at (job_view job) (tx_view job.tx) here doing shared' mid gone answer
@@ -81,7 +81,7 @@ returns-clause-lends g c tx is =
     let new = c.step_running-answer.new.tx in
     let gone = with_tx (job_view job) c.step_running-answer.new.place (tx_view new) in (
       tx_view new,
-      ap (λ (j : JobView). j.doing) (c.count_wait.ensures.counted ∙ ap (counted c.step_running-answer.result)
+      ap (λ (j : JobView). j.doing) (c.count_wait.ensures.counted ∙ ap (busy_counted c.step_running-answer.result)
           (sym (moves_on job tx c.step_running-answer.new.place new is c.step_running-answer.ensures.begun)))
           ∙ counted_doing c.step_running-answer.result gone,
       lends_from g.H.Host.model _ (record { old = tx_view job.tx; new = tx_view new }) tx (tx_view new)

@@ -15,10 +15,11 @@ use Rattle.xc_script.specs.Blocks.{ask_fits}
 use Rattle.xc_script.specs.Position.{walk_of}
 use Rattle.xc_station.specs.Backs.{CanGoBack}
 use Rattle.xc_station.specs.Jobs.{tx_view}
-use Rattle.xc_station.specs.Moments.{IsRow, counted, moved}
+use Rattle.xc_station.specs.Moments.{IsRow, busy_counted, moved}
 use Rattle.xc_station.specs.Moments as moments
 use Rattle.xc_station.proofs.Lending.{lends_still}
-use Rattle.xc_station.proofs.RowsRun.{asked_walk, back_is, begins_back, begun_or_wanting, commits, has_tx, opened_seen, turns_back, wants}
+use Rattle.xc_station.proofs.RowsRun.{asked_walk, back_is, begins_back, begun_or_wanting, commit_turn_row, has_tx, opened_seen, abort_turn_row}
+use Rattle.xc_station.proofs.RowsRun.{starved_turn_row}
 use Rattle.xc_station.proofs.running.step_running.Goals as goal
 
 -- a back
@@ -38,14 +39,14 @@ returns-then-is_back-clause-row g c rules now at job here doing place terms =
     asked_walk script c.args.place.now c.ask.new.self _ c.requires.left e.walk e.value ∙ c.in-Ok-Call.field-0-is ∙ ap ask.Call is in
     begun_or_wanting
     (λ (a : Turn). IsRow (mover (setting script rules model.tells) at now job)
-    (moved model shared (counted a (with_tx job c.ask.new.self (tx_view new))) now at) a shared.sentinels.claims)
+    (moved model shared (busy_counted a (with_tx job c.ask.new.self (tx_view new))) now at) a shared.sentinels.claims)
     c.begin_back.result
     (λ went. begins_back model _ _ _ _ _ c.ask.new.self c.args.tx.now here has shared new refl refl refl (b.went went) asked e.settled
     (opened_seen c.args.tx.now c.args.tx.now.saved
     (subst (λ (x : Ask). ask_fits (is_some c.args.tx.now.saved) x ≡ true) (ap asks (sym e.walk) ∙ asked) c.requires.fits)))
     (λ other. let m = b.memory other in (
       m.0,
-      wants model _ _ _ _ _ c.ask.new.self c.args.tx.now here has shared new turn.NoMemory refl refl refl m.1 refl,
+      starved_turn_row model _ _ _ _ _ c.ask.new.self c.args.tx.now here has shared new turn.NoMemory refl refl refl m.1 refl,
     ))
 
 pub returns-then-is_back-clause-lends : goal.returns-then-is_back-clause-lends
@@ -76,7 +77,7 @@ returns-in-Ok-Commit-clause-row g c rules now at job here doing place terms =
     let e = c.in-Ok-Commit.ensures in
     let same : IsSamePosition (setting c.args.script.now rules g.H.Host.model.tells) c.args.place.now c.ask.new.self =
     record { begin = record { block = e.same.0; next = e.same.1; begun = e.begun }; walk = e.walk; saved = e.saved; at = e.at } in
-    commits g.H.Host.model _ _ _ _ _ c.ask.new.self c.args.tx.now here (has_tx _ _ _ _ _ doing place same)
+    commit_turn_row g.H.Host.model _ _ _ _ _ c.ask.new.self c.args.tx.now here (has_tx _ _ _ _ _ doing place same)
     (record {
       host = c.args.shared.now.host;
       buffers = c.args.shared.now.buffers;
@@ -93,7 +94,7 @@ returns-in-Ok-Abort-clause-row g c rules now at job here doing place terms =
     let e = c.in-Ok-Abort.ensures in
     let same : IsSamePosition (setting c.args.script.now rules g.H.Host.model.tells) c.args.place.now c.ask.new.self =
     record { begin = record { block = e.same.0; next = e.same.1; begun = e.begun }; walk = e.walk; saved = e.saved; at = e.at } in
-    turns_back g.H.Host.model _ _ _ _ _ c.ask.new.self c.args.tx.now here (has_tx _ _ _ _ _ doing place same) c.args.shared.now
+    abort_turn_row g.H.Host.model _ _ _ _ _ c.ask.new.self c.args.tx.now here (has_tx _ _ _ _ _ doing place same) c.args.shared.now
     (record c.args.tx.now { phase = Undoing cause.Asked }) refl refl refl refl
     (asked_walk c.args.script.now c.args.place.now c.ask.new.self _ c.requires.left e.walk e.value ∙ c.in-Ok-Abort.field-0-is)
 
@@ -102,7 +103,7 @@ returns-in-Err-clause-row g c rules now at job here doing place terms =
     let e = c.in-Err.ensures in
     let same : IsSamePosition (setting c.args.script.now rules g.H.Host.model.tells) c.args.place.now c.ask.new.self =
     record { begin = record { block = e.same.0; next = e.same.1; begun = e.begun }; walk = e.walk; saved = e.saved; at = e.at } in
-    wants g.H.Host.model _ _ _ _ _ c.ask.new.self c.args.tx.now here
+    starved_turn_row g.H.Host.model _ _ _ _ _ c.ask.new.self c.args.tx.now here
     (has_tx _ _ _ _ _ doing place same) c.args.shared.now c.abort_for_memory.new.tx c.abort_for_memory.result
     refl refl refl c.abort_for_memory.ensures.tx c.abort_for_memory.ensures.answer
 

@@ -4,7 +4,7 @@ use Rattle.xc_station.specs.Jobs.{tx_view}
 use Rattle.xc_station.specs.Acting.{in_no_block, IsLentFor}
 use Rattle.xc_station.specs.Moments.{Front, Lends, front_of}
 use Rattle.xc_station.proofs.Lending.{lends_done, lends_from, lends_left, lends_still, unclaimed_takes}
-use Rattle.xc_station.proofs.RowsCalled.{called, starved}
+use Rattle.xc_station.proofs.RowsCalled.{call_turn_row, starved}
 use Rattle.xc_station.proofs.RowsRun.{unclaimed}
 use Rattle.xc_station.proofs.running.try_call.Goals as goal
 
@@ -18,7 +18,7 @@ returns-in-Err-clause-row g c rules now at job here has terms =
 pub returns-in-Ok-clause-row : goal.returns-in-Ok-clause-row
 returns-in-Ok-clause-row g c rules now at job here has terms =
     let e = c.in-Ok.ensures in
-    called g.H.Host.model _ _ _ _ _ _ c.args.tx.now here has
+    call_turn_row g.H.Host.model _ _ _ _ _ _ c.args.tx.now here has
     (record {
       host = c.do_call.new.host;
       buffers = c.do_call.new.buffers;

@@ -1,6 +1,6 @@
 use Rattle.std.proofs.Common.{sym, subst, ◌∙◌}
 use Rattle.xc_station.specs.Stations.{IsStepOf}
-use Rattle.xc_station.proofs.Runs.{numbered, turn_goes, turn_works}
+use Rattle.xc_station.proofs.Runs.{live_has_number, turn_goes, turn_works}
 use Rattle.xc_station.proofs.schedule.step.Goals as goal
 
 pub returns-clause-goes : goal.returns-clause-goes
@@ -9,7 +9,7 @@ returns-clause-goes g c = turn_goes g.H.Host.model c.args.job _ _ _ c.turn.ensur
 pub returns-clause-works : goal.returns-clause-works
 returns-clause-works g c =
     turn_works g.H.Host.model c.args.job _ _ _ c.turn.ensures.same c.turn.ensures.row c.turn.ensures.changes
-    (numbered c.args.station.now.jobs c.args.job (sym c.live.ensures ∙ c.if-not-live.false))
+    (live_has_number c.args.station.now.jobs c.args.job (sym c.live.ensures ∙ c.if-not-live.false))
 
 pub returns-clause-step : goal.returns-clause-step
 returns-clause-step g c =

@@ -1,7 +1,7 @@
 use Rattle.std.proofs.Common.{◌+◌, ◌∷◌, drop, refl, sym, subst, arith}
 use Rattle.std.proofs.lemmas.List.{drop_all}
 use Rattle.xc_tail.specs.KeptLines.{Stands}
-use Rattle.xc_tail.proofs.KeptFronts.{stands_none, not_taken, is_taken, line_there}
+use Rattle.xc_tail.proofs.KeptFronts.{stands_none, no_item_taken, is_taken, line_there}
 use Rattle.xc_tail.proofs.KeptWorlds.{kept_from, stand_from}
 use Rattle.xc_tail.proofs.kept.are_kept.Goals as goal
 
@@ -12,7 +12,8 @@ returns-then-is_none c =
     let behind = drop (l.line-index + 1) lines in
     let first = line_there lines l.line-index c.line-item.result c.loop-line-test.true c.line-item.is in (
       (λ e. cc (e)),
-      λ has. absurd (not_taken (Stands l.world l.before (c.line-item.result ∷ behind)) c.take_line.new.world behind c.in_ok-source.source c.if-is_none.ensures
+      λ has. absurd
+          (no_item_taken (Stands l.world l.before (c.line-item.result ∷ behind)) c.take_line.new.world behind c.in_ok-source.source c.if-is_none.ensures
           (c.in_ok-source.ensures behind) (subst (Stands l.world l.before) first (l.invariant.to (stand_from c.args.world lines has)))),
     )
 

@@ -4,7 +4,7 @@ use Rattle.xc_sheet.specs.Ends.{lines_of_words}
 use Rattle.xc_sheet.specs.declared.lines.Line.{Line}
 use Rattle.xc_tail.specs.Tails.{IsTail}
 use Rattle.xc_tail.proofs.JobEnds.{jobs_at}
-use Rattle.xc_tail.proofs.Parts.{refused, decides_more, parted_last, no_jobs, no_words, no_total, other_total, kept_decides}
+use Rattle.xc_tail.proofs.Parts.{refused, decides_more, parted_last, no_jobs, no_words, no_total, other_totals, kept_decides}
 use Rattle.xc_tail.proofs.tail.is_tail.Goals as goal
 
 pub returns-in_default : goal.returns-in_default
@@ -35,7 +35,7 @@ returns-then-not-is_total c = λ s told same zip.
     let left = c.in-Some-behind_words.lines.now in
     let words = subst (λ ws. c.in-Some.lines.now ≡ lines_of_words 0 ws ++ left) c.words.ensures c.in-Some-behind_words.ensures in
     let un = c.if-not-is_total.true in
-    refused _ (other_total s _ a.lines.now c.in-Some.lines.now left has words _ c.last-item.result
+    refused _ (other_totals s _ a.lines.now c.in-Some.lines.now left has words _ c.last-item.result
     (parted_last left c.last-item.result c.in-len1-up.len_at_least c.last-item.is)
     (λ e. let yes = c.is_total.ensures.1 e in absurd (cc (yes, un))))
 

@@ -1,6 +1,6 @@
 use Rattle.std.proofs.Common.{◌≡◌, ◌-◌, ◌<◌, ◌∷◌, ◌∙◌, ap, length, take, drop, get_or, arith, rules}
 use Rattle.xc_tokens.specs.Quoted.{literal_of, measured, then_rest}
-use Rattle.xc_tokens.proofs.Quotes.{count_on, whole}
+use Rattle.xc_tokens.proofs.Quotes.{count_on, first_and_rest}
 use Rattle.xc_tokens.proofs.escaped.measure.Goals as goal
 
 pub loop-rest-preserved : goal.loop-rest-preserved
@@ -9,7 +9,7 @@ loop-rest-preserved c =
     ≡ literal_of (get_or c.loop-rest.rest.now 0 0 ∷ take (length c.loop-rest.rest.now - 1) (drop 1 c.loop-rest.rest.now)) =
     search rules in
     let piece : then_rest c.in_ok-next.field-0-0 (literal_of c.in_ok-next.next.now) ≡ literal_of c.loop-rest.rest.now =
-    read ∙ ap literal_of (whole c.loop-rest.rest.now (omega (arith, c.in-len1-up.len_at_least))) in
+    read ∙ ap literal_of (first_and_rest c.loop-rest.rest.now (omega (arith, c.in-len1-up.len_at_least))) in
     let shorter : length c.in_ok-next.next.now < length c.loop-rest.rest.now = search rules in
     record {
       same = count_on c.loop-rest.n c.in_ok-next.field-0-0 c.loop-rest.rest.now c.in_ok-next.next.now (measured (literal_of c.args.bytes.now))

@@ -2,7 +2,7 @@ use Rattle.std.proofs.Common.{not, refl, ◌∙◌}
 use Rattle.std.proofs.lemmas.Simd.{zip2_of_maps, zip2_splat, length-chunk}
 use lib.Lanes.{chunk}
 use Rattle.xc_tokens.specs.Front.{is_mark}
-use Rattle.xc_lanes.proofs.Laws.{run_of}
+use Rattle.xc_lanes.proofs.Laws.{lane_run}
 use Rattle.xc_tokens.proofs.front.unmarked_len.Goals as goal
 
 pub returns : goal.returns
@@ -10,5 +10,5 @@ returns c =
     let v = chunk 0 16 c.args.bytes.now in
     let long = length-chunk 0 16 c.args.bytes.now c.requires in
     c.first_set.ensures
-    ∙ run_of (λ b. not (is_mark b)) _ c.args.bytes.now _ c.requires c.type_inv.bytes
+    ∙ lane_run (λ b. not (is_mark b)) _ c.args.bytes.now _ c.requires c.type_inv.bytes
     (zip2_of_maps _ _ _ v (zip2_splat _ v 16 34 long) (zip2_splat _ v 16 35 long)) refl

@@ -1,7 +1,7 @@
 use Rattle.std.proofs.Common.{◌≤◌, take, drop, map, subst, ap, sym, ◌∙◌}
 use Rattle.xc_tokens.specs.Front.{InText, line_in, ReadOn}
 use Rattle.xc_tokens.specs.Views.{lexeme}
-use Rattle.xc_tokens.proofs.TokenLists.{left_of}
+use Rattle.xc_tokens.proofs.TokenLists.{line_left}
 use Rattle.xc_tokens.proofs.token.push_front.Goals as goal
 
 pub returns-clause-read : goal.returns-clause-read
@@ -13,4 +13,4 @@ returns-clause-read c =
     let tokens = map lexeme c.push_words.new.tokens.items in
     let shown = subst (λ (s : InText). ReadOn before (line_in s) tokens (drop c.in_ok-at.at (line_in s))) c.new.ensures c.in_ok-at.ensures.read in
     let within = subst (λ (s : InText). c.in_ok-at.at ≤ s.len) c.new.ensures c.in_ok-at.ensures.bound in
-    left_of before c.args.line.now tokens text n c.in_ok-at.at line within shown
+    line_left before c.args.line.now tokens text n c.in_ok-at.at line within shown

@@ -4,7 +4,7 @@ use Rattle.xc_tokens.specs.Answers.{seen}
 use Rattle.xc_tokens.specs.Front.{Makes}
 use Rattle.xc_tokens.specs.Tokens.{past_blanks, token_at, tokens_of, with_next}
 use Rattle.xc_tokens.specs.Views.{lexeme}
-use Rattle.xc_tokens.proofs.TokenLists.{Next, makes_all, ended, next_more, next_length, stopped}
+use Rattle.xc_tokens.proofs.TokenLists.{Next, makes_all, tokens_ended, next_more, next_length, tokens_stopped}
 use Rattle.xc_tokens.proofs.token.read_tokens.Goals as goal
 
 pub loop-behind-init : goal.loop-behind-init
@@ -18,7 +18,7 @@ returns-in_err-behind c =
     let tokens = map lexeme c.loop-behind.tokens.items in
     search (
       rules,
-      stopped c.in_err-behind.field-0.0 tokens (length c.args.line.now - length tokens) c.loop-behind.rest.now (tokens_of c.args.line.now)
+      tokens_stopped c.in_err-behind.field-0.0 tokens (length c.args.line.now - length tokens) c.loop-behind.rest.now (tokens_of c.args.line.now)
           (omega (arith, c.loop-behind.invariant.0)) c.loop-behind.invariant.1 c.in_err-behind.ensures.value,
     )
 
@@ -41,4 +41,4 @@ returns c =
     let all = map lexeme c.push_token.new.tokens.items in
     let next = token_at (past_blanks c.loop-behind.rest.now) in
     let made : ◌≡◌ {A = Result Next Why} (Ok (all, None)) (seen (with_next tokens) next) = search rules in
-    ended tokens all _ c.loop-behind.rest.now (tokens_of c.args.line.now) c.loop-behind.invariant.1 made
+    tokens_ended tokens all _ c.loop-behind.rest.now (tokens_of c.args.line.now) c.loop-behind.invariant.1 made

@@ -1,4 +1,4 @@
-use Rattle.xc_turns.proofs.Closings.{calls_true, journal_true, ends_told, words_left}
+use Rattle.xc_turns.proofs.Closings.{calls_true, journal_true, ends_told, words_are_left}
 use Rattle.xc_turns.proofs.endings.where_all_have_ended_the_journal_is_true.Goals as goal
 
 pub returns-clause-journal : goal.returns-clause-journal
@@ -8,7 +8,7 @@ pub returns-clause-ends : goal.returns-clause-ends
 returns-clause-ends c = λ s words now lines. ends_told s words now.marks now.journal now.jobs lines
 
 pub returns-clause-words : goal.returns-clause-words
-returns-clause-words c = words_left
+returns-clause-words c = words_are_left
 
 pub returns-clause-calls : goal.returns-clause-calls
 returns-clause-calls c = λ script now lines. calls_true script now.journal now.jobs now.calls lines

@@ -5,7 +5,7 @@ use Rattle.xc_data.specs.declared.entry.KeptItem.{KeptItem}
 use Rattle.xc_data.specs.declared.object.Object.{Object}
 use Rattle.xc_buffers.specs.Items.{item_bytes, items_from, kept_bytes, kept_count, kept_messages}
 use Rattle.xc_buffers.specs.Views.{KeptView}
-use Rattle.xc_buffers.specs.declared.source.Source.TheVariants.{Pipe, Side}
+use Rattle.xc_buffers.specs.declared.source.Endpoint.TheVariants.{Pipe, Side}
 use Rattle.xc_buffers.proofs.Takes.{bytes_count, messages_count}
 use Rattle.xc_buffers.proofs.kept.Kept.held.Goals as goal
 

@@ -4,7 +4,7 @@ use Rattle.std.specs.Prelude.{List}
 use Rattle.xc_data.specs.declared.entry.KeptItem.{KeptItem}
 use Rattle.xc_buffers.specs.Items.{keeps_from, kept_bytes}
 use Rattle.xc_buffers.specs.Views.{KeptView}
-use Rattle.xc_buffers.specs.declared.source.Source.TheVariants.{Pipe}
+use Rattle.xc_buffers.specs.declared.source.Endpoint.TheVariants.{Pipe}
 use Rattle.xc_buffers.proofs.Takes.{none_bytes}
 use Rattle.xc_buffers.proofs.kept.Kept.take_front.Goals as goal
 

@@ -3,7 +3,7 @@ use Rattle.std.specs.Prelude.{List}
 use Rattle.xc_data.specs.declared.entry.KeptItem.{KeptItem}
 use Rattle.xc_buffers.specs.Items.{keeps_from, kept_messages}
 use Rattle.xc_buffers.specs.Views.{KeptView}
-use Rattle.xc_buffers.specs.declared.source.Source.TheVariants.{Side}
+use Rattle.xc_buffers.specs.declared.source.Endpoint.TheVariants.{Side}
 use Rattle.xc_buffers.proofs.Takes.{none_messages}
 use Rattle.xc_buffers.proofs.kept.Kept.take_msg.Goals as goal
 

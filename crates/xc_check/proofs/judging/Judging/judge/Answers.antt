@@ -3,13 +3,13 @@ use Rattle.xc_judge.specs.Judged.{IsOpenTo}
 use Rattle.xc_judge.specs.Stepped.{IsRefusedSo, IsSteppedTo, WhereEntered, WhereRefused}
 use Rattle.xc_model.specs.Grounds.{Part}
 use Rattle.xc_check.specs.TrueTexts.{telling}
-use Rattle.xc_check.proofs.Stepping.{entered_in, entered_so, may_begin, part_is, refused_in, unasked_in}
+use Rattle.xc_check.proofs.Stepping.{entered_in, entered_so, number_is_new, part_is, refused_in, unasked_in}
 use Rattle.xc_check.proofs.judging.Judging.judge.Goals as goal
 
 pub step-requires-clause-open : goal.step-requires-clause-open
 step-requires-clause-open c =
     let j = c.requires.judged in
-    may_begin (telling c.args.script.now c.args.rules.now) j.0 j.1 c.args.shown c.args.self j.2 j.3
+    number_is_new (telling c.args.script.now c.args.rules.now) j.0 j.1 c.args.shown c.args.self j.2 j.3
 
 pub step-requires-clause-room : goal.step-requires-clause-room
 step-requires-clause-room c =

@@ -2,7 +2,7 @@ use Rattle.std.proofs.Common.{◌∙◌, arith, ap, length, ◌<◌, ◌^◌}
 use Rattle.std.proofs.lemmas.List.{length_push}
 use Rattle.xc_data.specs.declared.undo.UndoEnd.TheVariants.{Undone}
 use Rattle.xc_compensate.proofs.Listing.{none_ended}
-use Rattle.xc_compensate.proofs.Keeping.{keeps_more}
+use Rattle.xc_compensate.proofs.Keeping.{stack_keeps_more}
 use Rattle.xc_compensate.proofs.stack.Stack.push.Goals as goal
 
 pub invariant_of-self-2 : goal.invariant_of-self-2
@@ -15,5 +15,5 @@ invariant_of-self-2 c =
       c.len.ensures,
       c.self.inside.records.ok.0,
     ) in
-    keeps_more _ _ _ _ _ _ c.self.invariant (none_ended _ _ c.args.self.now c.self.view_is c.self.invariant.within c.requires.none) c.requires.record
+    stack_keeps_more _ _ _ _ _ _ c.self.invariant (none_ended _ _ c.args.self.now c.self.view_is c.self.invariant.within c.requires.none) c.requires.record
     c.in_ok-push.ensures.items (c.len-self-inside.ensures ∙ c.push.new.self.ok.0) few

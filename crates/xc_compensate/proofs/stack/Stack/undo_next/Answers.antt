@@ -1,6 +1,6 @@
 use Rattle.std.proofs.Common.{◌≡◌, ◌<◌, ◌+◌, ◌∙◌, ℕ, ◌∷◌, ◌||◌, not, length, ap, arith, sym}
 use Rattle.xc_world.specs.Ends.{Ending, blocker, is_undone}
-use Rattle.xc_compensate.proofs.Listing.{of, older, newer, older_count, newest, ended, rest, same_read}
+use Rattle.xc_compensate.proofs.Listing.{both_lists, older, newer, older_count, newest, record_ended, rest, same_read}
 use Rattle.xc_compensate.proofs.Keeping.{keeps_ended}
 use Rattle.xc_compensate.proofs.Trying.{tried_now}
 use Rattle.xc_compensate.proofs.stack.Stack.undo_next.Goals as goal
@@ -33,8 +33,8 @@ returns-clause-tried g c =
     let way : (from : ℕ) → blocker from r.0 c.hindering-newer.result.now ≡ blocker from r.0 (newer records at) =
     λ from. c.hindering-newer.ensures.way from r.0 ∙ ap (blocker from r.0) (rest records c.deref.result.now at _ c.deref.ensures.value after) in
     let same = same_read records at c.index_mut.result.now r there c.index_mut.ensures.value c.index.ensures in
-    let now = ended records at there (c.index_mut.result.now.0, end)
-    ∙ ap (λ (x : Ending). of (older records at) ((x.0, end) ∷ newer records at)) same in
+    let now = record_ended records at there (c.index_mut.result.now.0, end)
+    ∙ ap (λ (x : Ending). both_lists (older records at) ((x.0, end) ∷ newer records at)) same in
     λ some. tried_now c.args.self.now (older records at) (newer records at) c.hindering-newer.result.now r.0 c.self.inside.pending view
     (after ∙ ap (λ k. k + 1) (sym (older_count records at there))) way
     g.H.Host.model c.args.tries _ c.args.host.now _ end _ now tried.legal tried.undoes tried.still c.turn_of.ensures

@@ -10,9 +10,9 @@ use Rattle.xc_world.specs.World.{World, beginning, no_handles}
 use Rattle.xc_machine.proofs.Laws.{remains_words}
 use Rattle.xc_model.specs.Course.{Course, Standing, after_course, standing_abort}
 use Rattle.xc_model.specs.Progress.{private_of}
-use Rattle.xc_judge.specs.Judged.{IsNumbered}
-use Rattle.xc_judge.proofs.Aborting.{aborted, open_remains, own_records}
-use Rattle.xc_judge.proofs.Committing.{led}
+use Rattle.xc_judge.specs.Judged.{IsInSomeTurn}
+use Rattle.xc_judge.proofs.Aborting.{abort_led, open_remains, own_records}
+use Rattle.xc_judge.proofs.Committing.{course_of}
 use Rattle.xc_judge.proofs.progress.Progress.abort.Goals as goal
 
 pub invariant_of-result : goal.invariant_of-result
@@ -22,7 +22,7 @@ invariant_of-result c =
     let js = c.self.inside.jobs.items in
     let n = c.self.inside.entered in
     let x = c.put_remains.new.world in
-    let numbered = subst (λ (s : Course). IsNumbered s e) (sym c.self.view_is) c.requires.numbered in
+    let numbered = subst (λ (s : Course). IsInSomeTurn s e) (sym c.self.view_is) c.requires.numbered in
     let f = numbered.standing in
     let there : slice_get js c.place_of-at.result ≡ Some f = ap (slice_get js) c.place_of-at.ensures.value ∙ numbered.in_turn.started in
     let changed = c.in_ok-abort_job.ensures f there in
@@ -45,9 +45,9 @@ returns-clause-value c =
     let changed = λ (f : Standing) (there : slice_get js (e.job - 1) ≡ Some f).
     c.in_ok-abort_job.ensures f (ap (slice_get js) place ∙ there) ∙ ap (λ at. slice_set js at (standing_abort n f e report.cause)) place in
     let led_to = c.in_ok-put_remains.ensures ∙ ap (λ rs. with_remains w (remains rs)) c.as_slice.ensures in
-    let numbered = subst (λ (s : Course). IsNumbered s e) (sym view) c.requires.numbered in
-    subst (λ (s : Course). led x hs jobs (n + 1) ≡ after_course s e) view
-    (aborted w x hs js jobs n e report led_to changed numbered c.requires.outcome)
+    let numbered = subst (λ (s : Course). IsInSomeTurn s e) (sym view) c.requires.numbered in
+    subst (λ (s : Course). course_of x hs jobs (n + 1) ≡ after_course s e) view
+    (abort_led w x hs js jobs n e report led_to changed numbered c.requires.outcome)
 
 pub returns-clause-open : goal.returns-clause-open
 returns-clause-open c = λ ty apart opens job.

@@ -8,9 +8,9 @@ use Rattle.xc_model.specs.Course.{Course, after_course, standing_anew}
 use Rattle.xc_model.specs.EntryEnds.{IsCommit}
 use Rattle.xc_model.specs.Machine.{IsPlayedBody}
 use Rattle.xc_model.specs.Progress.{body_of}
-use Rattle.xc_judge.specs.Judged.{IsNumbered}
+use Rattle.xc_judge.specs.Judged.{IsInSomeTurn}
 use Rattle.xc_judge.specs.Ran.{IsLedOn}
-use Rattle.xc_judge.proofs.Committing.{as_many_jobs, committed, has_committed, led, led_others, led_own}
+use Rattle.xc_judge.proofs.Committing.{as_many_jobs, commit_led, has_committed, course_of, led_others, led_own}
 use Rattle.xc_judge.proofs.Handed.{open_handed}
 use Rattle.xc_judge.proofs.progress.Progress.commit.Goals as goal
 
@@ -22,7 +22,7 @@ invariant_of-result c =
     let n = c.self.inside.entered in
     let at = c.place_of-at.result in
     let blocks = c.as_slice-3.result.now in
-    let numbered = subst (λ (s : Course). IsNumbered s e) (sym c.self.view_is) c.requires.numbered in
+    let numbered = subst (λ (s : Course). IsInSomeTurn s e) (sym c.self.view_is) c.requires.numbered in
     let anew = standing_anew numbered.standing.block (n + 1) in
     let there : slice_get js at ≡ Some numbered.standing = ap (slice_get js) c.place_of-at.ensures.value ∙ numbered.in_turn.started in
     let gave = c.in_ok-hand_over.ensures in
@@ -50,9 +50,9 @@ returns-clause-value c =
     (subst (λ (q : Private). IsLedOn x q (body_of c.args.self.state e) late) (sym c.deref.ensures) c.requires.led) in
     let has = has_committed w hs js n e late c.as_slice.result.now c.as_slice-2.result.now m x handles jobs blocks c.place_of-at.result (length blocks) mine
     c.as_slice.ensures c.as_slice-2.ensures c.place_of-at.ensures.value (c.as_slice-3.ensures ∙ c.in_ok-blocks.ensures) refl gave.handles gave.jobs in
-    subst (λ (s : Course). led x handles jobs (n + 1) ≡ after_course s e) view
-    (committed w hs js n e late m x handles jobs has
-    (subst (λ (s : Course). IsNumbered s e) (sym view) c.requires.numbered) c.requires.outcome
+    subst (λ (s : Course). course_of x handles jobs (n + 1) ≡ after_course s e) view
+    (commit_led w hs js n e late m x handles jobs has
+    (subst (λ (s : Course). IsInSomeTurn s e) (sym view) c.requires.numbered) c.requires.outcome
     (subst (λ (s : State). IsPlayedBody s e) (sym state) c.requires.played)
     (subst (λ (s : State). IsCommit s e late) (sym state) c.requires.ended))
 

@@ -11,7 +11,7 @@ use Rattle.xc_model.specs.Course.{Course}
 use Rattle.xc_model.specs.Machine.{HasReplies}
 use Rattle.xc_model.specs.Progress.{body_of, private_of}
 use Rattle.std.specs.Prelude.{All}
-use Rattle.xc_judge.specs.Judged.{telling}
+use Rattle.xc_judge.specs.Judged.{telling_terms}
 use Rattle.xc_judge.specs.Ran.{IsRan}
 use Rattle.xc_judge.specs.declared.ran.Ran.{Ran}
 use Rattle.xc_judge.proofs.Cases.{found_none, found_some}
@@ -40,7 +40,7 @@ returns-in_default c = λ has.
       calls_are = c.as_slice-calls.ensures;
       replies_are = c.as_slice-replies.ensures;
     } in
-    let mine = subst (λ (z : Course). HasReplies (telling c.args.rules.now) z e) (sym c.self.view_is) has in
+    let mine = subst (λ (z : Course). HasReplies (telling_terms c.args.rules.now) z e) (sym c.self.view_is) has in
     let all = replayed_so c.args.rules.now c.self.inside.world c.self.inside.handles.items c.self.inside.jobs.items c.self.inside.entered e mine in
     found_none c.in_ok-traced.field-0 (AreReplayed w me e.tx calls replies → ⊥) (λ _. AreReplayed w me e.tx calls replies) c.in_default.not-Some
     c.in_ok-traced.ensures.decides
@@ -84,6 +84,6 @@ returns c =
     (if_some (λ (_ : Traced). IsSound v m e.tx) traced is gave.sound)
     (if_some (λ (r : Traced). All (IsReady v) r.replied.late) traced is gave.ready)
     (subst (λ k. k ≤ 4096) (sym count) c.self.invariant.1) in (
-      subst (λ (z : Course). HasReplies (telling rules_now) z e) c.self.view_is there,
+      subst (λ (z : Course). HasReplies (telling_terms rules_now) z e) c.self.view_is there,
       subst (λ (z : Course). IsRan ran (body_of z.state e) e.tx) c.self.view_is ran_so,
     )

@@ -3,7 +3,7 @@ use Rattle.std.specs.Option.{option_copied}
 use Rattle.xc_data.specs.declared.entry.Cause.{Cause}
 use Rattle.xc_data.specs.declared.undo.UndoEnd.{UndoEnd}
 use Rattle.xc_data.specs.declared.undo.UndoEnd.TheVariants.{Undone}
-use Rattle.xc_lines.specs.declared.shown.Standing.{Standing}
+use Rattle.xc_lines.specs.declared.shown.EffectShown.{EffectShown}
 use Rattle.xc_lines.specs.declared.shown.UndoKind.{UndoKind}
 use Rattle.xc_lines.specs.declared.shown.UndoKind.TheVariants as kind
 use Rattle.xc_script.specs.declared.ask.Ask.TheVariants as ask
@@ -19,11 +19,11 @@ abbrev past : UndoKind × UndoEnd
 past = (kind.Bytes, Undone 0)
 
 -- what is shown of a report, by its parts
-abbrev seen_by : Cause → List (UndoKind × UndoEnd) → List Standing → ReportShown
+abbrev seen_by : Cause → List (UndoKind × UndoEnd) → List EffectShown → ReportShown
 seen_by why shown effects = record { cause = why; records = shown; effects = effects }
 
 -- what is shown of the newest record
-abbrev newest : UndoEnd → Option Standing → NewestShown
+abbrev newest : UndoEnd → Option EffectShown → NewestShown
 newest end effect = record { end = end; effect = effect }
 
 pub returns-then-shown-count : goal.returns-then-shown-count

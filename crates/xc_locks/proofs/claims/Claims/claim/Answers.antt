@@ -3,14 +3,14 @@ use Rattle.std.specs.Prelude.{All}
 use Rattle.xc_data.specs.declared.claim.Claim.{Claim}
 use Rattle.xc_locks.specs.Met.{IsNotMet}
 use Rattle.xc_locks.specs.Table.{Table, AreCompatible}
-use Rattle.xc_locks.proofs.Claimed.{alone}
+use Rattle.xc_locks.proofs.Claimed.{single_element}
 use Rattle.xc_locks.proofs.Whole.{coherent_claim}
 use Rattle.xc_locks.proofs.claims.Claims.claim.Goals as goal
 
 pub returns-in-len1-clause-unmet : goal.returns-in-len1-clause-unmet
 returns-in-len1-clause-unmet c =
     subst (λ (claims : List Claim). OnOk c.claim_one.result (All (IsNotMet c.args.self.now c.args.tx) claims))
-    (alone c.args.claims.now c.claim-item.result (omega arith) c.claim-item.is) c.claim_one.ensures.unmet
+    (single_element c.args.claims.now c.claim-item.result (omega arith) c.claim-item.is) c.claim_one.ensures.unmet
 
 coherent : (c : goal.After-hold) → AreCompatible c.hold_all.new.holders
 coherent c =

@@ -3,7 +3,7 @@ use Rattle.xc_data.specs.declared.object.Object.{Object}
 use Rattle.xc_data.specs.declared.claim.Claim.{Claim}
 use Rattle.xc_locks.specs.declared.refusal.ClaimErr.TheVariants.{Met, NoMemory}
 use Rattle.xc_locks.specs.Met.{IsCause}
-use Rattle.xc_locks.specs.Others.{IsFree, IsReason}
+use Rattle.xc_locks.specs.Others.{MayHold, IsReason}
 use Rattle.xc_locks.specs.declared.refusal.Refusal.{Refusal}
 use Rattle.xc_locks.specs.declared.refusal.Refusal.TheVariants as refusal
 use Rattle.xc_locks.specs.Table.{Table, AreCompatible, KeepsOthers, claimed, held_mode, modes_of}
@@ -13,7 +13,7 @@ use Rattle.xc_locks.proofs.claims.Claims.claim_one.Goals.{in-Ok, in-Err-Met, in-
 use Rattle.xc_locks.proofs.claims.Claims.claim_one.Goals as goal
 
 -- whether the claim is granted or not, the modes stay compatible
-either : {A E : Type 0} (t u : Table) (tx : ℕ) (c : Claim) (r : Result A E) → AreCompatible t → OnOk r (IsFree (modes_of t c.object) tx c.mode)
+either : {A E : Type 0} (t u : Table) (tx : ℕ) (c : Claim) (r : Result A E) → AreCompatible t → OnOk r (MayHold (modes_of t c.object) tx c.mode)
     → OnOk r ((o : Object) → held_mode u tx o ≡ claimed (held_mode t tx o) (c ∷ []) o) → OnOk r (KeepsOthers tx t u) → OnErr r (u ≡ t) → AreCompatible u
 either t u tx c (Ok x) before free own others err = coherent_claim t u tx (c ∷ []) before (unmet t tx c before free) own others
 either t u tx c (Err e) before free own others err = subst AreCompatible (sym err) before

@@ -6,7 +6,7 @@ use Rattle.std.specs.HashMap.Entry.{map_with_value}
 use Rattle.std.proofs.lemmas.Result.{IfOk-weaker, on_ok_weaker, on_err_weaker}
 use Rattle.xc_data.specs.declared.claim.Mode.{Mode}
 use Rattle.xc_locks.specs.Keys.{holder_of}
-use Rattle.xc_locks.specs.Others.{IsFree, IsReason}
+use Rattle.xc_locks.specs.Others.{MayHold, IsReason}
 use Rattle.xc_locks.specs.Rows.{mode_among, with_mode}
 use Rattle.xc_locks.proofs.Rows.{held_in, or_nobody}
 use Rattle.xc_locks.proofs.ByRow.{got, lacks, put_raised, put_same, row_of}
@@ -38,7 +38,7 @@ returns-clause-was c =
     c.claim.ensures.was
 
 pub returns-clause-free : goal.returns-clause-free
-returns-clause-free c = subst (λ (modes : ℕ → Option Mode). OnOk c.claim.result (IsFree modes c.args.tx c.args.mode)) (seen c) c.claim.ensures.free
+returns-clause-free c = subst (λ (modes : ℕ → Option Mode). OnOk c.claim.result (MayHold modes c.args.tx c.args.mode)) (seen c) c.claim.ensures.free
 
 pub returns-clause-ok : goal.returns-clause-ok
 returns-clause-ok c =

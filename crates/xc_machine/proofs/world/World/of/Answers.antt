@@ -1,7 +1,7 @@
 use Rattle.std.proofs.Common.{◌≤◌, length, subst, sym}
 use Rattle.xc_world.specs.World.{World, beginning}
 use Rattle.xc_world.specs.Sound.{IsSound}
-use Rattle.xc_world.specs.Opening.{bare, opening_handles}
+use Rattle.xc_world.specs.Opening.{bare_world, opening_handles}
 use Rattle.xc_world.proofs.Laws.{opening_words, opening_sound}
 use Rattle.xc_machine.proofs.world.World.of.Goals as goal
 
@@ -14,4 +14,4 @@ pub returns-clause-words : goal.returns-clause-words
 returns-clause-words c =
     let script = c.args.script.now in
     subst (λ (w : World). length w.words ≤ 4096) (sym c.in_ok-world.ensures)
-    (subst (λ words. length words ≤ 4096) (sym (opening_words (bare script) 0 script.prologue.objects)) c.requires.words)
+    (subst (λ words. length words ≤ 4096) (sym (opening_words (bare_world script) 0 script.prologue.objects)) c.requires.words)

@@ -4,7 +4,7 @@ use Rattle.std.specs.Cmp.Lexicographic.{pointwise}
 use Rattle.xc_data.specs.declared.entry.KeptItem.TheVariants.{Bytes}
 use Rattle.xc_world.specs.World.{pipe_of, with_pipe}
 use Rattle.xc_machine.specs.Taking.{Takes}
-use Rattle.xc_machine.proofs.MachineTaking.{bytes_taken, bytes_there, no_pipe, other_front}
+use Rattle.xc_machine.proofs.MachineTaking.{takes_front_bytes, bytes_there, no_pipe, other_front}
 use Rattle.xc_machine.proofs.world.World.take_bytes.Goals as goal
 
 pub returns-then-not-has_pipe-clause-taken : goal.returns-then-not-has_pipe-clause-taken
@@ -24,5 +24,5 @@ returns-clause-taken c =
     let rest = c.in-Some.rest.now in
     subst (Takes (Bytes pipe bytes) w)
     (ap (λ held. with_pipe w pipe (record (pipe_of w pipe) { held = held })) (sym c.in_ok-rest.ensures) ∙ sym c.in_ok-set_held.ensures.ok)
-    (bytes_taken w pipe bytes rest (sym c.has_pipe.ensures ∙ c.if-not-has_pipe.false)
+    (takes_front_bytes w pipe bytes rest (sym c.has_pipe.ensures ∙ c.if-not-has_pipe.false)
     (sym c.held.ensures ∙ bytes_there bytes rest c.held.result.now c.in-Some.ensures.cases.0 c.in-Some.ensures.cases.1))

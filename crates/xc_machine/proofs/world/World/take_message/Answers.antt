@@ -5,7 +5,7 @@ use Rattle.std.proofs.lemmas.Bool.{not-true, not-false}
 use Rattle.xc_data.specs.declared.entry.KeptItem.TheVariants.{Message}
 use Rattle.xc_world.specs.World.{pair_of, with_pair, with_waiting}
 use Rattle.xc_machine.specs.Taking.{Takes}
-use Rattle.xc_machine.proofs.MachineTaking.{parted_first, message_taken, no_message, other_message}
+use Rattle.xc_machine.proofs.MachineTaking.{parted_first, takes_first_message, no_message, other_message}
 use Rattle.xc_machine.proofs.world.World.take_message.Goals as goal
 
 pub returns-in_default-clause-taken : goal.returns-in_default-clause-taken
@@ -32,5 +32,5 @@ returns-clause-taken c =
     subst (λ m. Takes (Message pair side m) w c.set_waiting.new.self) (sym c.as_slice.ensures ∙ same_text c.as_slice.result.now bytes (sym alike))
     (subst (Takes (Message pair side first) w)
     (ap (λ rest. with_pair w pair (with_waiting (pair_of w pair) side rest)) (sym c.in_ok-rest.ensures) ∙ sym c.in_ok-set_waiting.ensures.ok)
-    (message_taken w pair side first _
+    (takes_first_message w pair side first _
     (sym c.waiting.ensures ∙ parted_first c.waiting.result.now first c.in-len1-up.len_at_least c.first-item.is)))

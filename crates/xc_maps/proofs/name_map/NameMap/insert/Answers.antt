@@ -7,7 +7,7 @@ use Rattle.std.proofs.lemmas.Map.Lookups.{exact_bytes}
 use Rattle.xc_maps.specs.Keys.{name_cmp}
 use Rattle.xc_maps.specs.Moved.{AreNew}
 use Rattle.xc_maps.proofs.Maps.{get-lookup, inserted}
-use Rattle.xc_maps.proofs.Moved.{behind, tree_changed, fresh_changed, replaced_at, fresh_replaced, some_of, on_some, none_of, room_kept}
+use Rattle.xc_maps.proofs.Moved.{tree_behind, tree_changed, fresh_changed, replaced_at, fresh_replaced, some_of, on_some, if_none_holds, room_kept}
 use Rattle.xc_maps.proofs.name_map.NameMap.insert.Goals as goal
 
 pub invariant_of-self : goal.invariant_of-self
@@ -40,10 +40,10 @@ pub returns-then-not-make_room-clause-absent : goal.returns-then-not-make_room-c
 returns-then-not-make_room-clause-absent g c =
     let es = c.self.inside.moved.items in
     let tree = c.self.inside.entries.entries in
-    let none = none_of c.take_out.result (sym c.is_some.ensures ∙ c.if-is_some.false) c.take_out.ensures.none in
+    let none = if_none_holds c.take_out.result (sym c.is_some.ensures ∙ c.if-is_some.false) c.take_out.ensures.none in
     ap (λ m. map.get m c.args.name) (sym c.self.view_is)
     ∙ get-lookup nat_list_cmp_total (es ++ tree) c.args.name
-    ∙ behind nat_list_cmp_total exact_bytes es tree c.args.name none
+    ∙ tree_behind nat_list_cmp_total exact_bytes es tree c.args.name none
     ∙ c.make_room.ensures.none c.if-not-make_room.true
 
 pub invariant_of-self-in-Ok : goal.invariant_of-self-in-Ok
@@ -51,8 +51,8 @@ invariant_of-self-in-Ok g c =
     let es = c.self.inside.moved.items in
     let tree = c.self.inside.entries.entries in
     let gone = sym c.is_some.ensures ∙ c.if-is_some.false in
-    let none = none_of c.take_out.result gone c.take_out.ensures.none in
-    let items = c.make_room.ensures.items ∙ none_of c.take_out.result gone c.take_out.ensures.unchanged in
+    let none = if_none_holds c.take_out.result gone c.take_out.ensures.none in
+    let items = c.make_room.ensures.items ∙ if_none_holds c.take_out.result gone c.take_out.ensures.unchanged in
     record {
       fresh = subst (λ fs. AreNew name_cmp fs c.insert.new.self.entries) (sym items)
           (fresh_changed nat_list_cmp_total exact_bytes es tree c.insert.new.self.entries c.args.name (Some c.args.value)
@@ -68,8 +68,8 @@ returns-in-Ok-clause-ok g c =
     let es = c.self.inside.moved.items in
     let tree = c.self.inside.entries.entries in
     let gone = sym c.is_some.ensures ∙ c.if-is_some.false in
-    let none = none_of c.take_out.result gone c.take_out.ensures.none in
-    let items = c.make_room.ensures.items ∙ none_of c.take_out.result gone c.take_out.ensures.unchanged in
+    let none = if_none_holds c.take_out.result gone c.take_out.ensures.none in
+    let items = c.make_room.ensures.items ∙ if_none_holds c.take_out.result gone c.take_out.ensures.unchanged in
     inserted nat_list_cmp_total exact_bytes (es ++ tree) (c.make_room.new.moved.items ++ c.insert.new.self.entries)
     c.args.name c.args.value
     (λ q. ap (λ fs. lookup (is_at (name_cmp q)) (fs ++ c.insert.new.self.entries)) items
@@ -81,8 +81,8 @@ pub returns-clause-absent : goal.returns-clause-absent
 returns-clause-absent g c =
     let es = c.self.inside.moved.items in
     let tree = c.self.inside.entries.entries in
-    let none = none_of c.take_out.result (sym c.is_some.ensures ∙ c.if-is_some.false) c.take_out.ensures.none in
+    let none = if_none_holds c.take_out.result (sym c.is_some.ensures ∙ c.if-is_some.false) c.take_out.ensures.none in
     ap (λ m. map.get m c.args.name) (sym c.self.view_is)
     ∙ get-lookup nat_list_cmp_total (es ++ tree) c.args.name
-    ∙ behind nat_list_cmp_total exact_bytes es tree c.args.name none
+    ∙ tree_behind nat_list_cmp_total exact_bytes es tree c.args.name none
     ∙ c.in-Err.ensures.absent

@@ -2,7 +2,7 @@ use Rattle.std.proofs.Common.{◌++◌, ap, sym, ◌∙◌}
 use Rattle.std.specs.FinMap as map
 use Rattle.std.specs.Cmp.Lexicographic.{nat_list_cmp_total}
 use Rattle.std.proofs.lemmas.Map.Lookups.{exact_bytes}
-use Rattle.xc_maps.proofs.Maps.{get-lookup, removed, undone}
+use Rattle.xc_maps.proofs.Maps.{get-lookup, removed, insert_undone}
 use Rattle.xc_maps.proofs.name_map.NameMap.remove.Goals as goal
 
 pub returns-clause-value : goal.returns-clause-value
@@ -20,4 +20,4 @@ pub returns-clause-undone : goal.returns-clause-undone
 returns-clause-undone g c m x none e =
     removed nat_list_cmp_total exact_bytes (c.self.inside.moved.items ++ c.self.inside.entries.entries) (c.take.new.moved.items ++ c.take.new.entries.entries)
     c.args.name c.take.ensures.taken
-    ∙ ap (λ m. map.remove m c.args.name) (c.self.view_is ∙ e) ∙ undone nat_list_cmp_total exact_bytes m c.args.name x none
+    ∙ ap (λ m. map.remove m c.args.name) (c.self.view_is ∙ e) ∙ insert_undone nat_list_cmp_total exact_bytes m c.args.name x none

@@ -7,7 +7,7 @@ use Rattle.std.proofs.lemmas.Map.Lookups.{exact_bytes}
 use Rattle.xc_maps.specs.Keys.{name_cmp}
 use Rattle.xc_maps.specs.Moved.{AreNew}
 use Rattle.xc_maps.proofs.Maps.{get-lookup, inserted, removed}
-use Rattle.xc_maps.proofs.Moved.{put_at, fresh_put, none_either}
+use Rattle.xc_maps.proofs.Moved.{put_outside, fresh_put, none_either}
 use Rattle.xc_maps.proofs.name_map.NameMap.rename.Goals as goal
 
 pub invariant_of-self : goal.invariant_of-self
@@ -34,7 +34,7 @@ returns-in-Some g c = λ x is.
     (c.push_reserved.new.self.items ++ c.take.new.entries.entries)
     c.args.to c.in-Some.value
     (λ q. ap (λ es. lookup (is_at (name_cmp q)) (es ++ c.take.new.entries.entries)) c.push_reserved.ensures.items
-    ∙ put_at nat_list_cmp_total exact_bytes c.take.new.moved.items c.take.new.entries.entries c.args.to c.in-Some.value none q)
+    ∙ put_outside nat_list_cmp_total exact_bytes c.take.new.moved.items c.take.new.entries.entries c.args.to c.in-Some.value none q)
     ∙ ap (λ m. map.insert m c.args.to c.in-Some.value)
     (removed nat_list_cmp_total exact_bytes (c.self.inside.moved.items ++ c.self.inside.entries.entries) (c.take.new.moved.items ++ c.take.new.entries.entries)
     c.args.from c.take.ensures.taken

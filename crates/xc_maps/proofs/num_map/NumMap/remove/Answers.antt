@@ -1,6 +1,6 @@
 use Rattle.std.proofs.Common.{ap, sym, ◌∙◌}
 use Rattle.std.specs.FinMap as map
-use Rattle.xc_maps.proofs.Maps.{num_total, num_exact, get-lookup, removed, undone}
+use Rattle.xc_maps.proofs.Maps.{num_total, num_exact, get-lookup, removed, insert_undone}
 use Rattle.xc_maps.proofs.num_map.NumMap.remove.Goals as goal
 
 pub returns-clause-value : goal.returns-clause-value
@@ -16,4 +16,4 @@ returns-clause-removed g c =
 pub returns-clause-undone : goal.returns-clause-undone
 returns-clause-undone g c m x none e =
     removed num_total num_exact c.self.inside.entries.entries c.remove.new.self.entries c.args.num c.remove.ensures.updates.0
-    ∙ ap (λ m. map.remove m c.args.num) (c.self.view_is ∙ e) ∙ undone num_total num_exact m c.args.num x none
+    ∙ ap (λ m. map.remove m c.args.num) (c.self.view_is ∙ e) ∙ insert_undone num_total num_exact m c.args.num x none

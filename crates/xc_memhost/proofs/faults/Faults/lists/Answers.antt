@@ -1,5 +1,5 @@
 use Rattle.std.proofs.Common.{sym, ◌∙◌}
-use Rattle.xc_data.specs.declared.script.Kind.TheVariants as kind
+use Rattle.xc_data.specs.declared.script.HostCallKind.TheVariants as kind
 use Rattle.xc_memhost.specs.Faults.{is_line_of}
 use Rattle.xc_memhost.proofs.Listed.{any_first, any_second}
 use Rattle.xc_memhost.proofs.faults.Faults.lists.Goals as goal

@@ -1,14 +1,14 @@
 use Rattle.std.proofs.Common.{leb, ◌-◌, get_or, sym, ap, ◌∙◌, subst, rules}
 use Rattle.std.proofs.lemmas.Bool.{le-ltb}
 use Rattle.std.proofs.lemmas.List.Sorted.{IsPartitionPoint-from_clause, IsPartitionedBy-leb}
-use Rattle.xc_memhost.specs.Spans.{AreApart}
+use Rattle.xc_memhost.specs.Spans.{AreDisjoint}
 use Rattle.xc_memhost.specs.Faults.{any_within}
 use Rattle.xc_memhost.proofs.Listed.{rising_from_apart, lists_none, lists_last}
 use Rattle.xc_memhost.proofs.spans.Spans.contains.Goals as goal
 
 pub returns-then-behind-gt0 : goal.returns-then-behind-gt0
 returns-then-behind-gt0 c =
-    let apart = subst AreApart (sym c.deref.ensures.value) c.self.invariant in
+    let apart = subst AreDisjoint (sym c.deref.ensures.value) c.self.invariant in
     let parted = IsPartitionedBy-leb (λ line. line.first) _ c.args.number (rising_from_apart _ apart) in
     let point =
     IsPartitionPoint-from_clause (λ line. leb line.first c.args.number) _ _ c.partition_point-behind.ensures.partitioned parted (λ a r q k. search rules) in
@@ -21,7 +21,7 @@ returns-then-behind-gt0 c =
 
 pub returns-else-behind-gt0 : goal.returns-else-behind-gt0
 returns-else-behind-gt0 c =
-    let apart = subst AreApart (sym c.deref.ensures.value) c.self.invariant in
+    let apart = subst AreDisjoint (sym c.deref.ensures.value) c.self.invariant in
     let parted = IsPartitionedBy-leb (λ line. line.first) _ c.args.number (rising_from_apart _ apart) in
     let point =
     IsPartitionPoint-from_clause (λ line. leb line.first c.args.number) _ _ c.partition_point-behind.ensures.partitioned parted (λ a r q k. search rules) in

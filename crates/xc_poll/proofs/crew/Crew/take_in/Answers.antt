@@ -1,9 +1,9 @@
 use Rattle.std.proofs.Common.{◌≡◌, List, [], ◌∷◌, ◌++◌, ap, arith, inl, length, refl, subst, sym, ◌∙◌}
 use Rattle.xc_turnstile.specs.Known.{Known}
 use Rattle.xc_poll.specs.Askings.{PartsMost, TakesIn, TakesInOrLeaves, task_for}
-use Rattle.xc_poll.specs.Crews.{Crew, IsSound}
+use Rattle.xc_poll.specs.Crews.{Crew, IsCrewSound}
 use Rattle.xc_poll.specs.Tasks.{Task, known_of}
-use Rattle.xc_poll.proofs.Parts.{parts_length, put_back}
+use Rattle.xc_poll.proofs.Parts.{tasks_length, put_back}
 use Rattle.xc_poll.proofs.Sound.{takes_in}
 use Rattle.xc_poll.proofs.crew.Crew.take_in.Given as given
 use Rattle.xc_poll.proofs.crew.Crew.take_in.Goals as goal
@@ -42,11 +42,11 @@ pushed : (g : given.Over) (c : goal.After-self-3-1 g)
 pushed g c =
     let rest = c.part_most-given.new.tasks in
     let room = c.reserve.new.self in
-    let long = parts_length _ _ _ rest _ (parts g c) ∙ sym (ap (λ (ts : List Task). length ts) c.reserve.ensures.items) in
+    let long = tasks_length _ _ _ rest _ (parts g c) ∙ sym (ap (λ (ts : List Task). length ts) c.reserve.ensures.items) in
     c.push_reserved.ensures.items ∙ (ap (λ (ts : List Task). ts ++ c.new.result ∷ []) (put_back rest room.items room.len long room.ok.0)
     ∙ ap (λ (t : Task). rest ++ t ∷ []) c.new.ensures)
 
-taken : (g : given.Over) (c : goal.After-self-3-1 g) → TakesIn (old_crew g c) (new_crew g c) c.args.job × IsSound (new_crew g c)
+taken : (g : given.Over) (c : goal.After-self-3-1 g) → TakesIn (old_crew g c) (new_crew g c) c.args.job × IsCrewSound (new_crew g c)
 taken g c =
     let i = c.self.inside in
     takes_in i.shop.now.table.shared.table_id (known_of i.asking) c.part_most-given.new.asking c.in-Some-given.given i.tasks.items

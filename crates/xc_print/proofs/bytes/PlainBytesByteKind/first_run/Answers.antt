@@ -2,7 +2,7 @@ use Rattle.std.proofs.Common.{ℕ, cond, ltb, refl, ◌∙◌}
 use Rattle.std.proofs.lemmas.Simd.{zip2_of_maps, zip2_splat, zip2_splat_left, length-chunk}
 use lib.Lanes.{chunk}
 use Rattle.xc_print.specs.Bytes.{is_plain}
-use Rattle.xc_lanes.proofs.Laws.{run_of}
+use Rattle.xc_lanes.proofs.Laws.{lane_run}
 use Rattle.xc_print.proofs.bytes.PlainBytesByteKind.first_run.Goals as goal
 
 pub returns : goal.returns
@@ -12,4 +12,4 @@ returns c =
     let above = zip2_splat_left {X = ℕ} (λ a b. cond (ltb a b) 255 0) 126 16 v long in
     let outside = zip2_of_maps _ _ _ v (zip2_splat _ v 16 32 long) above in
     let marks = zip2_of_maps _ _ _ v (zip2_splat _ v 16 34 long) (zip2_splat _ v 16 92 long) in
-    c.first_set.ensures ∙ run_of is_plain _ c.args.bytes.now _ c.requires c.type_inv.bytes (zip2_of_maps _ _ _ v outside marks) refl
+    c.first_set.ensures ∙ lane_run is_plain _ c.args.bytes.now _ c.requires c.type_inv.bytes (zip2_of_maps _ _ _ v outside marks) refl

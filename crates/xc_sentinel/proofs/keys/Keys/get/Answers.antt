@@ -1,14 +1,14 @@
 use Rattle.std.proofs.Common.{ap, sym, ◌∙◌}
 use Rattle.std.specs.FinMap as map
 use Rattle.xc_sentinel.specs.Keys.{with_key}
-use Rattle.xc_sentinel.proofs.Beside.{get_beside, get_other}
+use Rattle.xc_sentinel.proofs.Beside.{get_key_beside, get_other}
 use Rattle.xc_sentinel.proofs.keys.Keys.get.Goals as goal
 use Rattle.xc_sentinel.proofs.keys.Keys.get.Goals.{in_default-via-in-Some+else-number-tx, in_default-via-in_default}
 
 pub returns-in-Some : goal.returns-in-Some
 returns-in-Some c =
     let was = c.self.inside in
-    sym (get_beside was.tree was.beside c.in-Some.number c.in-Some.key c.args.tx c.in-Some.is c.if-number-tx.true)
+    sym (get_key_beside was.tree was.beside c.in-Some.number c.in-Some.key c.args.tx c.in-Some.is c.if-number-tx.true)
     ∙ ap (λ m. map.get m c.args.tx) c.self.view_is
 
 pub returns-in_default : goal.returns-in_default

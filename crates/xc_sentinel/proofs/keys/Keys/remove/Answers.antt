@@ -1,13 +1,13 @@
 use Rattle.std.proofs.Common.{ap, sym, ◌∙◌}
 use Rattle.std.specs.FinMap as map
 use Rattle.xc_sentinel.specs.Keys.{with_key}
-use Rattle.xc_sentinel.proofs.Beside.{get_beside, get_other, take_beside, take_other}
+use Rattle.xc_sentinel.proofs.Beside.{get_key_beside, get_other, take_beside, take_other}
 use Rattle.xc_sentinel.proofs.keys.Keys.remove.Goals as goal
 
 pub returns-in-Some-clause-value : goal.returns-in-Some-clause-value
 returns-in-Some-clause-value c =
     let was = c.self.inside in
-    sym (get_beside was.tree was.beside c.in-Some.number c.in-Some.key c.args.tx c.in-Some.is c.if-number-tx.true)
+    sym (get_key_beside was.tree was.beside c.in-Some.number c.in-Some.key c.args.tx c.in-Some.is c.if-number-tx.true)
     ∙ ap (λ m. map.get m c.args.tx) c.self.view_is
 
 pub returns-in-Some-clause-removed : goal.returns-in-Some-clause-removed

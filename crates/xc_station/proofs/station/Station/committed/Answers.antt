@@ -19,7 +19,7 @@ use Rattle.xc_station.proofs.Ahead.{ahead_kept}
 use Rattle.xc_station.proofs.BacksKept.{backs_joined, backs_made, backs_set, safe_without}
 use Rattle.xc_station.proofs.Joined.{backed_joined, children_joined, children_within, rooms_joined}
 use Rattle.xc_data.proofs.Laws.{get_map, length_set}
-use Rattle.xc_station.proofs.Ready.{fits_next, has_room}
+use Rattle.xc_station.proofs.Ready.{fits_next, active_has_room}
 use Rattle.xc_station.proofs.RoomsKept.{rooms_entered}
 use Rattle.xc_station.proofs.Stages.{IsCommitted, IsThere, lent, committed_stage}
 use Rattle.xc_station.proofs.Steady.{steady_kept}
@@ -45,7 +45,7 @@ mine g c = committed_stage (doing_of c.index_mut.result.now) (is_there g c).stag
 room : (g : Over) (c : After-index_mut g) → (1 ≤ c.self.inside.active) × (1 ≤ c.self.inside.journal.spare)
 room g c =
     let station = c.self.inside in
-    has_room g.H.Host.model station.shared station.journal.items station.jobs.items c.args.at c.index_mut.result.now station.opening.script
+    active_has_room g.H.Host.model station.shared station.journal.items station.jobs.items c.args.at c.index_mut.result.now station.opening.script
     station.rules station.opening.faults station.active station.journal.spare station.lines c.self.invariant.steady c.self.invariant.rooms
     PlainStage.Committed (mine g c).tx (is_there g c) (mine g c).doing
 

@@ -22,7 +22,8 @@ use Rattle.xc_station.proofs.Waiting.{starts_still}
 use Rattle.xc_station.proofs.station.Station.idle.Given.{Over}
 use Rattle.xc_station.proofs.station.Station.idle.Goals as goal
 use Rattle.xc_station.proofs.station.Station.idle.Goals.{After-begin-turn, After-index_mut, in-Went, in_default}
-use Rattle.xc_station.proofs.Notes.{backed_jobs, keeps_itself}
+use Rattle.xc_station.proofs.Notes.{backed_jobs}
+use Rattle.xc_host.proofs.Laws.{data_keeps_itself}
 use Rattle.xc_station.specs.Lent.{IsBacked}
 use Rattle.std.proofs.lemmas.List.Elements.{All-nil}
 
@@ -87,7 +88,8 @@ invariant_of-self g c =
       taken = taken_kept station.jobs.items at job station.taken c.self.invariant.taken;
       plan = c.self.invariant.plan;
       backed = λ tells.
-          backed_jobs _ _ _ _ station.jobs.items at was job is.there (keeps_itself (model.contents station.shared.host)) ((c.self.invariant.backed tells).kept)
+          backed_jobs _ _ _ _ station.jobs.items at was job is.there (data_keeps_itself (model.contents station.shared.host))
+          ((c.self.invariant.backed tells).kept)
           (λ tx active. subst (All (IsBacked (model.contents station.shared.host)))
           (sym (idle_untaken model station.shared station.journal.items station.jobs.items at was job station.active station.journal.spare station.lines
           is.there c.self.invariant.rooms s c.begin-turn.new.sentinels journal.items journal.spare c.begin-turn.result
@@ -131,7 +133,8 @@ invariant_of-self-else-matches g c =
       taken = taken_kept station.jobs.items at job station.taken c.self.invariant.taken;
       plan = c.self.invariant.plan;
       backed = λ tells.
-          backed_jobs _ _ _ _ station.jobs.items at was job is.there (keeps_itself (model.contents station.shared.host)) ((c.self.invariant.backed tells).kept)
+          backed_jobs _ _ _ _ station.jobs.items at was job is.there (data_keeps_itself (model.contents station.shared.host))
+          ((c.self.invariant.backed tells).kept)
           (λ tx active. subst (All (IsBacked (model.contents station.shared.host)))
           (sym (idle_untaken model station.shared station.journal.items station.jobs.items at was job station.active station.journal.spare station.lines
           is.there c.self.invariant.rooms s c.begin-turn.new.sentinels journal.items journal.spare c.begin-turn.result

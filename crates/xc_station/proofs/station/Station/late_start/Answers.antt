@@ -19,7 +19,8 @@ use Rattle.xc_station.specs.Stations.{AreAhead, HasRooms, IsSteady, moment, now_
 use Rattle.xc_station.proofs.Ahead.{ahead_kept, taken_kept}
 use Rattle.xc_station.proofs.BacksKept.{backs_set, safe_ending}
 use Rattle.xc_station.proofs.Children.{lent_children, lent_seen, set_behind}
-use Rattle.xc_station.proofs.Notes.{backed_jobs, keeps_itself}
+use Rattle.xc_station.proofs.Notes.{backed_jobs}
+use Rattle.xc_host.proofs.Laws.{data_keeps_itself}
 use Rattle.xc_data.proofs.Laws.{get_map}
 use Rattle.xc_station.proofs.Rooms.{rooms_relined}
 use Rattle.xc_station.proofs.RoomsKept.{rooms_going}
@@ -133,7 +134,7 @@ invariant_of-self g c =
       backed = λ tells.
           let are = c.self.invariant.backed tells in
           subst (λ js. AreBacked (model.contents station.shared.host) station.shared.buffers.kept (job_views js)) (sym items)
-          (backed_jobs _ _ _ _ jobs at was job is.there (keeps_itself (model.contents station.shared.host)) are.kept
+          (backed_jobs _ _ _ _ jobs at was job is.there (data_keeps_itself (model.contents station.shared.host)) are.kept
           (λ tx active.
           let both : Some tx' ≡ Some tx = ap active_in (sym (ap (λ (j : JobView). j.doing) (gives mine.tx mine.doing))) ∙ active in
           let one : tx' ≡ tx = cc both in

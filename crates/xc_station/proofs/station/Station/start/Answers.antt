@@ -9,7 +9,7 @@ use Rattle.xc_model.specs.Setting.{setting}
 use Rattle.xc_station.specs.Jobs.{job_view}
 use Rattle.xc_station.specs.Stations.{moment}
 use Rattle.xc_station.proofs.BacksKept.{backs_made}
-use Rattle.xc_station.proofs.Started.{backed_at_start, each_opened, roomy, started}
+use Rattle.xc_station.proofs.Started.{backed_at_start, each_opened, roomy, steady_at_start}
 use Rattle.xc_station.proofs.station.Station.start.Goals as goal
 use Rattle.xc_station.specs.Lent.{Lent}
 use Rattle.xc_host.specs.Kept.{with_kept}
@@ -35,7 +35,7 @@ invariant_of-result g c =
       marks = λ n. ap mark_of (c.new-sentinels.ensures.nobody n);
       calls = c.in_default-open_with.ensures.fresh;
     } in record {
-      steady = started s _ _ (record { read = c.requires.script; attempts = c.requires.rules.0; tries = c.requires.rules.1 }) c.requires.limits opening
+      steady = steady_at_start s _ _ (record { read = c.requires.script; attempts = c.requires.rules.0; tries = c.requires.rules.1 }) c.requires.limits opening
           (c.open_with.ensures.count ∙ sym c.faults-faults.ensures)
           (λ t. ap (λ (lent : Lent). with_kept (model.contents c.open_with.new.self) lent.kept) c.in-Ok.ensures.buffers
           ∙ c.in_default-open_with.ensures.ok t ∙ ap (λ (p : Outline). opened p.prologue.objects) c.outline.ensures);

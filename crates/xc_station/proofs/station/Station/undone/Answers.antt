@@ -10,7 +10,7 @@ use Rattle.xc_station.specs.Stations.{moment, now_of, room_of, setting_of}
 use Rattle.xc_station.proofs.Ahead.{ahead_kept, taken_kept}
 use Rattle.xc_station.proofs.BacksKept.{backs_set, safe_without}
 use Rattle.xc_data.proofs.Laws.{get_map}
-use Rattle.xc_station.proofs.Ready.{fits_next, fits_failures, has_room}
+use Rattle.xc_station.proofs.Ready.{fits_next, fits_failures, active_has_room}
 use Rattle.xc_station.proofs.RoomsKept.{rooms_entered, back_none}
 use Rattle.xc_station.proofs.Stages.{IsThere, IsUndone, lent, undone_stage}
 use Rattle.xc_station.proofs.Steady.{steady_kept}
@@ -37,7 +37,7 @@ mine g c = undone_stage (doing_of c.index_mut.result.now) (is_there g c).stage
 room : (g : Over) (c : After-index_mut g) → (1 ≤ c.self.inside.active) × (1 ≤ c.self.inside.journal.spare)
 room g c =
     let station = c.self.inside in
-    has_room g.H.Host.model station.shared station.journal.items station.jobs.items c.args.at c.index_mut.result.now station.opening.script
+    active_has_room g.H.Host.model station.shared station.journal.items station.jobs.items c.args.at c.index_mut.result.now station.opening.script
     station.rules station.opening.faults station.active station.journal.spare station.lines c.self.invariant.steady c.self.invariant.rooms
     PlainStage.Undone (mine g c).tx (is_there g c) (mine g c).doing
 

@@ -5,7 +5,7 @@ use Rattle.std.specs.List.{prefix_len}
 use Rattle.xc_tokens.specs.Front.{InText, is_mark, line_in}
 use Rattle.xc_tokens.specs.Tokens.{Word, is_blank, past_blanks, token_at}
 use Rattle.xc_lanes.proofs.Laws.{reaches}
-use Rattle.xc_tokens.proofs.FrontWords.{shorter, starts, word_before_blank, word_at_end}
+use Rattle.xc_tokens.proofs.FrontWords.{rest_shorter, token_starts, word_before_blank, word_at_end}
 use Rattle.xc_tokens.proofs.Windows.{run_twice}
 use Rattle.xc_tokens.proofs.front.Front.next_word.Goals as goal
 
@@ -29,8 +29,8 @@ returns-then-end-self-2-clause-fewer c =
     ∙ ap (λ n. c.args.at + n) (run_twice is_blank (drop c.args.at lanes)) in
     let within : c.next_set-end.result < 16 = omega (arith, c.if-end-self-2.true, c.self.invariant.plain, plain, long) in
     let ends = c.next_set-end.ensures.shown is_blank lanes long c.self.invariant.blank within in
-    let begin = starts text c.self.inside.len c.args.at c.next_set-start.result long c.requires begins few c.if-start-self.false in
-    let less = shorter text c.self.inside.len c.args.at c.next_set-end.result c.self.invariant.within (omega (arith, begins, ends, begin.1))
+    let begin = token_starts text c.self.inside.len c.args.at c.next_set-start.result long c.requires begins few c.if-start-self.false in
+    let less = rest_shorter text c.self.inside.len c.args.at c.next_set-end.result c.self.invariant.within (omega (arith, begins, ends, begin.1))
     (omega (arith, c.if-end-self.true)) in
     subst (λ (s : InText). length (drop c.next_set-end.result (line_in s)) < length (drop c.args.at (line_in s))) c.self.view_is less
 
@@ -62,7 +62,7 @@ returns-then-self-clause-within c =
 
 pub returns-then-self-clause-fewer : goal.returns-then-self-clause-fewer
 returns-then-self-clause-fewer c =
-    let less = shorter c.self.inside.text.now c.self.inside.len c.args.at c.self.inside.len c.self.invariant.within
+    let less = rest_shorter c.self.inside.text.now c.self.inside.len c.args.at c.self.inside.len c.self.invariant.within
     (omega (arith, c.next_set-start.ensures.bound.0, c.if-start-self.false)) (omega arith) in
     subst (λ (s : InText). length (drop c.self.inside.len (line_in s)) < length (drop c.args.at (line_in s))) c.self.view_is less
 

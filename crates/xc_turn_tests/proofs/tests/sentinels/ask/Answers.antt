@@ -4,13 +4,13 @@ use Rattle.xc_data.specs.Step.{Step}
 use Rattle.xc_locks.specs.Table.{Holds, Table, claimed, held_mode, mode_in}
 use Rattle.xc_locks.proofs.Laws.{claimed-holding}
 use Rattle.xc_sentinel.specs.Asking.{Claiming, IsAnswer, held_after}
-use Rattle.xc_sentinel.specs.declared.seat.Verdict.{Verdict}
-use Rattle.xc_sentinel.specs.declared.seat.Verdict.TheVariants as verdict
+use Rattle.xc_sentinel.specs.declared.seat.ClaimVerdict.{ClaimVerdict}
+use Rattle.xc_sentinel.specs.declared.seat.ClaimVerdict.TheVariants as verdict
 use Rattle.xc_sentinel.specs.declared.sentinels.Sentinels.{Sentinels}
 use Rattle.xc_turn_tests.proofs.tests.sentinels.ask.Goals as goal
 
 -- by the answer
-answered : (s : Step Sentinels) (tx : ℕ) (c : Claiming) (v : Verdict) (held after : List Claim) → IsAnswer s tx c v → after ≡ held_after v held c.claims
+answered : (s : Step Sentinels) (tx : ℕ) (c : Claiming) (v : ClaimVerdict) (held after : List Claim) → IsAnswer s tx c v → after ≡ held_after v held c.claims
     → Holds s.old.claims tx held → Holds s.new.claims tx after
 answered s tx c verdict.Granted held after is list holds o =
     is.held o ∙ ap (λ m. claimed m c.claims o) (holds o) ∙ claimed-holding held c.claims o ∙ ap (λ items. mode_in items o) (sym list)

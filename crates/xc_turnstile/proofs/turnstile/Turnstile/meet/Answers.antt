@@ -2,7 +2,7 @@ use Rattle.std.proofs.Common.{◌≡◌, Option, rules, arith, ap, sym, ◌∙�
 use Rattle.atomic_table.specs.Table.{Me}
 use Rattle.xc_turnstile.specs.declared.view.View.{View}
 use Rattle.xc_turnstile.specs.Known.{Known}
-use Rattle.xc_turnstile.specs.Views.{HasPlace, PlacesRise, both}
+use Rattle.xc_turnstile.specs.Views.{HasPlace, PlacesRise, views_met}
 use Rattle.xc_turnstile.proofs.Fronts.{all_placed_apart, all_placed_has, has_all_placed}
 use Rattle.xc_turnstile.proofs.Sharing.{may_join, may_look}
 use Rattle.xc_turnstile.proofs.turnstile.Turnstile.meet.Goals as goal
@@ -30,13 +30,13 @@ load-requires g c =
 
 pub returns-clause-apart : goal.returns-clause-apart
 returns-clause-apart g c =
-    let view : c.load.new.seat.me.0 ≡ both c.args.a.view c.args.b.view = search rules in
+    let view : c.load.new.seat.me.0 ≡ views_met c.args.a.view c.args.b.view = search rules in
     let rises : PlacesRise 0 c.load.new.seat.me.0.mine = search rules in
     all_placed_apart c.args.a.view.mine c.args.b.view.mine (subst (λ (v : View). PlacesRise 0 v.mine) view rises)
 
 pub returns-clause-places : goal.returns-clause-places
 returns-clause-places g c = λ k.
-    let view : c.load.new.seat.me.0 ≡ both c.args.a.view c.args.b.view = search rules in
+    let view : c.load.new.seat.me.0 ≡ views_met c.args.a.view c.args.b.view = search rules in
     let mine = ap (λ (v : View). v.mine) view in (
       λ h. all_placed_has c.args.a.view.mine c.args.b.view.mine k (subst (HasPlace k) mine h),
       λ h. subst (HasPlace k) (sym mine) (has_all_placed c.args.a.view.mine c.args.b.view.mine k h),

@@ -1,7 +1,7 @@
 use Rattle.std.proofs.Common.{◌≡◌, ◌∙◌, Some, None, drop, ap, sym, subst}
 use Rattle.std.specs.Prelude.{unwrap_or}
 use Rattle.xc_txmem.specs.Overlay.{IsNewest}
-use Rattle.xc_txmem.specs.Saves.{saved_stores, IsSaved}
+use Rattle.xc_txmem.specs.Saves.{saved_stores, IsSaveOfStores}
 use Rattle.xc_txmem.proofs.Saved.{seen_as, writes_of}
 use Rattle.xc_txmem.proofs.writes.WriteSet.back.Goals as goal
 
@@ -9,9 +9,9 @@ pub invariant_of-self : goal.invariant_of-self
 invariant_of-self c =
     let stores = c.self.inside.stores.items in
     let is : c.self.inside.saved ≡ Some c.in-Some.save = sym c.take.ensures.value ∙ c.in-Some.is in
-    let held = subst (λ o. IsSaved o stores) is c.self.invariant.1 in (
+    let held = subst (λ o. IsSaveOfStores o stores) is c.self.invariant.1 in (
       subst (λ s. IsNewest c.in-Some.save.newest (drop 8 s)) (sym c.truncate.ensures.items) held.1,
-      subst (λ o. IsSaved o c.truncate.new.self.items) (sym c.take.ensures.after) tt,
+      subst (λ o. IsSaveOfStores o c.truncate.new.self.items) (sym c.take.ensures.after) tt,
     )
 
 pub returns-in-Some : goal.returns-in-Some

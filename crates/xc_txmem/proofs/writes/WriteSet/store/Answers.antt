@@ -1,6 +1,6 @@
 use Rattle.std.proofs.Common.{◌≡◌, ℕ, [], ◌∷◌, ◌++◌, ◌<◌, ◌≤◌, length, ap, sym, subst, drop, ◌∙◌, arith}
 use Rattle.xc_txmem.specs.Overlay.{overlaid, IsNewest}
-use Rattle.xc_txmem.specs.Saves.{IsSaved}
+use Rattle.xc_txmem.specs.Saves.{IsSaveOfStores}
 use Rattle.xc_txmem.proofs.Saved.{saved_more, saved_same, seen_as, writes_of}
 use Rattle.xc_txmem.proofs.Overlays.{early_adds, late_adds, overlay_adds}
 use Rattle.xc_txmem.proofs.writes.WriteSet.store.Goals.{then-len-ge-WALKED+in_ok-insert, else-len-ge-WALKED}
@@ -20,19 +20,21 @@ pushed c =
 pub invariant_of-self-2 : goal.invariant_of-self-2
 invariant_of-self-2 c =
     let stores = c.self.inside.stores.items in
-    let saved = subst (λ s. IsSaved c.self.inside.saved s) (sym (pushed c))
+    let saved = subst (λ s. IsSaveOfStores c.self.inside.saved s) (sym (pushed c))
     (saved_more c.self.inside.saved stores (c.args.at, c.args.value) c.self.invariant.1) in
     elim c.if-len-ge-WALKED.branch [
       | then-len-ge-WALKED+in_ok-insert w ↦
           let many : 8 ≤ length stores = omega arith in
-          subst (λ i. IsNewest i.newest (drop 8 c.push_reserved.new.self.items) × IsSaved i.saved c.push_reserved.new.self.items) (sym w.self-inside-is) (
+          subst (λ i. IsNewest i.newest (drop 8 c.push_reserved.new.self.items) × IsSaveOfStores i.saved c.push_reserved.new.self.items)
+          (sym w.self-inside-is) (
             subst (λ s. IsNewest w.insert.new.self (drop 8 s)) (sym (pushed c))
                 (late_adds c.self.inside.newest w.insert.new.self stores c.args.at c.args.value many c.self.invariant.0 w.in_ok-insert.ensures.updates),
             saved,
           )
       | else-len-ge-WALKED w ↦
           let few : length stores < 8 = omega arith in
-          subst (λ i. IsNewest i.newest (drop 8 c.push_reserved.new.self.items) × IsSaved i.saved c.push_reserved.new.self.items) (sym w.self-inside-is) (
+          subst (λ i. IsNewest i.newest (drop 8 c.push_reserved.new.self.items) × IsSaveOfStores i.saved c.push_reserved.new.self.items)
+          (sym w.self-inside-is) (
             subst (λ s. IsNewest c.self.inside.newest (drop 8 s)) (sym (pushed c))
                 (early_adds c.self.inside.newest stores c.args.at c.args.value few c.self.invariant.0),
             saved,
