@@ -3,26 +3,25 @@ ghost use Rattle.std.specs.HashMap.{IsEmpty};
 ghost use Rattle.xc_host.specs.Pairs.{IsMessage};
 ghost use Rattle.xc_host.specs.Pipes.{IsSomeOf};
 
-use crate::errors::or_host_fault;
+use crate::disk::Disk;
+use crate::errors::{or_fault, or_host_fault};
 use crate::pair::HostPair;
 use crate::pipe::HostPipe;
 use crate::table::Table;
 use std::alloc::Global;
-use std::net::Net;
-use std::rt::Files;
 use xc_data::{Num, Object};
 use xc_host::{Fault, HostErr, HostState, Took};
 
 /// The pipes and the pairs. A call on one that isn't there is a fault.
 #[derive(Drop)]
-pub(crate) struct Channels {
+pub(crate) struct Channels<D: Disk> {
     alloc: Global,
-    pipes: Table<HostPipe>,
+    pipes: Table<HostPipe<D::Reader, D::Writer>>,
     pairs: Table<HostPair>,
 }
 
-impl Channels {
-    pub(crate) fn new(alloc: Global) -> Channels
+impl<D: Disk> Channels<D> {
+    pub(crate) fn new(alloc: Global) -> Channels<D>
         ensures pipes { IsEmpty result.pipes.rows }
         ensures pairs { IsEmpty result.pairs.rows }
     {
@@ -41,7 +40,7 @@ impl Channels {
         *self = Channels::new(self.alloc);
     }
 
-    fn pipe(&mut self, num: Num) -> Result<&mut HostPipe, Fault> {
+    fn pipe(&mut self, num: Num) -> Result<&mut HostPipe<D::Reader, D::Writer>, Fault> {
         self.pipes.of(num).ok_or(Fault)
     }
 
@@ -49,10 +48,11 @@ impl Channels {
         self.pairs.of(num).ok_or(Fault)
     }
 
-    pub(crate) fn new_pipe<R: Files>(&mut self, rt: &R, num: Num) -> Result<(), HostErr> {
+    pub(crate) fn new_pipe(&mut self, disk: &D, num: Num) -> Result<(), HostErr> {
         self.pipes.reserve()?;
-        let pipe = or_host_fault(HostPipe::new(rt, self.alloc))?;
-        self.pipes.add(num, pipe);
+        let (reader, writer) = or_host_fault(or_fault(disk.pipe()))?;
+        self.pipes
+            .add(num, HostPipe::new(reader, writer, self.alloc));
         Ok(())
     }
 
@@ -78,9 +78,9 @@ impl Channels {
         self.pipe(pipe)?.put(bytes)
     }
 
-    pub(crate) fn new_pair<R: Net>(&mut self, rt: &R, num: Num) -> Result<(), HostErr> {
+    pub(crate) fn new_pair(&mut self, disk: &D, num: Num) -> Result<(), HostErr> {
         self.pairs.reserve()?;
-        let pair = or_host_fault(HostPair::new(rt, self.alloc))?;
+        let pair = or_host_fault(HostPair::new(disk, self.alloc))?;
         self.pairs.add(num, pair);
         Ok(())
     }

@@ -7,34 +7,33 @@ mod bytes;
 mod names;
 mod opening;
 
-use crate::held::{Held, Inode};
+use crate::disk::{Disk, DiskFile, Inode, Seen};
+use crate::held::Held;
 use std::alloc::Global;
-use std::fs::{File, Metadata};
 use std::io::ErrorKind;
-use std::rt::Files;
-use std::{fs, str};
+use std::str;
 use xc_data::{Name, Num};
 use xc_host::Fault;
 
 /// The file of the last append, opened for appending too.
 #[derive(Drop)]
-struct Tail {
+struct Tail<F: DiskFile> {
     num: Num,
-    file: File,
+    file: F,
 }
 
 /// The regular files of the current folder, held open from their first use.
 #[derive(Drop)]
-pub(crate) struct Folder<R: Files<File = File> + Drop> {
-    rt: R,
+pub(crate) struct Folder<D: Disk + Drop> {
+    disk: D,
     alloc: Global,
-    files: Held,
+    files: Held<D::File>,
     // How many files were found that were there before: the `k` of the next one's number.
     found: u16,
     // The file that the last look-up found, if no call has named its number yet. So nobody but who looked it up can
     // have it open.
     fresh: Option<Num>,
-    tail: Option<Tail>,
+    tail: Option<Tail<D::File>>,
 }
 
 // A name as a path. It has no slash, and is neither `.` nor `..`, so it stays in the folder.
@@ -42,10 +41,10 @@ fn path(name: &Name) -> Result<&str, Fault> {
     str::from_utf8(name.as_slice()).map_err(|_| Fault)
 }
 
-impl<R: Files<File = File> + Drop> Folder<R> {
-    pub(crate) fn new(rt: R, alloc: Global) -> Folder<R> {
+impl<D: Disk + Drop> Folder<D> {
+    pub(crate) fn new(disk: D, alloc: Global) -> Folder<D> {
         Folder {
-            rt,
+            disk,
             alloc,
             files: Held::new(alloc),
             found: 0,
@@ -67,11 +66,11 @@ impl<R: Files<File = File> + Drop> Folder<R> {
         self.tail = None;
     }
 
-    pub(crate) fn runtime(&self) -> &R {
-        &self.rt
+    pub(crate) fn disk(&self) -> &D {
+        &self.disk
     }
 
-    fn file(&mut self, num: Num) -> Result<&File, Fault> {
+    fn file(&mut self, num: Num) -> Result<&D::File, Fault> {
         self.fresh = None;
         let entry = self.files.get(num).ok_or(Fault)?;
         Ok(&entry.opened.file)
@@ -94,8 +93,8 @@ impl<R: Files<File = File> + Drop> Folder<R> {
     }
 
     // What is in the folder under a name, if anything is. A link isn't followed.
-    fn look(&self, name: &Name) -> Result<Option<Metadata>, Fault> {
-        match fs::symlink_metadata(&self.rt, path(name)?) {
+    fn look(&self, name: &Name) -> Result<Option<Seen>, Fault> {
+        match self.disk.look(path(name)?) {
             Ok(there) => Ok(Some(there)),
             Err(error) if error.kind() == ErrorKind::NotFound => Ok(None),
             Err(_) => Err(Fault),
@@ -105,7 +104,7 @@ impl<R: Files<File = File> + Drop> Folder<R> {
     // A fault, unless a name is this file.
     fn check(&self, name: &Name, inode: Inode) -> Result<(), Fault> {
         match self.look(name)? {
-            Some(there) if there.is_file() && Inode::of(&there) == inode => Ok(()),
+            Some(there) if there.is_file && there.inode == inode => Ok(()),
             Some(_) | None => Err(Fault),
         }
     }

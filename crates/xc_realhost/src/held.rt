@@ -3,56 +3,39 @@ ghost use Rattle.std.specs.FinMap as map;
 ghost use Rattle.std.specs.HashMap as table;
 ghost use Rattle.std.specs.HashSet as set;
 
+use crate::disk::{DiskFile, Inode};
 use crate::table::Table;
 use std::alloc::Global;
 use std::collections::HashSet;
-use std::fs::{File, Metadata};
-use std::os::unix::fs::MetadataExt;
 use xc_data::{Name, NoMemory, Num};
 use xc_maps::NameMap;
 
-/// Which file of the system one is: its device, and its number there.
-#[derive(Clone, Copy, PartialEq, Eq, Hash)]
-pub(crate) struct Inode {
-    dev: u64,
-    ino: u64,
-}
-
-impl Inode {
-    pub(crate) fn of(there: &Metadata) -> Inode {
-        Inode {
-            dev: there.dev(),
-            ino: there.ino(),
-        }
-    }
-}
-
 /// An open file, with its lock.
 #[derive(Drop)]
-pub(crate) struct OpenFile {
+pub(crate) struct OpenFile<F: DiskFile> {
     pub(crate) inode: Inode,
-    pub(crate) file: File,
+    pub(crate) file: F,
     // Else it is open for reading alone.
     pub(crate) is_writable: bool,
 }
 
 /// A file that is held open, with its name in the folder, if it has one.
 #[derive(Drop)]
-pub(crate) struct HeldFile {
+pub(crate) struct HeldFile<F: DiskFile> {
     pub(crate) name: Option<Name>,
-    pub(crate) opened: OpenFile,
+    pub(crate) opened: OpenFile<F>,
 }
 
 /// The files that are held open, and the numbers of their names. No two of them are one file of the system.
 #[derive(Drop)]
-pub(crate) struct Held {
-    files: Table<HeldFile>,
+pub(crate) struct Held<F: DiskFile> {
+    files: Table<HeldFile<F>>,
     names: NameMap<Num>,
     inodes: HashSet<Inode>,
 }
 
-impl Held {
-    pub(crate) fn new(alloc: Global) -> Held
+impl<F: DiskFile> Held<F> {
+    pub(crate) fn new(alloc: Global) -> Held<F>
         ensures files { table.IsEmpty result.files.rows }
         ensures names { result.names ≡ map.empty }
         ensures inodes { set.IsEmpty result.inodes }
@@ -70,11 +53,11 @@ impl Held {
         self.names.get(*name).copied()
     }
 
-    pub(crate) fn get(&self, num: Num) -> Option<&HeldFile> {
+    pub(crate) fn get(&self, num: Num) -> Option<&HeldFile<F>> {
         self.files.get(num)
     }
 
-    pub(crate) fn of(&mut self, num: Num) -> Option<&mut HeldFile> {
+    pub(crate) fn of(&mut self, num: Num) -> Option<&mut HeldFile<F>> {
         self.files.of(num)
     }
 
@@ -100,7 +83,7 @@ impl Held {
     }
 
     // Holds the file of a name that was entered, in the room that was made. This takes no memory.
-    pub(crate) fn add(&mut self, name: &Name, num: Num, opened: OpenFile)
+    pub(crate) fn add(&mut self, name: &Name, num: Num, opened: OpenFile<F>)
         requires files { 0 < table.spare self.old.files.rows }
         requires inodes { 0 < set.spare self.old.inodes }
     {

@@ -1,12 +1,12 @@
 ghost use Rattle.std.specs.Prelude.{◌≤◌, length, IfOk};
 ghost use Rattle.xc_host.specs.Pairs.{IsMessage};
 
+use crate::disk::Disk;
 use crate::errors::{or_fault, or_host_fault};
 use arrayvec::ArrayVec;
 use std::alloc::Global;
 use std::io;
 use std::io::{Read, Write};
-use std::net::Net;
 use std::os::unix::net::UnixStream;
 use xc_data::Chunk;
 use xc_host::{Fault, HostErr, HostState, Took};
@@ -101,8 +101,8 @@ impl PairEnd {
     }
 }
 
-fn connected<R: Net>(rt: &R, alloc: Global) -> io::Result<HostPair> {
-    let (zero, one) = UnixStream::pair(rt)?;
+fn connected<D: Disk>(disk: &D, alloc: Global) -> io::Result<HostPair> {
+    let (zero, one) = disk.pair()?;
     Ok(HostPair {
         zero: PairEnd::new(alloc, zero)?,
         one: PairEnd::new(alloc, one)?,
@@ -111,8 +111,8 @@ fn connected<R: Net>(rt: &R, alloc: Global) -> io::Result<HostPair> {
 }
 
 impl HostPair {
-    pub(crate) fn new<R: Net>(rt: &R, alloc: Global) -> Result<HostPair, Fault> {
-        or_fault(connected(rt, alloc))
+    pub(crate) fn new<D: Disk>(disk: &D, alloc: Global) -> Result<HostPair, Fault> {
+        or_fault(connected(disk, alloc))
     }
 
     pub(crate) fn state(&self, side: u8) -> HostState {

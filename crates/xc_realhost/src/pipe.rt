@@ -3,9 +3,7 @@ ghost use Rattle.xc_host.specs.Pipes.{IsSomeOf};
 
 use crate::errors::{or_fault, or_host_fault};
 use std::alloc::Global;
-use std::io;
-use std::io::{PipeReader, PipeWriter, Read, Write};
-use std::rt::Files;
+use std::io::{Read, Write};
 use xc_data::Chunk;
 use xc_host::{Fault, HostErr, HostState, Took};
 
@@ -17,9 +15,9 @@ const MOST: usize = 1024;
 
 /// A pipe of the system. Its own count of bytes keeps each read and each write from waiting.
 #[derive(Drop)]
-pub(crate) struct HostPipe {
-    reader: PipeReader,
-    writer: PipeWriter,
+pub(crate) struct HostPipe<R: Read + Drop, W: Write + Drop> {
+    reader: R,
+    writer: W,
     // Bytes that were read and not yet given, so that a take that runs out of memory loses none.
     back: Vec<u8>,
     // How many bytes there are, those in `back` too.
@@ -27,16 +25,15 @@ pub(crate) struct HostPipe {
     shut: bool,
 }
 
-impl HostPipe {
-    pub(crate) fn new<R: Files>(rt: &R, alloc: Global) -> Result<HostPipe, Fault> {
-        let (reader, writer) = or_fault(io::pipe(rt))?;
-        Ok(HostPipe {
+impl<R: Read + Drop, W: Write + Drop> HostPipe<R, W> {
+    pub(crate) fn new(reader: R, writer: W, alloc: Global) -> HostPipe<R, W> {
+        HostPipe {
             reader,
             writer,
             back: Vec::new(alloc),
             held: 0,
             shut: false,
-        })
+        }
     }
 
     pub(crate) fn state(&self) -> HostState {

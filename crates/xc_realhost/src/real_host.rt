@@ -8,6 +8,7 @@ mod host;
 
 use crate::channels::Channels;
 use crate::counts::Counts;
+use crate::disk::{Disk, OfRuntime};
 use crate::folder::Folder;
 use std::fs::File;
 use std::net::Net;
@@ -18,18 +19,25 @@ use std::rt::Files;
 /// A file that was there before gets the number 0.k at its first lookup, with k from 0 to 65,534. Each
 /// error of the system is a fault, whatever its cause.
 #[derive(Drop)]
-pub struct RealHost<R: Files<File = File> + Net + Drop> {
-    folder: Folder<R>,
-    channels: Channels,
+pub struct RealHost<D: Disk + Drop> {
+    folder: Folder<D>,
+    channels: Channels<D>,
     counts: Counts,
 }
 
-impl<R: Files<File = File> + Net + AllocGlobal + Drop> RealHost<R> {
-    /// It holds nothing open. It takes no memory, and makes no call of the system.
-    pub fn new(rt: R) -> RealHost<R> {
-        let alloc = rt.alloc();
+impl<R: Files<File = File> + Net + AllocGlobal + Drop> RealHost<OfRuntime<R>> {
+    /// The host of a program, over its runtime. It holds nothing open. It takes no memory, and makes no call of the system.
+    pub fn new(rt: R) -> RealHost<OfRuntime<R>> {
+        RealHost::over(OfRuntime::new(rt))
+    }
+}
+
+impl<D: Disk + Drop> RealHost<D> {
+    /// The host over a disk of its own. It holds nothing open. It takes no memory, and makes no call of the system.
+    pub fn over(disk: D) -> RealHost<D> {
+        let alloc = disk.alloc();
         RealHost {
-            folder: Folder::new(rt, alloc),
+            folder: Folder::new(disk, alloc),
             channels: Channels::new(alloc),
             counts: Counts::none(),
         }

@@ -1,12 +1,10 @@
 ghost use Rattle.std.specs.Prelude.{◌≡◌, ◌<◌, ◌≤◌, length, IfOk, Ok};
 
 use super::Folder;
+use crate::disk::{Access, Disk, DiskFile};
 use crate::errors::{or_fault, or_host_fault};
-use std::fs::File;
 use std::io;
-use std::io::Write;
 use std::os::unix::fs::FileExt;
-use std::rt::Files;
 use xc_data::{Chunk, Num};
 use xc_host::{Fault, HostErr};
 
@@ -24,25 +22,25 @@ fn some_of(written: io::Result<usize>) -> Result<u32, Fault>
 }
 
 // Writes a front of the bytes behind the file's last byte.
-fn append_to(mut tail: &File, bytes: &[u8]) -> Result<u32, Fault>
+fn append_to<F: DiskFile>(tail: &F, bytes: &[u8]) -> Result<u32, Fault>
     requires some { 0 < length bytes.now }
     ensures bound { IfOk result (λ n. (0 < n) × (n ≤ length bytes.now)) }
 {
-    some_of(tail.write(bytes))
+    some_of(tail.append(bytes))
 }
 
 // Writes a front of the bytes from a place on.
-fn write_from(file: &File, at: u64, bytes: &[u8]) -> Result<u32, Fault>
+fn write_from<F: DiskFile>(file: &F, at: u64, bytes: &[u8]) -> Result<u32, Fault>
     requires some { 0 < length bytes.now }
     ensures bound { IfOk result (λ n. (0 < n) × (n ≤ length bytes.now)) }
 {
     some_of(file.write_at(bytes, at))
 }
 
-impl<R: Files<File = File> + Drop> Folder<R> {
+impl<D: Disk + Drop> Folder<D> {
     pub(crate) fn len(&mut self, file: Num) -> Result<u32, Fault> {
-        let found = or_fault(self.file(file)?.metadata())?;
-        u32::try_from(found.len()).map_err(|_| Fault)
+        let found = or_fault(self.file(file)?.seen())?;
+        u32::try_from(found.len).map_err(|_| Fault)
     }
 
     pub(crate) fn read_at(&mut self, file: Num, at: u32, n: u32) -> Result<Chunk, HostErr>
@@ -79,7 +77,7 @@ impl<R: Files<File = File> + Drop> Folder<R> {
             return append_to(&tail.file, bytes);
         }
         let file = self.file(num)?;
-        let end = or_fault(file.metadata())?.len();
+        let end = or_fault(file.seen())?.len;
         write_from(file, end, bytes)
     }
 
@@ -104,13 +102,13 @@ impl<R: Files<File = File> + Drop> Folder<R> {
         if len > self.len(file)? {
             return Err(Fault);
         }
-        or_fault(self.file(file)?.set_len(u64::from(len)))
+        or_fault(self.file(file)?.cut(u64::from(len)))
     }
 
     // The file's bytes reach the disk, and then the names of the folder.
     pub(crate) fn sync(&mut self, file: Num) -> Result<(), Fault> {
-        or_fault(self.file(file)?.sync_all())?;
-        let folder = or_fault(File::open(&self.rt, "."))?;
-        or_fault(folder.sync_all())
+        or_fault(self.file(file)?.sync())?;
+        let folder = or_fault(self.disk.open(".", Access::Read))?;
+        or_fault(folder.sync())
     }
 }

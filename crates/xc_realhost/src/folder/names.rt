@@ -1,13 +1,10 @@
 use super::{Folder, path};
+use crate::disk::{Disk, Seen};
 use crate::errors::{or_fault, or_host_fault};
-use crate::held::Inode;
-use std::fs;
-use std::fs::{File, Metadata};
-use std::rt::Files;
 use xc_data::{Name, Num};
 use xc_host::{Fault, HostErr};
 
-impl<R: Files<File = File> + Drop> Folder<R> {
+impl<D: Disk + Drop> Folder<D> {
     pub(crate) fn lookup(&mut self, name: &Name) -> Result<Option<Num>, HostErr> {
         self.fresh = None;
         if let Some(num) = self.files.named(name) {
@@ -21,8 +18,8 @@ impl<R: Files<File = File> + Drop> Folder<R> {
 
     // Holds a file that was there before, and gives it the next number. Another name of a file that is held is a fault: the
     // file would have two numbers.
-    fn find(&mut self, name: &Name, there: &Metadata) -> Result<Num, HostErr> {
-        if self.found == u16::MAX || self.files.has(Inode::of(there)) {
+    fn find(&mut self, name: &Name, there: &Seen) -> Result<Num, HostErr> {
+        if self.found == u16::MAX || self.files.has(there.inode) {
             return Err(HostErr::Fault);
         }
         let num = Num {
@@ -66,9 +63,9 @@ impl<R: Files<File = File> + Drop> Folder<R> {
     pub(crate) fn rename(&mut self, from: &Name, to: &Name) -> Result<(), Fault> {
         self.held(from)?;
         let (old, new) = (path(from)?, path(to)?);
-        or_fault(fs::hard_link(&self.rt, old, new))?;
-        if fs::remove_file(&self.rt, old).is_err() {
-            or_fault(fs::remove_file(&self.rt, new))?;
+        or_fault(self.disk.link(old, new))?;
+        if self.disk.unlink(old).is_err() {
+            or_fault(self.disk.unlink(new))?;
             return Err(Fault);
         }
         self.files.rename(from, to);
@@ -78,7 +75,7 @@ impl<R: Files<File = File> + Drop> Folder<R> {
     // The file stays open for who has it open. If the look-up for this very call found it, nobody has.
     pub(crate) fn unlink(&mut self, name: &Name) -> Result<(), Fault> {
         let num = self.held(name)?;
-        or_fault(fs::remove_file(&self.rt, path(name)?))?;
+        or_fault(self.disk.unlink(path(name)?))?;
         if self.fresh == Some(num) {
             self.close(num);
         } else {
@@ -91,7 +88,7 @@ impl<R: Files<File = File> + Drop> Folder<R> {
         if self.held(name)? != num {
             return Err(Fault);
         }
-        or_fault(fs::remove_file(&self.rt, path(name)?))?;
+        or_fault(self.disk.unlink(path(name)?))?;
         self.close(num);
         Ok(())
     }

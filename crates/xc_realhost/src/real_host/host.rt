@@ -3,14 +3,12 @@ ghost use Rattle.xc_host.specs.Contents.{no_contents};
 ghost use Rattle.xc_host.specs.Counting.{calls_of};
 
 use super::RealHost;
+use crate::disk::Disk;
 use crate::errors::or_host_fault;
-use std::fs::File;
-use std::net::Net;
-use std::rt::Files;
 use xc_data::{Chunk, HostCallKind, Name, Num, Object, Prologue};
 use xc_host::{Fault, Host, HostErr, HostState, OpenErr, Took};
 
-impl<R: Files<File = File> + Net + AllocGlobal + Drop> Host for RealHost<R> {
+impl<D: Disk + Drop> Host for RealHost<D> {
     ghost model = { record {
       tells = false;
       takes_scripts = false;
@@ -82,7 +80,7 @@ impl<R: Files<File = File> + Net + AllocGlobal + Drop> Host for RealHost<R> {
     }
 
     fn new_pipe(&mut self, num: Num) -> Result<(), HostErr> {
-        let answer = self.channels.new_pipe(self.folder.runtime(), num);
+        let answer = self.channels.new_pipe(self.folder.disk(), num);
         self.counts.note_either(HostCallKind::NewPipe, answer)
     }
 
@@ -102,7 +100,7 @@ impl<R: Files<File = File> + Net + AllocGlobal + Drop> Host for RealHost<R> {
     }
 
     fn new_pair(&mut self, num: Num) -> Result<(), HostErr> {
-        let answer = self.channels.new_pair(self.folder.runtime(), num);
+        let answer = self.channels.new_pair(self.folder.disk(), num);
         self.counts.note_either(HostCallKind::NewPair, answer)
     }
 
