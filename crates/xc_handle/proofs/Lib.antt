@@ -1,0 +1,4 @@
+pub mod Crosses
+pub mod Single
+mod Words
+pub mod Laws
