@@ -40,7 +40,7 @@ pub(crate) fn begins_of(alloc: Global, entries: &[Shown]) -> Result<Vec<(u32, u3
     Ok(begins)
 }
 
-/// Where each started job stands behind the last entry.
+/// The place of each started job behind the last entry.
 pub(crate) fn jobs_left(
     alloc: Global,
     script: &Script,

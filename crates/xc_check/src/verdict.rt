@@ -7,7 +7,7 @@ pub enum CheckWhy {
     TooLong,
     /// The script is not one.
     Script,
-    /// A line may not stand where it does.
+    /// A line may not come where it does.
     Form,
     /// An entry is false.
     Entry(Reason),

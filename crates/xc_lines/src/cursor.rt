@@ -3,12 +3,13 @@ ghost use Rattle.xc_lines.specs.Parts.{GivesRead, PassesFront, PassesFrontIf, pa
 ghost use Rattle.xc_lines.specs.Parts.{handle_at, handle_from, num_at};
 ghost use Rattle.xc_tokens.specs.Quoted.{literal_of};
 
-use crate::numbers::{digit_count, name_count, number_in};
+use crate::numbers::{digit_count, name_count};
 use crate::quoted::past_literal;
 use crate::stop::ReadStop;
 use std::alloc::Global;
 use std::marker::Model;
 use xc_data::{Chunk, Ident, Name, Num};
+use xc_tokens::spelled_number;
 
 /// A place in a text. Contracts see what stands behind it.
 #[derive(Drop)]
@@ -45,6 +46,13 @@ impl<'a> Cursor<'a> {
         self.rest.is_empty()
     }
 
+    /// How many bytes stand behind it.
+    pub fn len(&self) -> usize
+        ensures { result ≡ length self.now }
+    {
+        self.rest.len()
+    }
+
     /// Goes behind these bytes, where they stand here.
     pub fn passes(&mut self, front: &[u8]) -> bool
         ensures { PassesFrontIf result self.old self.new (past front.now self.old) }
@@ -73,7 +81,7 @@ impl<'a> Cursor<'a> {
         ensures { GivesRead result self.new (number_at self.old) }
     {
         let (digits, rest) = self.rest.split_at(digit_count(self.rest));
-        match number_in(digits) {
+        match spelled_number(digits) {
             Some(n) => {
                 self.rest = rest;
                 Ok(n)

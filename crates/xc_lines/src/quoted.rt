@@ -1,10 +1,13 @@
 ghost use Rattle.std.specs.Prelude.{◌≡◌, false, ◌≤◌, ◌==◌, ◌∷◌, length, option_map, IfSome, IfOk};
-ghost use Rattle.xc_tokens.specs.Quoted.{is_hex, is_escape, escape_meaning, digit_value, hex_byte, literal_of, escape_of, hex_of};
+ghost use Rattle.xc_tokens.specs.Quoted.{is_hex, is_escape, is_itself, escape_meaning, digit_value, hex_byte, literal_of, escape_of};
+ghost use Rattle.xc_tokens.specs.Quoted.{hex_of};
 ghost use Rattle.xc_tokens.specs.Views.{behind_piece};
 ghost use Rattle.xc_lines.specs.Parts.{GivesMeant};
 
 use crate::stop::ReadStop;
 use std::alloc::Global;
+use std::simd::prelude::*;
+use xc_lanes::{ByteKind, first_set, front_len};
 
 fn is_hex_byte(b: u8) -> bool
     ensures { result ≡ is_hex b }
@@ -86,8 +89,8 @@ fn piece(first: u8, behind: &[u8]) -> Option<(u8, &[u8])>
 }
 
 // What the literal means whose opening quote stands before the bytes, and what stands behind its
-// closing quote.
-pub fn past_literal<'a>(alloc: Global, bytes: &'a [u8]) -> Result<(Vec<u8>, &'a [u8]), ReadStop>
+// closing quote. It goes byte by byte.
+fn past_escapes<'a>(alloc: Global, bytes: &'a [u8]) -> Result<(Vec<u8>, &'a [u8]), ReadStop>
     ensures means { GivesMeant (λ p. (p.0.items, p.1.now)) result (literal_of bytes.now) }
     ensures fewer { IfOk result (λ p. length p.1.now ≤ length bytes.now) }
 {
@@ -106,4 +109,35 @@ pub fn past_literal<'a>(alloc: Global, bytes: &'a [u8]) -> Result<(Vec<u8>, &'a 
         }
     }
     Err(ReadStop::Unread)
+}
+
+// The bytes of a literal that mean themselves.
+struct OwnBytes;
+
+impl ByteKind for OwnBytes {
+    ghost has = { is_itself };
+
+    fn is(byte: u8) -> bool {
+        byte != b'"' && byte != b'\\'
+    }
+
+    fn first_run(bytes: &[u8]) -> usize {
+        let first = u8x16::from_slice(bytes);
+        let stops = first.simd_eq(u8x16::splat(b'"')) | first.simd_eq(u8x16::splat(b'\\'));
+        first_set(stops.to_bitmask())
+    }
+}
+
+// What the literal means whose opening quote stands before the bytes, and what stands behind its
+// closing quote. Most literals have no escape.
+pub fn past_literal<'a>(alloc: Global, bytes: &'a [u8]) -> Result<(Vec<u8>, &'a [u8]), ReadStop>
+    ensures means { GivesMeant (λ p. (p.0.items, p.1.now)) result (literal_of bytes.now) }
+    ensures fewer { IfOk result (λ p. length p.1.now ≤ length bytes.now) }
+{
+    let n = front_len::<OwnBytes>(bytes);
+    if n == bytes.len() || bytes[n] != b'"' {
+        return past_escapes(alloc, bytes);
+    }
+    let meant = Vec::from_slice(alloc, &bytes[..n])?;
+    Ok((meant, &bytes[n + 1..]))
 }

@@ -11,7 +11,7 @@ pub enum UndoKind {
     Pair,
 }
 
-/// An effect that stands, as its line shows it.
+/// An effect that remains, as its line shows it.
 #[derive(Debug, Drop)]
 pub enum EffectShown {
     Bytes { file: Num, at: u64, bytes: Chunk },

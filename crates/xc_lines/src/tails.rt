@@ -147,7 +147,7 @@ fn pair_stands(text: &mut Cursor) -> Result<EffectShown, ReadStop>
     Ok(EffectShown::Pair(num))
 }
 
-/// An effect that stands.
+/// An effect that remains.
 #[tactic(auto, unfolding(crate::specs::Tails::standing_at))]
 pub fn read_standing(alloc: Global, text: &mut Cursor) -> Result<EffectShown, ReadStop>
     ensures { GivesRead result text.new (standing_at text.old) }

@@ -1,3 +1,4 @@
+pub mod Grown
 pub mod MachineMaps
 pub mod MachineCounts
 pub mod MachineRun

@@ -28,7 +28,7 @@ pub(crate) struct MachineBody {
     saved: Option<SavedBody>,
 }
 
-// Keeps the first so many items.
+// Keeps the first `n` items.
 fn cut<T: Drop>(alloc: Global, list: &mut Items<T>, n: usize)
     ensures { list.new ≡ take n list.old }
 {

@@ -3,6 +3,7 @@ ghost use Rattle.xc_world.specs.World.{file_of, pipe_of, pair_of, waiting};
 
 mod act;
 mod effect;
+mod file_body;
 mod files;
 mod fits;
 mod late;
@@ -14,6 +15,7 @@ mod record;
 mod shared;
 mod taking;
 
+use file_body::FileBody;
 use opening::{names_of, words_of};
 use std::alloc::{AllocError, Global};
 use std::marker::Model;
@@ -84,7 +86,7 @@ pub struct World {
     alloc: Global,
     words: WordList,
     names: NameMap<Num>,
-    files: NumMap<Chunk>,
+    files: NumMap<FileBody>,
     pipes: NumMap<MachinePipe>,
     pairs: NumMap<MachinePair>,
     started: IdentList,
@@ -144,12 +146,23 @@ impl World {
         self.words.as_slice()
     }
 
-    fn file(&self, num: Num) -> &[u8]
-        ensures { result.now ≡ file_of self.now num }
+    // The bytes of a file.
+    fn file(&self, num: Num) -> Result<Chunk, NoMemory>
+        ensures { IfOk result (λ bytes. bytes ≡ file_of self.now num) }
     {
         match self.files.get(num) {
-            Some(file) => file.as_slice(),
-            None => &[],
+            Some(file) => file.whole(self.alloc),
+            None => Chunk::new(self.alloc, &[]),
+        }
+    }
+
+    // How many bytes a file has.
+    fn file_len(&self, num: Num) -> usize
+        ensures { result ≡ length (file_of self.now num) }
+    {
+        match self.files.get(num) {
+            Some(file) => file.len(),
+            None => 0,
         }
     }
 

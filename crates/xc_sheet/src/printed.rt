@@ -18,6 +18,9 @@ use xc_print::{
     push_made, push_message, push_moved, push_overwrite, push_tail, push_totals, push_undo_end,
 };
 
+// As many bytes as a page wants room for before it prints a short number.
+const FEW: usize = 4;
+
 fn push_word_of(out: &mut Page, cause: &Option<Cause>) -> Result<(), NoMemory>
     ensures { OnOk result (out.new ≡ out.old ++ word_of cause.now) }
 {
@@ -200,11 +203,11 @@ pub fn push_line(out: &mut Page, line: &Line) -> Result<(), NoMemory>
     }
 }
 
-// The line as it is printed.
-fn line_again(alloc: Global, line: &Line) -> Result<Text, NoMemory>
+// The line as it is printed. There is room for so many bytes at first.
+fn line_again(alloc: Global, line: &Line, room: usize) -> Result<Text, NoMemory>
     ensures { IfOk result (λ text. text ≡ line_text line.now) }
 {
-    let mut page = Page::new(alloc);
+    let mut page = Page::with_room(alloc, room);
     push_line(&mut page, line)?;
     Ok(page.into_text())
 }
@@ -220,6 +223,11 @@ fn pass_some(text: &mut Cursor, front: &[u8]) -> Result<(), ReadStop>
     text.pass(front)
 }
 
+// Room for the bytes between two places of a text, and a few more: a number's digits are counted when they are there.
+fn room_between(from: &Cursor, to: &Cursor) -> usize {
+    from.len().saturating_sub(to.len()).saturating_add(FEW)
+}
+
 // A line that is printed as it stands here.
 #[tactic(auto, unfolding(crate::specs::Printed::printed))]
 fn compared<'a>(alloc: Global, text: &mut Cursor<'a>) -> Result<Line, ReadStop>
@@ -227,7 +235,7 @@ fn compared<'a>(alloc: Global, text: &mut Cursor<'a>) -> Result<Line, ReadStop>
 {
     let mut from = text.again();
     let line = any_line(alloc, text)?;
-    let again = line_again(alloc, &line)?;
+    let again = line_again(alloc, &line, room_between(&from, text))?;
     pass_some(&mut from, again.as_slice())?;
     *text = from;
     Ok(line)

@@ -30,6 +30,17 @@ impl<T> FrontList<T> {
     }
 }
 
+impl<T> FrontList<T> {
+    /// All items, in the room that they have.
+    pub fn into_items(self) -> Items<T>
+        ensures { result ≡ self }
+    {
+        let mut items = self.items;
+        items.reverse();
+        Items::from_vec(items)
+    }
+}
+
 impl<T: Drop> FrontList<T> {
     /// One item more, before the others.
     pub fn put(&mut self, item: T) -> Result<(), NoMemory>

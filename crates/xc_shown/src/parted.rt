@@ -10,7 +10,7 @@ ghost use Rattle.xc_sheet.specs.declared.places.LinePlace.TheVariants as place;
 ghost use Rattle.xc_shown.specs.Shown.{bare, shown_of, shown_lines, tail_lines, is_of_entry, IsReplied, IsPlain};
 ghost use Rattle.xc_shown.specs.declared.shown.Shown.{Shown};
 
-use crate::gathered::gather;
+use crate::gathered::{Gathered, gather};
 use crate::shown::Shown;
 use std::alloc::Global;
 use xc_data::{Items, NoMemory};
@@ -36,8 +36,9 @@ pub fn part(alloc: Global, lines: Items<Line>) -> Result<Parted, NoMemory>
         → lines ≡ end_lines journal jobs words kept → All IsReplied journal
         → IfOk result (λ p. (map shown_of journal ≡ p.entries) × (p.tail ≡ tail_lines journal jobs words kept)) }
 {
-    let mut all = gather(alloc, lines)?;
-    let entries = all.entries.take(alloc)?;
-    let tail = all.tail.take(alloc)?;
+    let all = gather(alloc, lines)?;
+    let Gathered { entries, tail, .. } = all;
+    let entries = entries.into_items();
+    let tail = tail.into_items();
     Ok(Parted { entries, tail })
 }

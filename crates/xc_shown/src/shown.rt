@@ -8,6 +8,6 @@ pub struct Shown {
     pub entry: Entry,
     /// The records of the report, from the oldest on.
     pub records: Items<(UndoKind, UndoEnd)>,
-    /// The effects that stand, from the oldest record on.
+    /// The effects that remain, from the oldest record on.
     pub effects: Items<EffectShown>,
 }

@@ -81,7 +81,7 @@ pub fn check_run<R: AllocGlobal, S: Source, K: Sink>(
     // Nothing is read if the words are refused.
     ensures unread { check_settings_of (map string_bytes words.now) ≡ None → source.new ≡ source.old }
 
-    // No more than so many bytes are read.
+    // At most `most_input` bytes are read.
     ensures few { ConsumesUpTo most_input (S.told source.old) (S.told source.new) }
 {
     let found = answer(rt.alloc(), words, source);
@@ -112,7 +112,7 @@ pub fn run_program<R: AllocGlobal, S: Source, K: Sink>(
     // Nothing is read if the words are refused.
     ensures unread { IfOk words (λ words. check_settings_of (map string_bytes words.items) ≡ None → source.new ≡ source.old) }
 
-    // No more than so many bytes are read.
+    // At most `most_input` bytes are read.
     ensures few { ConsumesUpTo most_input (S.told source.old) (S.told source.new) }
 
     // Without its words nothing is read.

@@ -1,12 +1,12 @@
 ghost use Rattle.std.specs.FinMap as map;
-ghost use Rattle.std.specs.Prelude.{◌≡◌, ◌+◌, ◌++◌, ◌<◌, ◌^◌, take, drop, OnOk};
+ghost use Rattle.std.specs.Prelude.{◌≡◌, ◌+◌, ◌<◌, ◌^◌, take, drop, OnOk};
 ghost use Rattle.xc_world.specs.Act.Files.{overwritten};
 ghost use Rattle.xc_world.specs.Act.Names.{with_new_file};
 ghost use Rattle.xc_world.specs.Trail.{with_effect, move_name};
 ghost use Rattle.xc_world.specs.World.{file_of, with_file, with_pipe, empty_pipe};
 
+use super::file_body::FileBody;
 use super::parts::{behind, front};
-use super::shared::joined;
 use super::{MachinePair, MachinePipe, World};
 use xc_data::{Chunk, Name, NoMemory, Num, Undo};
 
@@ -18,32 +18,26 @@ fn covered(after: &Chunk, from: u32, n: u32) -> &[u8]
 }
 
 impl World {
-    // These bytes of a file stand in the place of what is there from `at` on, wherever that is.
+    // These bytes replace those of a file from `at` on.
     fn put_from(&mut self, num: Num, at: usize, bytes: &[u8]) -> Result<(), NoMemory>
         requires { at < 2 ^ 34 }
         ensures { OnOk result (self.new ≡ with_file self.old num (overwritten at bytes.now (file_of self.old num))) }
     {
-        let file = self.file(num);
+        let whole = self.file(num)?;
+        let file = whole.as_slice();
         let mut next = Vec::new(self.alloc);
         next.extend_from_slice(front(file, at))?;
         next.extend_from_slice(bytes)?;
         next.extend_from_slice(behind(file, at + bytes.len()))?;
-        self.files.insert(num, Chunk::from_vec(next)?)
-    }
-
-    // These bytes come behind those of a file.
-    fn put_behind(&mut self, num: Num, bytes: &[u8]) -> Result<(), NoMemory>
-        ensures { OnOk result (self.new ≡ with_file self.old num (file_of self.old num ++ bytes.now)) }
-    {
-        let next = joined(self.alloc, self.file(num), bytes)?;
-        self.files.insert(num, next)
+        let body = FileBody::of(self.alloc, Chunk::from_vec(next)?);
+        self.files.insert(num, body)
     }
 
     // An empty file of this number under this name.
     fn add_named(&mut self, name: Name, num: Num) -> Result<(), NoMemory>
         ensures { OnOk result (self.new ≡ with_new_file self.old name num) }
     {
-        self.files.insert(num, Chunk::new(self.alloc, &[])?)?;
+        self.files.insert(num, FileBody::empty(self.alloc))?;
         self.names.insert(name, num)
     }
 

@@ -1,4 +1,5 @@
-ghost use Rattle.std.specs.Prelude.{◌≡◌, ◌≤◌, ◌<◌, ◌+◌, ◌++◌, ℕ, length, IfOk, OnOk, OnErr};
+ghost use Rattle.std.specs.FinMap as map;
+ghost use Rattle.std.specs.Prelude.{◌≡◌, ◌≤◌, ◌<◌, ◌+◌, ◌++◌, ℕ, true, false, is_some, length, IfOk, OnOk, OnErr};
 ghost use Rattle.xc_data.specs.declared.object.Num.{Num};
 ghost use Rattle.xc_data.specs.declared.private.Place.TheVariants.{File};
 ghost use Rattle.xc_data.specs.Private.{place_of, with_place};
@@ -7,7 +8,8 @@ ghost use Rattle.xc_world.specs.Act.Step.{step_to};
 ghost use Rattle.xc_world.specs.Act.Files.{read_at, overwrite_at, append_at, len_at, overwrite_short, append_short, overwritten};
 
 use super::World;
-use super::shared::{joined, replaced};
+use super::file_body::FileBody;
+use super::shared::replaced;
 use xc_data::{Chunk, MOST_FILE_BYTES, NoMemory, Num, Place, Private, Reply};
 
 impl World {
@@ -53,8 +55,9 @@ impl World {
         ensures world { OnErr result (self.new ≡ self.old) }
         ensures me { OnErr result (me.new ≡ me.old) }
     {
-        let next = replaced(self.alloc, self.file(num), at as usize, bytes)?;
-        self.files.insert(num, next)?;
+        let file = self.file(num)?;
+        let next = replaced(self.alloc, file.as_slice(), at as usize, bytes)?;
+        self.files.insert(num, FileBody::of(self.alloc, next))?;
         let at = at + bytes.len() as u32;
         me.set_place(h, Place::File { num, at });
         Ok(())
@@ -78,7 +81,7 @@ impl World {
         if bytes.is_empty() {
             return Ok(Reply::Done);
         }
-        if self.file(num).len() < at as usize + bytes.len() {
+        if self.file_len(num) < at as usize + bytes.len() {
             return Ok(Reply::PastEnd);
         }
         self.put(me, h, num, at, bytes.as_slice())?;
@@ -111,6 +114,42 @@ impl World {
         Ok(Reply::Fault(n))
     }
 
+    // A file of a new number with these bytes.
+    fn add_bytes(&mut self, num: Num, bytes: &[u8]) -> Result<(), NoMemory>
+        requires { is_some (map.get self.old.files num) ≡ false }
+        ensures ok { OnOk result (self.new ≡ with_file self.old num (file_of self.old num ++ bytes.now)) }
+        ensures err { OnErr result (self.new ≡ self.old) }
+    {
+        let mut file = FileBody::empty(self.alloc);
+        file.append(bytes)?;
+        self.files.insert(num, file)
+    }
+
+    // These bytes come behind those of a file that is there. It is taken out, and put back in any case.
+    fn grow(&mut self, num: Num, bytes: &[u8]) -> Result<(), NoMemory>
+        requires { is_some (map.get self.old.files num) ≡ true }
+        ensures ok { OnOk result (self.new ≡ with_file self.old num (file_of self.old num ++ bytes.now)) }
+        ensures err { OnErr result (self.new ≡ self.old) }
+    {
+        let Some(mut file) = self.files.replace(num, FileBody::empty(self.alloc)) else {
+            return Err(NoMemory);
+        };
+        let done = file.append(bytes);
+        self.files.replace(num, file);
+        done
+    }
+
+    /// These bytes come behind those of a file.
+    pub(super) fn put_behind(&mut self, num: Num, bytes: &[u8]) -> Result<(), NoMemory>
+        ensures ok { OnOk result (self.new ≡ with_file self.old num (file_of self.old num ++ bytes.now)) }
+        ensures err { OnErr result (self.new ≡ self.old) }
+    {
+        if self.files.get(num).is_some() {
+            return self.grow(num, bytes);
+        }
+        self.add_bytes(num, bytes)
+    }
+
     // These bytes are appended, and the position is the new end.
     fn extend(&mut self, me: &mut Private, h: u16, num: Num, bytes: &[u8]) -> Result<(), NoMemory>
         requires open { h < 256 }
@@ -120,10 +159,8 @@ impl World {
         ensures world { OnErr result (self.new ≡ self.old) }
         ensures me { OnErr result (me.new ≡ me.old) }
     {
-        let file = self.file(num);
-        let at = (file.len() + bytes.len()) as u32;
-        let next = joined(self.alloc, file, bytes)?;
-        self.files.insert(num, next)?;
+        let at = (self.file_len(num) + bytes.len()) as u32;
+        self.put_behind(num, bytes)?;
         me.set_place(h, Place::File { num, at });
         Ok(())
     }
@@ -146,7 +183,7 @@ impl World {
         if bytes.is_empty() {
             return Ok(Reply::Done);
         }
-        if (self.file(num).len() + bytes.len()) as u64 > MOST_FILE_BYTES {
+        if (self.file_len(num) + bytes.len()) as u64 > MOST_FILE_BYTES {
             return Ok(Reply::TooBig);
         }
         self.extend(me, h, num, bytes.as_slice())?;
@@ -182,7 +219,7 @@ impl World {
         ensures { len_at self.now me.now (place_of me.now.places h) ≡ step_to self.now me.now result }
     {
         match me.place(h) {
-            Place::File { num, .. } => Reply::Number(self.file(num).len() as u64),
+            Place::File { num, .. } => Reply::Number(self.file_len(num) as u64),
             _ => Reply::BadHandle,
         }
     }

@@ -1,26 +1,11 @@
 ghost use Rattle.std.specs.Prelude.{◌≡◌, ℕ};
 ghost use Rattle.xc_data.specs.Private.{place_of};
-ghost use Rattle.xc_world.specs.Fits.{asks_host, is_back, is_done, is_thread, may_stop, late_may_stop, fits, late_fits};
+ghost use Rattle.xc_world.specs.Fits.{is_back, is_done, is_thread, may_stop, late_may_stop, fits, late_fits};
 ghost use Rattle.xc_world.specs.Act.Files.{overwrite_at, append_at};
 
 use super::World;
 use xc_data::{Answer, Call, Chunk, LateAnswer, LateCall, Place, Private};
 use xc_world::checks::is_refused;
-
-fn asks_host(call: &Call) -> bool
-    ensures { result ≡ asks_host call.now }
-{
-    match call {
-        Call::XRead { n, .. } | Call::XReadPipe { n, .. } => *n >= 1,
-        Call::XWriteOvr { bytes, .. } | Call::XWriteSeq { bytes, .. } => bytes.len() >= 1,
-        Call::XOpen { .. } | Call::XCreate { .. } | Call::XLen { .. } => true,
-        Call::XRename { .. } | Call::XPipe | Call::XPair | Call::XRecvmsg { .. } => true,
-        Call::Load { .. } | Call::Store { .. } | Call::XSeek { .. } | Call::XClose { .. } => false,
-        Call::XUnlink { .. } | Call::XSync { .. } | Call::XWritePipe { .. } => false,
-        Call::XShutdown { .. } | Call::XSendmsg { .. } | Call::XThreadCreate { .. } => false,
-        Call::Save | Call::Keep | Call::Back => false,
-    }
-}
 
 fn is_back(call: &Call) -> bool
     ensures { result ≡ is_back call.now }
@@ -42,7 +27,7 @@ impl World {
         let Place::File { num, at } = me.place(h) else {
             return false;
         };
-        bytes.len() <= self.file(num).len().saturating_sub(at as usize)
+        bytes.len() <= self.file_len(num).saturating_sub(at as usize)
     }
 
     // Bytes appended leave the file within its limit, as none always do.
@@ -52,7 +37,7 @@ impl World {
         let Place::File { num, .. } = me.place(h) else {
             return false;
         };
-        bytes.len() <= 65536_usize.saturating_sub(self.file(num).len())
+        bytes.len() <= 65536_usize.saturating_sub(self.file_len(num))
     }
 
     // A write that would be done stops before its last byte.
@@ -84,7 +69,7 @@ impl World {
             return false;
         }
         if n == 0 {
-            asks_host(call)
+            call.asks_host()
         } else {
             self.may_stop(me, call, n)
         }

@@ -4,7 +4,8 @@ ghost use Rattle.xc_world.specs.Act.Step.{step_to};
 ghost use Rattle.xc_world.specs.Act.Names.{open_by_name, creates, renames, with_moved, next_num, with_new_file};
 
 use super::World;
-use xc_data::{Chunk, Name, NoMemory, Num, Place, Private, Reply};
+use super::file_body::FileBody;
+use xc_data::{Name, NoMemory, Num, Place, Private, Reply};
 
 impl World {
     pub(super) fn open(&self, me: &mut Private, name: Name) -> Reply
@@ -26,8 +27,7 @@ impl World {
         ensures ok { OnOk result (self.new ≡ with_new_file self.old name num) }
         ensures err { OnErr result (self.new ≡ self.old) }
     {
-        let empty = Chunk::new(self.alloc, &[])?;
-        self.files.insert(num, empty)?;
+        self.files.insert(num, FileBody::empty(self.alloc))?;
         if self.names.insert(name, num).is_err() {
             self.files.remove(num);
             return Err(NoMemory);

@@ -4,6 +4,7 @@ ghost use Rattle.xc_world.specs.Sound.{IsSound};
 ghost use Rattle.xc_data.specs.Limits.{KeepsLimits};
 ghost use Rattle.xc_world.specs.Opening.{opening, bare_world, with_opened, opening_handles};
 
+use super::file_body::FileBody;
 use super::{MachinePair, MachinePipe, World};
 use std::alloc::Global;
 use xc_data::{Ident, IdentList, Items, NoMemory, Num, Opened, Outline, WordList};
@@ -55,7 +56,8 @@ impl World {
         match opened {
             Opened::File { name, bytes } => {
                 self.names.insert(*name, num)?;
-                self.files.insert(num, bytes.share()?)
+                self.files
+                    .insert(num, FileBody::of(self.alloc, bytes.share()?))
             }
             Opened::Pipe { bytes } => {
                 let held = bytes.share()?;

@@ -10,7 +10,7 @@ pub(super) fn behind(bytes: &[u8], at: usize) -> &[u8]
     &bytes[at..]
 }
 
-/// The first so many bytes, or all where those are fewer.
+/// The first `n` bytes, or all where there are fewer.
 pub(super) fn front(bytes: &[u8], n: usize) -> &[u8]
     ensures { result.now ≡ take n bytes.now }
 {

@@ -30,7 +30,7 @@ fn next_num(me: &Private, tx: u32) -> Num
 }
 
 impl World {
-    // An overwrite that did so many bytes.
+    // An overwrite that did `n` bytes.
     fn overwrite_record(
         &self,
         bytes: &Chunk,
@@ -46,7 +46,8 @@ impl World {
         if n == 0 {
             return Ok(None);
         }
-        let under = front(behind(self.file(num), at as usize), bytes.len());
+        let file = self.file(num)?;
+        let under = front(behind(file.as_slice(), at as usize), bytes.len());
         let before = Chunk::new(self.alloc, under)?;
         let after = bytes.share()?;
         Ok(Some(Undo::Bytes {
@@ -58,7 +59,7 @@ impl World {
         }))
     }
 
-    // An append that did so many bytes.
+    // An append that did `n` bytes.
     fn append_record(&self, bytes: &Chunk, n: u32, place: Place) -> Result<Option<Undo>, NoMemory>
         requires fit { (num : PlainNum) → length (file_of self.now num) ≤ 65536 }
         ensures { IfOk result (λ found. MatchOption found (append_record self.now bytes.now n place ≡ [])
@@ -70,7 +71,7 @@ impl World {
         if n == 0 {
             return Ok(None);
         }
-        let from = self.file(num).len() as u32;
+        let from = self.file_len(num) as u32;
         let after = bytes.share()?;
         Ok(Some(Undo::Tail {
             file: num,

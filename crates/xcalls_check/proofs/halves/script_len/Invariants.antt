@@ -7,7 +7,7 @@ abbrev pub invariant-loop-n : goal.invariant-loop-n
 invariant-loop-n l =
     record {
       within : l.n ≤ length l.input;
-      same : l.n + script_len_from l.starts (drop l.n l.input) ≡ script_len_from true l.input;
+      same : l.n + script_len_from true (drop l.n l.input) ≡ script_len_from true l.input;
     }
 
 abbrev pub decreases-loop-n : goal.decreases-loop-n

@@ -1,7 +1,7 @@
 use Rattle.std.proofs.Common.{◌≡◌, ◌≤◌, length}
 use Rattle.xc_tokens.specs.Quoted.{literal_of}
 use Rattle.xc_tokens.proofs.Laws.{behind_bytes}
-use Rattle.xc_lines.proofs.quoted.past_literal.Given as goal
+use Rattle.xc_lines.proofs.quoted.past_escapes.Given as goal
 
 -- what the literal means so far, and the rest
 abbrev pub invariant-loop-rest : goal.invariant-loop-rest
