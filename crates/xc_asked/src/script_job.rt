@@ -76,7 +76,7 @@ fn is_end(cause: &Cause) -> bool
     }
 }
 
-// Goes to the next begin, after an entry that was followed.
+// Goes to the start of the next transaction, after an entry that was followed.
 fn end(place: &mut JobState, entry: &Entry)
     requires { place.old.next < 2 ^ 32 }
     ensures { (script : PlainScript) (job : Job) → IsBehindReplies script job entry.now.replies place.old

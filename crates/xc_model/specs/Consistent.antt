@@ -30,7 +30,7 @@ pub record IsConsistent (s : Setting) (faults : ℕ) (now : Moment) : Type 0 whe
   pub apart : AreApart now.jobs
   pub counted : AreCounted faults now
   pub started : AreStarted s.script now
-  pub handled : HandlesAgree s.script now.journal now.jobs now.calls
+  pub handled : HandlesAgree s told.lasts now.journal now.jobs now.calls
 
 -- ---- jobs that have ended
 

@@ -1,19 +1,16 @@
 -- A journal that is true of a script, both parts of an entry at once: so a station at work keeps it, for which a job stands in one
--- place. A law says that it is the truth of Truth.antt, and that this is it.
+-- place. What was asked last of each entry stands beside it. A law says that it is the truth of Truth.antt, and that this is it.
 use Rattle.std.specs.Prelude.{◌≡◌, ℕ, ◌≤◌, false, List, [], ◌∷◌, length, map, unwrap_or, IsSome, IsTrue, IsPermutation}
-use Rattle.std.specs.Prelude.{Option}
-use Rattle.std.specs.declared.option.Option.TheVariants.{None, Some}
-use Rattle.xc_data.specs.declared.call.Reply.{Reply}
+use Rattle.std.specs.declared.option.Option.TheVariants.{Some}
 use Rattle.xc_data.specs.declared.entry.Entry.{Entry}
 use Rattle.xc_data.specs.declared.entry.Outcome.{Outcome}
 use Rattle.xc_data.specs.declared.entry.Outcome.TheVariants.{Committed, Aborted}
-use Rattle.xc_text.specs.declared.script.Script.{Script}
 use Rattle.xc_script.specs.declared.ask.Ask.{Ask}
 use Rattle.xc_script.specs.declared.ask.Ask.TheVariants as ask
 use Rattle.xc_script.specs.Ask.{next_body}
 use Rattle.xc_script.specs.Blocks.{block_from, kept_calls}
 use Rattle.xc_world.specs.Run.{body_fits, asked_of}
-use Rattle.xc_model.specs.Asked.{AsksEach, StartsJobs, lasts_of, next_of}
+use Rattle.xc_model.specs.Asked.{AsksEach, StartsJobs, next_of}
 use Rattle.xc_model.specs.EntryEnds.{AreRecords, HasAbortCause, IsCommit, IsHeld, IsReport, failures_with}
 use Rattle.xc_model.specs.Grounds.{Part, AreGrounded, scene_of}
 use Rattle.xc_model.specs.Handles.{IsHandledJournal}
@@ -34,8 +31,8 @@ IsAskedFor tries e next (Aborted report) =
     let k = all_records no_records e.calls e.replies in
     HasAbortCause k next report × IsReport tries k report
 
--- one entry's part in the story of its job f, after the entries before it
-pub record IsStory (s : Setting) (p : Progress) (f : Following) (e : Entry) : Type 0 where
+-- one entry's part in the story of its job f, after the entries before it; `last` was asked after its replies
+pub record IsStory (s : Setting) (p : Progress) (f : Following) (last : Ask) (e : Entry) : Type 0 where
   -- the job goes on, and a transaction of it is left
   pub goes_on : f.starved ≡ false
   pub left : IsSome (next_body s.script f.job)
@@ -47,7 +44,8 @@ pub record IsStory (s : Setting) (p : Progress) (f : Following) (e : Entry) : Ty
   pub failures : failures_with f.failed e.outcome ≤ s.rules.attempts
   -- its calls are the script's
   pub calls : AsksEach (block_from s.script f.job) e.calls e.replies
-  pub asked : IsAskedFor s.rules.undo_tries e (next_of s.script f e.replies) e.outcome
+  pub after : last ≡ next_of s.script f e.replies
+  pub asked : IsAskedFor s.rules.undo_tries e last e.outcome
   -- a way back tells of no more faults than its block's records can have met
   pub faults : AreFewFaults s.rules.undo_tries no_records e.calls e.replies
 
@@ -68,51 +66,49 @@ pub record IsPlayed (p : Progress) (next : Ask) (e : Entry) : Type 0 where
 
 -- ---- a whole journal
 -- one entry over a host that tells its contents or doesn't; f is its job
-pub record IsEntry (s : Setting) (p : Progress) (f : Following) (e : Entry) : Type 0 where
-  pub story : IsStory s p f e
+pub record IsEntry (s : Setting) (p : Progress) (f : Following) (last : Ask) (e : Entry) : Type 0 where
+  pub story : IsStory s p f last e
   -- its calls on words reply what the stores before them left, over every host
   pub words : AreWordReplies p.words e.calls e.replies
   -- so do those that are kept for the commit, and no other one replies late
   pub in_time : AreInTime e.calls e.replies
   -- and so do those that start jobs, at the end
   pub starts : StartsJobs s.script (map (λ (g : Following). g.block) p.jobs) e e.outcome
-  pub played : IsTrue s.tells → IsPlayed p (next_of s.script f e.replies) e
+  pub played : IsTrue s.tells → IsPlayed p last e
 
 -- its job is started
-pub record IsTrueEntry (s : Setting) (p : Progress) (e : Entry) : Type 0 where
+pub record IsTrueEntry (s : Setting) (p : Progress) (last : Ask) (e : Entry) : Type 0 where
   pub following : Following
   pub numbered : 1 ≤ e.job
   pub started : following_of p e ≡ Some following
-  pub entry : IsEntry s p following e
+  pub entry : IsEntry s p following last e
 
--- each entry of a journal, after those before it
-abbrev pub AreTrue : Setting → Progress → List Entry → Type 0
-AreTrue s p [] = Unit {0}
-AreTrue s p (e ∷ journal) = IsTrueEntry s p e × AreTrue s (after_entry s.script p e) journal
+-- each entry of a journal, after those before it; `lasts` has what was asked last, entry by entry
+abbrev pub AreTrue : Setting → Progress → List Ask → List Entry → Type 0
+AreTrue s p lasts [] = lasts ≡ []
+AreTrue s p [] (e ∷ journal) = ⊥
+AreTrue s p (last ∷ lasts) (e ∷ journal) = IsTrueEntry s p last e × AreTrue s (after_entry s.script p e) lasts journal
 
 -- ---- conflicts and revocations
--- what the job is asked after the entry's replies, where it is started
-abbrev pub asked_behind : Script → Option Following → List Reply → Ask
-asked_behind script None replies = ask.End
-asked_behind script (Some f) replies = next_of script f replies
-
 -- what it is judged by, of an entry after those before it
-abbrev pub part_of : Setting → Progress → Entry → Part
-part_of s p e = machine_part p.state (asked_behind s.script (following_of p e) e.replies) e
+abbrev pub part_of : Progress → Ask → Entry → Part
+part_of p last e = machine_part p.state last e
 
 -- the same of each entry
-abbrev pub parts_from : Setting → Progress → List Entry → List Part
-parts_from s p [] = []
-parts_from s p (e ∷ journal) = part_of s p e ∷ parts_from s (after_entry s.script p e) journal
+abbrev pub parts_from : Setting → Progress → List Ask → List Entry → List Part
+parts_from s p lasts [] = []
+parts_from s p [] (e ∷ journal) = []
+parts_from s p (last ∷ lasts) (e ∷ journal) = part_of p last e ∷ parts_from s (after_entry s.script p e) lasts journal
 
 -- the same of a whole journal
-abbrev pub entry_parts : Setting → List Entry → List Part
-entry_parts s journal = parts_from s (opening_progress s.script) journal
+abbrev pub entry_parts : Setting → List Ask → List Entry → List Part
+entry_parts s lasts journal = parts_from s (opening_progress s.script) lasts journal
 
 -- the whole journal
 pub record IsJointJournal (s : Setting) (journal : List Entry) : Type 0 where
-  pub entries : AreTrue s (opening_progress s.script) journal
+  pub lasts : List Ask
+  pub entries : AreTrue s (opening_progress s.script) lasts journal
   pub numbers : IsPermutation (numbers_of journal) (counting 1 (length journal))
   pub begins : BeginInOrder journal
-  pub grounded : AreGrounded (scene_of s.tells (entry_parts s journal) [])
-  pub handled : s.tells ≡ false → IsHandledJournal s.script.outline (lasts_of s.script journal) journal
+  pub grounded : AreGrounded (scene_of s.tells (entry_parts s lasts journal) [])
+  pub handled : s.tells ≡ false → IsHandledJournal s.script.outline lasts journal

@@ -1,5 +1,5 @@
 -- What an active transaction noted, on the plain machine.
-use Rattle.std.specs.Prelude.{◌≡◌, ℕ, ◌+◌, List, ◌++◌, length, map, take, slice_get, IsTrue}
+use Rattle.std.specs.Prelude.{◌≡◌, ℕ, ◌+◌, List, ◌++◌, length, map, take, IsTrue}
 use Rattle.xc_data.specs.Claims.{held_of}
 use Rattle.xc_data.specs.declared.claim.Claim.{Claim}
 use Rattle.xc_data.specs.declared.undo.Undo.{Undo}
@@ -10,10 +10,8 @@ use Rattle.xc_script.specs.declared.ask.Ask.{Ask}
 use Rattle.xc_world.specs.Run.{BodyResult, LateResult, asked_of, body, body_fits, lates, lates_fit, late_asked_of}
 use Rattle.xc_model.specs.declared.phase.Phase.{Phase}
 use Rattle.xc_model.specs.declared.phase.Phase.TheVariants.{Undoing}
-use Rattle.xc_model.specs.Setting.{Setting}
 use Rattle.xc_model.specs.Progress.{Progress, private_of}
 use Rattle.xc_model.specs.EntryEnds.{IsHeldAt, AreRecords}
-use Rattle.xc_model.specs.Stories.{asked_of_tx}
 use Rattle.xc_model.specs.Moment.{TxView}
 
 -- it holds what its calls claimed; where memory ran out perhaps also what the next call claims
@@ -40,8 +38,8 @@ played_late ran tx = late_asked_of (take (length tx.ends) ran.late) tx.ends
 abbrev pub played_late_result : BodyResult → TxView → LateResult
 played_late_result ran tx = lates ran.world (played_late ran tx)
 
--- it gives what the transaction noted; `words` is the number of words
-pub record IsPlayedSoFar (s : Setting) (words : ℕ) (p : Progress) (at : ℕ) (tx : TxView) : Type 0 where
+-- it gives what the transaction noted, which is asked `next`; `words` is the number of words
+pub record IsPlayedSoFar (next : Ask) (words : ℕ) (p : Progress) (at : ℕ) (tx : TxView) : Type 0 where
   pub fits : IsTrue (body_fits p.state.world (private_of p.state (at + 1)) tx.number (asked_of tx.calls tx.replies))
   pub replies : (ran_behind p at tx).replies ≡ tx.replies
   pub me : (ran_behind p at tx).me ≡ tx.me
@@ -49,7 +47,6 @@ pub record IsPlayedSoFar (s : Setting) (words : ℕ) (p : Progress) (at : ℕ) (
   -- the late calls that are done ended as the plain machine's do
   pub ends : (played_late_result (ran_behind p at tx) tx).ends ≡ tx.ends
   pub late_fits : IsTrue (lates_fit (ran_behind p at tx).world (played_late (ran_behind p at tx) tx))
-  pub records : RecordsFor (ran_behind p at tx) tx.number (asked_of_tx s (slice_get p.jobs at) tx) tx.phase
-      (tx.undo.pending ++ map (λ r. r.0) tx.undo.ended)
-  pub holds : HoldsFor (ran_behind p at tx) (asked_of_tx s (slice_get p.jobs at) tx) tx.phase tx.held
+  pub records : RecordsFor (ran_behind p at tx) tx.number next tx.phase (tx.undo.pending ++ map (λ r. r.0) tx.undo.ended)
+  pub holds : HoldsFor (ran_behind p at tx) next tx.phase tx.held
   pub count : length (ran_behind p at tx).world.words ≡ words

@@ -1,9 +1,11 @@
 -- The table of turns: from one moment to the next, a row for each thing that a job may do.
-use Rattle.std.specs.Prelude.{◌≡◌, ℕ, slice_get}
+use Rattle.std.specs.Prelude.{◌≡◌, ℕ, ◌-◌, List, ◌++◌, length, replicate, slice_get}
 use Rattle.std.specs.declared.option.Option.TheVariants.{Some}
+use Rattle.xc_data.specs.declared.entry.Entry.{Entry}
 use Rattle.xc_data.specs.declared.entry.JobEnd.TheVariants as job_end
 use Rattle.xc_data.specs.declared.entry.Turn.{Turn}
 use Rattle.xc_data.specs.declared.entry.Turn.TheVariants as turn
+use Rattle.xc_script.specs.declared.ask.Ask.{Ask}
 use Rattle.xc_model.specs.declared.phase.Phase.{Phase}
 use Rattle.xc_model.specs.declared.phase.Phase.TheVariants.{Running, Committing, Undoing, Backing}
 use Rattle.xc_model.specs.Setting.{Setting}
@@ -42,3 +44,7 @@ pub record IsTurn (s : Setting) (at : ℕ) (old : Moment) (answer : Turn) (new :
   pub job : JobView
   pub there : slice_get old.jobs at ≡ Some job
   pub row : TurnOf (mover s at old job) job.doing answer new
+
+-- what was asked last, entry by entry, after a turn of a job that was asked `last`: where an entry came, it has that
+abbrev pub lasts_behind : Ask → List Entry → List Entry → List Ask → List Ask
+lasts_behind last old new lasts = lasts ++ replicate (length new - length old) last

@@ -9,7 +9,6 @@ use Rattle.xc_data.specs.declared.entry.Cause.{Cause}
 use Rattle.xc_data.specs.declared.entry.Entry.{Entry}
 use Rattle.xc_script.specs.declared.ask.Ask.{Ask}
 use Rattle.xc_script.specs.declared.ask.Ask.TheVariants as ask
-use Rattle.xc_script.specs.Asking.{asks}
 use Rattle.xc_script.specs.Blocks.{KeptCalls, all_replied, block_from, none_kept, all_kept}
 use Rattle.xc_data.specs.declared.call.Call.{Call}
 use Rattle.xc_data.specs.declared.call.Call.TheVariants as call
@@ -28,7 +27,7 @@ use Rattle.xc_model.specs.declared.phase.Phase.TheVariants.{Running, Committing,
 use Rattle.xc_model.specs.Setting.{Setting}
 use Rattle.xc_model.specs.Grounds.{Part, AreGrounded, Scene, scene_of}
 use Rattle.xc_model.specs.Progress.{Following, opening_progress, progress_of}
-use Rattle.xc_model.specs.Asked.{AsksEach, next_of}
+use Rattle.xc_model.specs.Asked.{AsksEach}
 use Rattle.xc_model.specs.EntryEnds.{IsCauseOf}
 use Rattle.xc_model.specs.Joint.{AreTrue, entry_parts}
 use Rattle.xc_model.specs.Machine.{counting}
@@ -38,6 +37,7 @@ use Rattle.xc_model.specs.Recorded.{Recorded, no_records, all_records, AreFewFau
 use Rattle.xc_data.specs.Calls.{thread_asked, thread_in}
 use Rattle.xc_data.specs.Private.{IsSided}
 use Rattle.xc_model.specs.Moment.{TxView, SavedView, JobView, Doing, Idle, Active, Starved, Ended, actives, active_of, revoked}
+use Rattle.xc_model.specs.Movers.{asked_at}
 
 -- ---- an active transaction, as a part of its job's story
 -- the job stands in its next transaction, and keeps the variables of its begin
@@ -71,14 +71,15 @@ pub record IsRunning (s : Setting) (f : Following) (place : Position) (tx : TxVi
 -- a committing one: its commit was asked, and the job stands where its walk does
 pub record IsCommitting (s : Setting) (f : Following) (place : Position) (tx : TxView) : Type 0 where
   pub ahead : StandsAfterReplies s f place tx
-  pub asked : asks (walk_of s.script place) ≡ ask.Commit
+  pub asked : asked_at s place ≡ ask.Commit
   pub settled : IsPastSilent s.script place
   pub none : tx.undo.ended ≡ []
   pub few_ends : length tx.ends ≤ length tx.late
 
--- an undoing one: the compensations so far have legal ends
-pub record IsUndoing (s : Setting) (f : Following) (tx : TxView) (c : Cause) : Type 0 where
-  pub caused : IsCauseOf c (next_of s.script f tx.replies)
+-- an undoing one: the job still stands where it was asked what led to it, and the compensations so far have legal ends
+pub record IsUndoing (s : Setting) (f : Following) (place : Position) (tx : TxView) (c : Cause) : Type 0 where
+  pub ahead : StandsAfterReplies s f place tx
+  pub caused : IsCauseOf c (asked_at s place)
   pub legal : AreLegal s.rules.undo_tries (length tx.undo.pending + 1) tx.undo.ended
   pub stuck : IsStuckIn (saved_records (all_records no_records tx.calls tx.replies)) (length tx.undo.pending + 1) tx.undo.ended c
   pub no_ends : tx.ends ≡ []
@@ -91,7 +92,7 @@ IsAboveSave (Some kept) pending = length kept.trail ≤ length pending
 -- one whose block goes back: the back is asked, and each compensation so far undid its record
 pub record IsBacking (s : Setting) (f : Following) (place : Position) (tx : TxView) : Type 0 where
   pub ahead : StandsAfterReplies s f place tx
-  pub asked : asks (walk_of s.script place) ≡ ask.Call call.Back
+  pub asked : asked_at s place ≡ ask.Call call.Back
   pub settled : IsPastSilent s.script place
   pub legal : AreLegal s.rules.undo_tries (length tx.undo.pending + 1) tx.undo.ended
   pub undone : All (λ e. is_undone e.1 ≡ true) tx.undo.ended
@@ -103,7 +104,7 @@ pub record IsBacking (s : Setting) (f : Following) (place : Position) (tx : TxVi
 abbrev pub IsInPhase : Setting → Following → Position → TxView → Phase → Type 0
 IsInPhase s f place tx Running = IsRunning s f place tx
 IsInPhase s f place tx Committing = IsCommitting s f place tx
-IsInPhase s f place tx (Undoing c) = IsUndoing s f tx c
+IsInPhase s f place tx (Undoing c) = IsUndoing s f place tx c
 IsInPhase s f place tx Backing = IsBacking s f place tx
 
 -- those at a save start the same blocks as the calls that were kept there
@@ -216,11 +217,6 @@ cause_of_phase None Running = None
 cause_of_phase None Backing = None
 cause_of_phase mark Committing = None
 
--- what it is asked after its replies
-abbrev pub asked_of_tx : Setting → Option Following → TxView → Ask
-asked_of_tx s None tx = ask.End
-asked_of_tx s (Some f) tx = next_of s.script f tx.replies
-
 -- what they are read by: the setting, the number of words, and the marks
 pub record Reading : Type 0 where
   pub setting : Setting
@@ -232,41 +228,39 @@ abbrev pub reading : Setting → ℕ → (ℕ → Option Mark) → Reading
 reading s words marks = record { setting = s; words = words; marks = marks }
 
 module _ (r : Reading) where
-  -- an active transaction of the job of this number
-  abbrev pub part_under_way : Option Following → ℕ → TxView → Part
-  part_under_way f number tx =
+  -- an active transaction of the job of this number, which stands in this place
+  abbrev pub part_under_way : ℕ → Position → TxView → Part
+  part_under_way number place tx =
       record {
         number = tx.number;
         job = number;
         rank = tx.rank;
         began = tx.began;
         held = tx.held;
-        wanted = wanted_by r.words tx (asked_of_tx r.setting f tx);
+        wanted = wanted_by r.words tx (asked_at r.setting place);
         cause = cause_of_phase (r.marks tx.number) tx.phase;
       }
 
   -- a job's active transaction, where it has one
-  abbrev pub active_part : Option Following → ℕ → Option TxView → Option Part
-  active_part f number None = None
-  active_part f number (Some tx) = Some (part_under_way f number tx)
+  abbrev pub active_part : ℕ → Position → Option TxView → Option Part
+  active_part number place None = None
+  active_part number place (Some tx) = Some (part_under_way number place tx)
 
-  -- of each job, from this number on; the first list is what the journal tells of them
-  abbrev pub active_parts : ℕ → List Following → List JobView → List (Option Part)
-  active_parts number followings [] = []
-  active_parts number [] (job ∷ jobs) = active_part None number (active_of job) ∷ active_parts (number + 1) [] jobs
-  active_parts number (f ∷ followings) (job ∷ jobs) =
-      active_part (Some f) number (active_of job) ∷ active_parts (number + 1) followings jobs
+  -- of each job, from this number on
+  abbrev pub active_parts : ℕ → List JobView → List (Option Part)
+  active_parts number [] = []
+  active_parts number (job ∷ jobs) = active_part number job.place (active_of job) ∷ active_parts (number + 1) jobs
 
 -- what they are judged against, after this journal
-abbrev pub scene_at : Reading → List Entry → List JobView → Scene
-scene_at r journal jobs =
-    let told = (progress_of r.setting.script journal).jobs in
-    scene_of r.setting.tells (entry_parts r.setting journal) (active_parts r 1 told jobs)
+abbrev pub scene_at : Reading → List Ask → List Entry → List JobView → Scene
+scene_at r lasts journal jobs = scene_of r.setting.tells (entry_parts r.setting lasts journal) (active_parts r 1 jobs)
 
 -- ---- all together
 -- `words` is the number of words
 pub record StoriesHold (s : Setting) (words : ℕ) (marks : ℕ → Option Mark) (journal : List Entry) (jobs : List JobView) : Type 0 where
-  pub entries : AreTrue s (opening_progress s.script) journal
+  -- what was asked last, entry by entry
+  pub lasts : List Ask
+  pub entries : AreTrue s (opening_progress s.script) lasts journal
   -- the jobs are those that the journal tells
   pub count : length (progress_of s.script journal).jobs ≡ length jobs
   pub jobs_told : (at : ℕ) (f : Following) (job : JobView)
@@ -274,4 +268,4 @@ pub record StoriesHold (s : Setting) (words : ℕ) (marks : ℕ → Option Mark)
       → StoryHolds s (length journal + length (actives jobs)) (length journal) f job
   pub begins : AreBegins journal (begins_of journal jobs)
   pub few : length journal + length (actives jobs) ≤ 10000
-  pub grounded : AreGrounded (scene_at (reading s words marks) journal jobs)
+  pub grounded : AreGrounded (scene_at (reading s words marks) lasts journal jobs)

@@ -1,8 +1,9 @@
 -- Calls on words, by the words alone.
-use Rattle.std.specs.Prelude.{◌≡◌, ℕ, Bool, true, false, List, [], ◌∷◌, length, nat_le, slice_index, slice_set, if◌then◌else◌, Option}
+use Rattle.std.specs.Prelude.{◌≡◌, ℕ, Bool, true, is_some, List, [], ◌∷◌, length, nat_le, slice_index, slice_set, if◌then◌else◌, Option}
 use Rattle.std.specs.Prelude.{unwrap_or}
 use Rattle.std.specs.declared.option.Option.TheVariants.{None, Some}
 use Rattle.std.specs.List.{fold}
+use Rattle.xc_data.specs.Calls.{traits}
 use Rattle.xc_data.specs.declared.call.Call.{Call}
 use Rattle.xc_data.specs.declared.call.Call.TheVariants as call
 use Rattle.xc_data.specs.declared.call.Reply.{Reply}
@@ -10,30 +11,7 @@ use Rattle.xc_data.specs.declared.call.Reply.TheVariants.{Number, Done, BadWord}
 
 -- a call on words
 abbrev pub is_word_call : Call → Bool
-is_word_call (call.Load at) = true
-is_word_call (call.Store at value) = true
-is_word_call (call.XOpen name) = false
-is_word_call (call.XCreate name) = false
-is_word_call (call.XRead h n) = false
-is_word_call (call.XWriteOvr h bytes) = false
-is_word_call (call.XWriteSeq h bytes) = false
-is_word_call (call.XSeek h to) = false
-is_word_call (call.XLen h) = false
-is_word_call (call.XRename from to) = false
-is_word_call (call.XClose h) = false
-is_word_call call.XPipe = false
-is_word_call (call.XReadPipe h n) = false
-is_word_call call.XPair = false
-is_word_call (call.XRecvmsg h) = false
-is_word_call (call.XUnlink name slot) = false
-is_word_call (call.XSync h slot) = false
-is_word_call (call.XWritePipe h bytes slot) = false
-is_word_call (call.XShutdown h slot) = false
-is_word_call (call.XSendmsg h bytes slot) = false
-is_word_call (call.XThreadCreate body slot) = false
-is_word_call call.Save = false
-is_word_call call.Keep = false
-is_word_call call.Back = false
+is_word_call call = is_some (traits call).word
 
 -- what such a call replies on these words
 abbrev pub word_reply : List ℕ → Call → Reply

@@ -2,19 +2,16 @@ ghost use Rattle.std.specs.Prelude.{◌≡◌};
 
 use xc_data::Cause;
 
-/// What an active transaction does.
-///
-/// | Phase | Facts | Left by |
-/// |---|---|---|
-/// | Running | its stores wait; the job stands after its replies | the commit or abort asked, a conflict, lack of memory |
-/// | Committing | its stores are written | the Committed entry |
-/// | Backing | a block goes back; its records are undone, the newest first | the back's reply, a compensation that fails, a mark |
-/// | Undoing | its stores are dropped; its records are undone, the newest first | the Aborted entry |
+/// What an active transaction does. docs/ARCHITECTURE.md ("The station") has what is true in each phase, and how it is left.
 #[derive(Drop)]
 pub enum Phase {
+    /// Its stores wait, and its job's place is behind its replies.
     Running,
+    /// Its stores are written, and its late calls are done, the oldest first.
     Committing,
+    /// Its stores are never written, and its records are undone, the newest first.
     Undoing(Cause),
+    /// A block goes back: its records are undone, the newest first.
     Backing,
 }
 

@@ -120,7 +120,7 @@ full_as_meant model rules host end seed status.Done due some tries is over calm 
 full_as_meant model rules host end seed status.Left due some tries is over calm =
     let s = setting end.opening.script rules model.tells in
     let joint = joint_of_parts s end.journal.items over.whole.journal in
-    let none = nothing_remains s (opening_progress s.script) end.journal.items tries joint.entries calm.faultless in
+    let none = nothing_remains s (opening_progress s.script) joint.lasts end.journal.items tries joint.entries calm.faultless in
     let no : true ≡ false = sym is.2 ∙ ap (nat_lt 0) none in
     cc
 full_as_meant model rules host end seed status.GaveUp due some tries is over calm =

@@ -67,7 +67,7 @@ fn leaves_effects<H>(end: &End<H>) -> bool
     remaining_effects(end.journal.as_slice()) > 0
 }
 
-/// The status that a run with this end is meant to have. Memory comes first: a run in which it was wanting has that status,
+/// The status that a run with this end is meant to have. Memory comes first: a run in which it ran out has that status,
 /// whatever else became of its jobs.
 pub fn status_of<H>(end: &End<H>) -> Status
     requires { length end.now.journal.items ≤ 10000 }

@@ -19,7 +19,7 @@ pub enum Status {
     ReadFault,
     /// A write failed.
     WriteFault,
-    /// Memory was wanting: in the run, in one of its jobs, or for a late call.
+    /// Memory ran out: in the run, in one of its jobs, or for a late call.
     NoMemory,
     /// An effect of an aborted transaction remains: its compensation failed, or was blocked.
     Left,

@@ -22,9 +22,8 @@ use Rattle.xc_world.proofs.Laws.{body-sound}
 use Rattle.xc_model.specs.declared.phase.Phase.TheVariants.{Running}
 use Rattle.xc_model.specs.Setting.{Setting}
 use Rattle.xc_model.specs.Played.{HoldsFor}
-use Rattle.xc_model.specs.Progress.{progress_of}
-use Rattle.xc_model.specs.Stories.{asked_of_tx}
 use Rattle.xc_model.specs.Moment.{TxView, JobView, Moment, active_of}
+use Rattle.xc_model.specs.Movers.{asked_at}
 use Rattle.xc_model.specs.Rivals.{HasNoRival}
 use Rattle.xc_model.specs.PlainSteps.{claims_at}
 use Rattle.xc_flight.specs.Active.{Tx, Has, HoldTheSame}
@@ -77,7 +76,7 @@ module _ (s : Setting) (now : Moment) (all : AreInFlight s now) (at : ℕ) (job 
   flies = flies_there s now all at job tx there active
 
   held : tx.held ≡ held_of (ran_at w job.me tx).touched
-  held = subst (λ ph. HoldsFor (ran_at w job.me tx) (asked_of_tx s (slice_get (progress_of s.script now.journal).jobs at) tx) ph tx.held) runs
+  held = subst (λ ph. HoldsFor (ran_at w job.me tx) (asked_at s job.place) ph tx.held) runs
       (all.holds at job tx there active)
 
   same : HoldTheSame all_held (tx.held ++ claims)

@@ -24,7 +24,8 @@ use Rattle.xc_model.specs.Setting.{Setting}
 use Rattle.xc_model.specs.Progress.{progress_of, private_of}
 use Rattle.xc_model.specs.Played.{HoldsFor, IsPlayedSoFar, RecordsFor, played_late_result, played_late}
 use Rattle.xc_model.specs.EntryEnds.{AreLeft, AreLeftBy}
-use Rattle.xc_model.specs.Stories.{StoriesHold, asked_of_tx}
+use Rattle.xc_model.specs.Movers.{asked_at}
+use Rattle.xc_model.specs.Stories.{StoriesHold}
 use Rattle.xc_model.specs.Moment.{TxView, JobView, Moment, active_of}
 use Rattle.xc_flight.specs.Flight.{IsPhase}
 use Rattle.xc_refines.specs.InFlight.{IsUnnoted, flown, flown_phase, ran_at, state_of, AreInFlight}
@@ -106,12 +107,12 @@ module _ (s : Setting) (now : Moment) (told : StoriesHold s (length now.words) n
   private = fresh ∙ ap beginning (sym handles)
 
   -- it is played so far
-  pub played_there : IsPlayedSoFar s (length now.words) (progress_of s.script now.journal) at tx
+  pub played_there : IsPlayedSoFar (asked_at s job.place) (length now.words) (progress_of s.script now.journal) at tx
   played_there =
       let i = (flight_there s now all at job tx there active).inside in
       let w = (state_of s now).world in
       let asked = asked_of tx.calls tx.replies in
-      let next = asked_of_tx s (slice_get (progress_of s.script now.journal).jobs at) tx in
+      let next = asked_at s job.place in
       let ended = subst (λ me. EndSo (body w me tx.number asked) tx) private (end_so w job.me (all.unnoted at) tx tx.phase i.phase) in
       let records = tx.undo.pending ++ map (λ (r : Ending). r.0) tx.undo.ended in
       record {
@@ -122,7 +123,7 @@ module _ (s : Setting) (now : Moment) (told : StoriesHold s (length now.words) n
         ends = ended.0;
         late_fits = ended.1;
         records = subst (λ me. RecordsFor (body w me tx.number asked) tx.number next tx.phase records) private
-            (records_for tx.number (body_state w job.me tx.number asked) tx.phase next (all.unnoted at) records (all.was_asked at tx (job, there, active))
+            (records_for tx.number (body_state w job.me tx.number asked) tx.phase next (all.unnoted at) records (all.was_asked at job tx there active)
             (rest_fits s now all at job tx there active) i.trail);
         holds = subst (λ me. HoldsFor (body w me tx.number asked) next tx.phase tx.held) private (all.holds at job tx there active);
         count = ap (λ me. length (body w me tx.number asked).world.words) (sym private) ∙ (body_keeps w job.me tx.number asked).count

@@ -95,11 +95,11 @@ module _ (s : Setting) (p : Progress) (words : List ℕ) (contents : Contents) (
   -- what it leads to
   pub abort_lands : (p' : Progress) (job' : JobView) → p'.state.world ≡ behind
       → p'.state.handles ≡ map (λ (job : JobView). job.me.places) (slice_set jobs at job')
-      → ((j : ℕ) → j ≢ at → slice_get p'.jobs j ≡ slice_get p.jobs j) → job'.me ≡ job.me → job'.block ≡ job.block
+      → job'.me ≡ job.me → job'.block ≡ job.block
       → ((j : ℕ) (other : JobView) → slice_get jobs j ≡ Some other → other.me ≡ beginning other.me.places)
       → LeadsToLanding (record { old = p; new = p' }) (record flight_now { now = world_in p.state.world words (with_kept contents tx.taken) started })
       (landing jobs [] at job')
-  abort_lands p' job' is handles followings me block fresh =
+  abort_lands p' job' is handles me block fresh =
       let w = p.state.world in
       let sound = f.sound at tx_flown active in
       let after = abort_enters flight_now at tx_flown f.flies active (ap flown_phase undoes) sound none in
@@ -116,7 +116,6 @@ module _ (s : Setting) (p : Progress) (words : List ℕ) (contents : Contents) (
             ∙ sym (map_set_same (λ (job : JobView). job.block) jobs at job' job there block)
             ∙ ap (map (λ (job : JobView). job.block)) (sym (append-nil (slice_set jobs at job')));
         handles = handles ∙ ap (map (λ (job : JobView). job.me.places)) (sym (append-nil (slice_set jobs at job')));
-        followings = λ j ne low. followings j ne;
         new = tt;
         bodies = λ j other u ne here does. subst (λ v. GivesSame (ran_at w other.me u) (ran_at v other.me u)) (sym is)
             (abort_bodies j other u (fresh j other here) ne here does);

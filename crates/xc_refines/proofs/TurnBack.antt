@@ -28,16 +28,15 @@ use Rattle.xc_model.specs.declared.phase.Phase.TheVariants.{Running, Committing,
 use Rattle.xc_model.specs.Setting.{Setting}
 use Rattle.xc_model.specs.Progress.{Progress}
 use Rattle.xc_model.specs.Played.{HoldsFor}
-use Rattle.xc_model.specs.Stories.{asked_of_tx}
 use Rattle.xc_model.specs.Moment.{TxView, JobView, Active, active_in}
-use Rattle.xc_model.specs.Movers.{with_tx}
+use Rattle.xc_model.specs.Movers.{asked_at, with_tx}
 use Rattle.xc_flight.specs.Active.{Tx}
 use Rattle.xc_flight.specs.Active as flight
 use Rattle.xc_flight.specs.State.{FlightState, InFlight, IsActive, turned}
 use Rattle.xc_flight.proofs.Laws.{is_running, commits, newest_undone, records_made, turns_back}
 use Rattle.xc_refines.specs.InFlight.{IsUnnoted, flown, flown_phase, ran_at}
 use Rattle.xc_refines.proofs.FlownLists.{flown_there, none_unnoted}
-use Rattle.xc_refines.proofs.TurnParts.{Flying, world_in, flight_in, asked_same, flies_on, airfield}
+use Rattle.xc_refines.proofs.TurnParts.{Flying, world_in, flight_in, flies_on, airfield}
 
 -- ---- what is held
 -- what its calls claimed, in each phase
@@ -108,7 +107,7 @@ module _ (s : Setting) (p : Progress) (words : List ℕ) (contents : Contents) (
   ran = ran_at p.state.world job.me tx
 
   abbrev asked_next : Ask
-  asked_next = asked_of_tx s (slice_get p.jobs at) tx
+  asked_next = asked_at s job.place
 
   active : IsActive flight_now at tx_flown
   active = flown_there f.unnoted jobs at job tx there doing
@@ -129,8 +128,8 @@ module _ (s : Setting) (p : Progress) (words : List ℕ) (contents : Contents) (
   back_keeps c runs =
       flies_on s p words words contents contents started started jobs next at (f.unnoted at) job place tx (record tx { phase = Undoing c }) there doing refl f
       (turns_back flight_now at tx_flown f.flies active (running runs) (f.sound at tx_flown active))
-      (none_unnoted (Undoing c) (asked_of_tx s (slice_get p.jobs at) (record tx { phase = Undoing c })) (f.unnoted at) (noted_so runs))
-      (holds_at ran (asked_of_tx s (slice_get p.jobs at) (record tx { phase = Undoing c })) (Undoing c) tx.held (held runs))
+      (none_unnoted (Undoing c) (asked_at s place) (f.unnoted at) (noted_so runs))
+      (holds_at ran (asked_at s place) (Undoing c) tx.held (held runs))
 
   -- its block goes back
   pub begins_back_keeps : tx.phase ≡ Running
@@ -138,7 +137,7 @@ module _ (s : Setting) (p : Progress) (words : List ℕ) (contents : Contents) (
   begins_back_keeps runs =
       flies_on s p words words contents contents started started jobs next at (f.unnoted at) job place tx (record tx { phase = Backing }) there doing refl f
       (turns_back flight_now at tx_flown f.flies active (running runs) (f.sound at tx_flown active))
-      (none_unnoted Backing (asked_of_tx s (slice_get p.jobs at) (record tx { phase = Backing })) (f.unnoted at) (noted_so runs))
+      (none_unnoted Backing (asked_at s place) (f.unnoted at) (noted_so runs))
       (held runs)
 
   -- it commits
@@ -148,16 +147,16 @@ module _ (s : Setting) (p : Progress) (words : List ℕ) (contents : Contents) (
       flies_on s p words (overlaid words tx.writes) contents contents started started jobs next at (f.unnoted at) job place tx
       (record tx { phase = Committing }) there
       doing refl f (commits flight_now at tx_flown f.flies active (running runs))
-      (none_unnoted Committing (asked_of_tx s (slice_get p.jobs at) (record tx { phase = Committing })) (f.unnoted at) (noted_so runs))
+      (none_unnoted Committing (asked_at s place) (f.unnoted at) (noted_so runs))
       (held runs)
 
   -- a record is tried
   pub tried_keeps : (c : Cause) (older : List Undo) (u : Undo) (end : UndoEnd) (contents' : Contents) → tx.phase ≡ Undoing c
       → tx.undo.pending ≡ older ++ u ∷ [] → IsLegalEnd s.rules.undo_tries u end (way_of older u tx.undo)
-      → contents' ≡ contents_of (undone_to (world_of contents) u end)
+      → contents' ≡ contents_of (undone_to (world_of contents) u end) → asked_at s place ≡ asked_at s job.place
       → Flying s p (airfield words contents' started
       (slice_set jobs at (with_tx job place (record tx { undo = record { pending = older; ended = (u, end) ∷ tx.undo.ended } }))) next)
-  tried_keeps c older u end contents' undoes newest legal effect =
+  tried_keeps c older u end contents' undoes newest legal effect still =
       let w = p.state.world in
       let tx' : TxView = record tx { undo = record { pending = older; ended = (u, end) ∷ tx.undo.ended } } in
       let sound = f.sound at tx_flown active in
@@ -168,6 +167,5 @@ module _ (s : Setting) (p : Progress) (words : List ℕ) (contents : Contents) (
       undone_in flight_now.now u end ∙ ap (λ cs. world_in w words cs started) (sym effect) in
       flies_on s p words words contents contents' started started jobs next at (f.unnoted at) job place tx tx' there doing refl f
       (subst (λ v. InFlight (turned flight_now at (Some (flown job.me (f.unnoted at) tx')) v)) leads done)
-      (subst (λ a. IsUnnoted tx.phase a (f.unnoted at)) (asked_same s (slice_get p.jobs at) tx tx' refl)
-      (f.was_asked at job tx there (ap active_in doing)))
-      (subst (λ a. HoldsFor ran a tx.phase tx.held) (asked_same s (slice_get p.jobs at) tx tx' refl) (f.holds at job tx there (ap active_in doing)))
+      (subst (λ a. IsUnnoted tx.phase a (f.unnoted at)) (sym still) (f.was_asked at job tx there (ap active_in doing)))
+      (subst (λ a. HoldsFor ran a tx.phase tx.held) (sym still) (f.holds at job tx there (ap active_in doing)))

@@ -29,13 +29,12 @@ use Rattle.xc_world.specs.Trail.{recorded}
 use Rattle.xc_model.specs.Setting.{Setting}
 use Rattle.xc_model.specs.Progress.{Progress}
 use Rattle.xc_model.specs.Played.{HoldsFor}
-use Rattle.xc_model.specs.Stories.{asked_of_tx}
 use Rattle.xc_model.specs.Asked.{AsksEach}
 use Rattle.xc_model.specs.declared.phase.Phase.TheVariants.{Running}
 use Rattle.xc_model.specs.Moment.{SavedView, TxView, JobView, Active, active_in}
 use Rattle.xc_model.specs.Rivals.{HasNoRival}
 use Rattle.xc_model.specs.PlainSteps.{copied, saved_by, noting_plain, Parts, StepsAsPlain, noting, tx_parts, stored_by, contents_seen}
-use Rattle.xc_model.specs.Movers.{with_tx}
+use Rattle.xc_model.specs.Movers.{asked_at, with_tx}
 use Rattle.xc_flight.specs.Active.{Tx, Saved, Own, HoldTheSame}
 use Rattle.xc_flight.specs.Active as flight
 use Rattle.xc_flight.specs.Flight.{IsRunningFlight, IsPhase}
@@ -203,7 +202,7 @@ module _ (s : Setting) (p : Progress) (words : List ℕ) (was is : Contents) (st
   running = ap flown_phase runs
 
   held : tx.held ≡ held_of ran.touched
-  held = subst (λ ph. HoldsFor ran (asked_of_tx s (slice_get p.jobs at) tx) ph tx.held) runs (f.holds at job tx there (ap active_in doing))
+  held = subst (λ ph. HoldsFor ran (asked_at s job.place) ph tx.held) runs (f.holds at job tx there (ap active_in doing))
 
   flies_so : IsRunningFlight p.state.world tx_flown
   flies_so = subst (IsPhase p.state.world tx_flown) running (f.flies.flights at tx_flown active).inside.phase
@@ -266,5 +265,5 @@ module _ (s : Setting) (p : Progress) (words : List ℕ) (was is : Contents) (st
       → Flying s p (airfield words is started (slice_set jobs at (with_tx job place behind)) next)
   calls_keep alone stores count =
       flies_on s p words words was is started started jobs next at (f.unnoted at) job place tx behind there doing refl f (flies alone stores)
-      (none_unnoted tx.phase (asked_of_tx s (slice_get p.jobs at) behind) (f.unnoted at) flies_so.all_noted)
-      (subst (λ ph. HoldsFor (ran_at p.state.world job.me behind) (asked_of_tx s (slice_get p.jobs at) behind) ph behind.held) (sym runs) (held_behind count))
+      (none_unnoted tx.phase (asked_at s place) (f.unnoted at) flies_so.all_noted)
+      (subst (λ ph. HoldsFor (ran_at p.state.world job.me behind) (asked_at s place) ph behind.held) (sym runs) (held_behind count))

@@ -20,7 +20,7 @@ use Rattle.xc_model.specs.declared.phase.Phase.TheVariants.{Running, Committing,
 use Rattle.xc_model.specs.Setting.{Setting}
 use Rattle.xc_model.specs.Progress.{Progress}
 use Rattle.xc_model.specs.Played.{HoldsFor}
-use Rattle.xc_model.specs.Stories.{asked_of_tx}
+use Rattle.xc_model.specs.Movers.{asked_at}
 use Rattle.xc_model.specs.EntryEnds.{IsPartOf, next_claims}
 use Rattle.xc_model.specs.Moment.{TxView, JobView, Active, active_of}
 use Rattle.xc_flight.specs.Active.{Tx, Has, Own, Covers}
@@ -32,14 +32,13 @@ use Rattle.xc_flight.proofs.Laws.{owns_own, commit_enters, left_run, sound_after
 use Rattle.xc_refines.specs.InFlight.{IsUnnoted, flown, flown_jobs, flown_phase, ran_at}
 use Rattle.xc_refines.proofs.FlownLists.{flown-put, flown_there, active_does, none_flown, put_elsewhere, put_in}
 use Rattle.xc_data.proofs.Laws.{map_set_same}
-use Rattle.std.proofs.Common.{◌<◌, take}
+use Rattle.std.proofs.Common.{take}
 use Rattle.std.proofs.Math.Seq.{take-length}
 use Rattle.std.proofs.lemmas.List.{map-append}
 use Rattle.xc_world.specs.Run.{lates, late_asked_of}
 use Rattle.xc_model.specs.LateCalls.{started_late}
 use Rattle.xc_refines.proofs.Grown.{AreNewJobs, grown_cases, grown_flies, grown_sound}
 use Rattle.xc_refines.proofs.StartedWorld.{body_started, ended_start}
-use Rattle.std.proofs.lemmas.Option.{slice_get_within}
 use Rattle.xc_refines.proofs.TurnParts.{Flying, world_in, flight_in, put_cases, airfield}
 
 -- ---- what others hold, in another world
@@ -91,7 +90,6 @@ pub record LeadsToLanding (p : Step Progress) (st : FlightState) (l : Landing) :
   pub own : IsIdleSound p.new.state.world st.next l.job.me.places
   pub started : p.new.state.world.started ≡ map (λ (job : JobView). job.block) (landed l)
   pub handles : p.new.state.handles ≡ map (λ (job : JobView). job.me.places) (landed l)
-  pub followings : (j : ℕ) → j ≢ l.at → j < length l.jobs → slice_get p.new.jobs j ≡ slice_get p.old.jobs j
   pub new : AreNewJobs l.job.me.places l.more
   pub bodies : (j : ℕ) (other : JobView) (u : TxView) → j ≢ l.at → slice_get l.jobs j ≡ Some other → active_of other ≡ Some u
       → GivesSame (ran_at p.old.state.world other.me u) (ran_at p.new.state.world other.me u)
@@ -124,16 +122,15 @@ entry_lands s p p' words contents contents' started jobs more next at job job' t
     let set_jobs = slice_set jobs at job' in
     let behind = flight_in w' (world_in w' words contents' started) unnoted set_jobs next in
     let Asked_so : ℕ → JobView → Type 0 = λ j other. (u : TxView) → active_of other ≡ Some u
-    → IsUnnoted u.phase (asked_of_tx s (slice_get p'.jobs j) u) (unnoted j) in
+    → IsUnnoted u.phase (asked_at s other.place) (unnoted j) in
     let Idle_so : ℕ → JobView → Type 0 = λ j other. active_of other ≡ None → IsIdleSound w' next other.me.places in
     let Holds_so : ℕ → JobView → Type 0 = λ j other. (u : TxView) → active_of other ≡ Some u
-    → HoldsFor (ran_at w' other.me u) (asked_of_tx s (slice_get p'.jobs j) u) u.phase u.held in
+    → HoldsFor (ran_at w' other.me u) (asked_at s other.place) u.phase u.held in
     record {
       unnoted = unnoted;
       was_asked =
           λ j other u e a. grown_cases job'.me.places set_jobs more Asked_so l.new (put_cases jobs at job job' Asked_so there (λ u e. absurd (cc (none, e)))
-          (λ j other ne e u a. subst (λ o. IsUnnoted u.phase (asked_of_tx s o u) (unnoted j)) (sym (l.followings j ne (slice_get_within jobs j other e)))
-          (subst (IsUnnoted u.phase (asked_of_tx s (slice_get p.jobs j) u)) (sym (put_elsewhere f.unnoted at j [] ne)) (f.was_asked j other u e a))))
+          (λ j other ne e u a. subst (IsUnnoted u.phase (asked_at s other.place)) (sym (put_elsewhere f.unnoted at j [] ne)) (f.was_asked j other u e a)))
           (λ j other is u a. (let lacks = is.none in absurd (cc (lacks, a)))) j other e u a;
       flies = grown_flies job'.me.places behind unnoted set_jobs more l.new (subst InFlight same l.flies);
       sound = grown_sound job'.me.places behind unnoted set_jobs more l.new (subst AreSound same l.sound);
@@ -144,10 +141,8 @@ entry_lands s p p' words contents contents' started jobs more next at job job' t
       live = l.started;
       blocks = sym l.flies.blocks ∙ f.blocks;
       holds = λ j other u e a. grown_cases job'.me.places set_jobs more Holds_so l.new (put_cases jobs at job job' Holds_so there (λ u e. absurd (cc (none, e)))
-          (λ j other ne e u a. subst (λ o. HoldsFor (ran_at w' other.me u) (asked_of_tx s o u) u.phase u.held)
-          (sym (l.followings j ne (slice_get_within jobs j other e)))
-          (holds_alike (ran_at w other.me u) (ran_at w' other.me u) (asked_of_tx s (slice_get p.jobs j) u) u.phase u.held (l.bodies j other u ne e a)
-          (f.holds j other u e a))))
+          (λ j other ne e u a. holds_alike (ran_at w other.me u) (ran_at w' other.me u) (asked_at s other.place) u.phase u.held (l.bodies j other u ne e a)
+          (f.holds j other u e a)))
           (λ j other is u a. (let lacks = is.none in absurd (cc (lacks, a)))) j other e u a;
     }
 
@@ -235,10 +230,9 @@ module _ (s : Setting) (p : Progress) (words : List ℕ) (contents : Contents) (
   -- what it leads to
   pub commit_lands : (p' : Progress) (job' : JobView) (more : List JobView) → tx.phase ≡ Committing → length tx.ends ≡ length tx.late → p'.state.world ≡ behind
       → p'.state.handles ≡ map (λ (job : JobView). job.me.places) (slice_set jobs at job' ++ more)
-      → ((j : ℕ) → j ≢ at → j < length jobs → slice_get p'.jobs j ≡ slice_get p.jobs j)
       → job'.me.places ≡ tx.me.places → job'.block ≡ job.block → started_late tx.late tx.ends ≡ map (λ (job : JobView). job.block) more
       → AreNewJobs job'.me.places more → LeadsToLanding (record { old = p; new = p' }) flight_now (landing jobs more at job')
-  commit_lands p' job' more commits done is handles followings places block blocks new =
+  commit_lands p' job' more commits done is handles places block blocks new =
       let w = p.state.world in
       let phase = ap flown_phase commits in
       let after = commit_enters flight_now at tx_flown f.flies active phase done in
@@ -253,7 +247,6 @@ module _ (s : Setting) (p : Progress) (words : List ℕ) (contents : Contents) (
             ∙ (λ k. (f.live ∙ sym (map_set_same (λ (job : JobView). job.block) jobs at job' job there block)) k ++ blocks k)
             ∙ sym (map-append (λ (job : JobView). job.block) (slice_set jobs at job') more);
         handles = handles;
-        followings = followings;
         new = new;
         bodies = λ j other u ne here does. subst (λ v. GivesSame (ran_at w other.me u) (ran_at v other.me u)) (sym is)
             (commit_bodies j other u commits done ne here does);

@@ -1,5 +1,5 @@
 -- What one entry more leads to.
-use Rattle.std.proofs.Common.{◌≡◌, ◌≢◌, zero, suc, refl, ap₂, length-set, ℕ, ◌+◌, ◌-◌, ◌<◌, List, [], ◌∷◌, ◌++◌, length, ap, sym, ◌∙◌, arith, Some}
+use Rattle.std.proofs.Common.{◌≡◌, ap₂, ℕ, ◌+◌, ◌-◌, List, [], ◌∷◌, ◌++◌, length, ap, sym, ◌∙◌, arith, Some}
 use Rattle.std.specs.Prelude.{map, replicate, slice_get, slice_set, unwrap_or}
 use Rattle.std.proofs.lemmas.List.Sums.{fold_push}
 use Rattle.xc_data.specs.declared.call.CallWithAnswer.{CallWithAnswer}
@@ -12,8 +12,8 @@ use Rattle.xc_data.specs.declared.private.Place.{Place as Handle}
 use Rattle.xc_text.specs.declared.script.Script.{Script}
 use Rattle.xc_world.specs.World.{beginning, no_handles}
 use Rattle.xc_world.specs.Run.{asked_of, body, run}
-use Rattle.xc_model.specs.Progress.{Following, Progress, untried, private_of, committed_job}
-use Rattle.xc_model.specs.Progress.{following_abort, after_outcome, after_following, words_left, after_entry, opening_progress, progress_of}
+use Rattle.xc_model.specs.Progress.{Following, Progress, private_of}
+use Rattle.xc_model.specs.Progress.{after_outcome, after_following, words_left, after_entry, opening_progress, progress_of}
 use Rattle.xc_model.specs.Moment.{TxView, JobView}
 use Rattle.xc_model.specs.LateCalls.{started_late}
 use Rattle.xc_data.specs.Calls.{thread_asked, thread_in}
@@ -24,12 +24,7 @@ use Rattle.xc_refines.proofs.Grown.{started_handles}
 use Rattle.std.proofs.lemmas.List.{map-append}
 use Rattle.xc_flight.specs.Turns.{after_commit as world_after_commit, after_abort as world_after_abort}
 use Rattle.xc_refines.specs.InFlight.{flown, ran_at}
-use Rattle.xc_data.proofs.Laws.{get_set_other, get_map, map_set, map_set_same}
-
-get_in_front : {A : Type 0} (xs ys : List A) (j : ℕ) → j < length xs → slice_get (xs ++ ys) j ≡ slice_get xs j
-get_in_front [] ys j low = absurd (omega (arith, low))
-get_in_front (x ∷ xs) ys zero low = refl
-get_in_front (x ∷ xs) ys (suc j) low = get_in_front xs ys j (omega (arith, low))
+use Rattle.xc_data.proofs.Laws.{get_map, map_set, map_set_same}
 
 -- one entry more
 pub led-more : (script : Script) (journal : List Entry) (e : Entry)
@@ -60,15 +55,9 @@ module _ (script : Script) (p : Progress) (f : Following) (jobs : List JobView) 
   private_is = (λ i. beginning (unwrap_or (slice_get (handles i) (back_one at i)) no_handles))
       ∙ ap (λ o. beginning (unwrap_or o no_handles)) (get_map job_handles jobs at job there) ∙ sym fresh
 
-  others_follow : (g : Following) (j : ℕ) → j ≢ at → slice_get (slice_set p.jobs (at + 1 - 1) g) j ≡ slice_get p.jobs j
-  others_follow g j ne = ap (λ k. slice_get (slice_set p.jobs k g) j) (back_one at) ∙ get_set_other p.jobs at j g ne
-
   -- ---- of a commit
   abbrev committed : Entry
   committed = entry_of tx at (Committed tx.ends)
-
-  abbrev behind : Following
-  behind = untried f.block (committed_job script f.job tx.calls tx.replies tx.ends) (p.entered + 1)
 
   -- the world is its run's
   pub commit_world : (us : List CallWithAnswer) → (after_entry script p committed).state.world ≡ world_after_commit p.state.world (flown job.me us tx)
@@ -89,13 +78,6 @@ module _ (script : Script) (p : Progress) (f : Following) (jobs : List JobView) 
       ∙ ap₂ (λ a b. a ++ b) (sym (map_set job_handles jobs at job')) (started_handles script job' (started_late tx.late tx.ends))
       ∙ sym (map-append job_handles (slice_set jobs at job') (map (seen_started script job') (started_late tx.late tx.ends)))
 
-  -- the other jobs stay
-  pub commit_followings : (j : ℕ) → j ≢ at → j < length p.jobs → slice_get (after_entry script p committed).jobs j ≡ slice_get p.jobs j
-  commit_followings j ne low =
-      let many = length-set p.jobs (at + 1 - 1) behind in
-      ap (λ (q : Progress). slice_get q.jobs j) (led_by (Committed tx.ends))
-      ∙ get_in_front (slice_set p.jobs (at + 1 - 1) behind) _ j (omega (arith, low, many)) ∙ others_follow behind j ne
-
   -- ---- of an abort
   abbrev aborted : Cause → Entry
   aborted c = entry_of tx at (Aborted (record { cause = c; records = tx.undo.ended }))
@@ -110,8 +92,3 @@ module _ (script : Script) (p : Progress) (f : Following) (jobs : List JobView) 
       → (after_entry script p (aborted c)).state.handles ≡ map (λ (job : JobView). job.me.places) (slice_set jobs at job')
   abort_handles c job' me = ap (λ (q : Progress). q.state.handles) (led_by (Aborted (record { cause = c; records = tx.undo.ended }))) ∙ handles
       ∙ sym (map_set_same job_handles jobs at job' job there (ap (λ (m : Private). m.places) me))
-
-  -- the other jobs stay
-  pub abort_followings : (c : Cause) (j : ℕ) → j ≢ at → slice_get (after_entry script p (aborted c)).jobs j ≡ slice_get p.jobs j
-  abort_followings c j ne = ap (λ (q : Progress). slice_get q.jobs j) (led_by (Aborted (record { cause = c; records = tx.undo.ended })))
-      ∙ others_follow (following_abort p.entered f (aborted c) c) j ne

@@ -11,11 +11,10 @@ use Rattle.xc_world.specs.World.{World, beginning}
 use Rattle.xc_model.specs.Setting.{Setting}
 use Rattle.xc_model.specs.Progress.{Following, Progress, progress_of}
 use Rattle.xc_model.specs.Played.{HoldsFor}
-use Rattle.xc_model.specs.Stories.{asked_of_tx, StoriesHold, StoryHolds}
-use Rattle.xc_model.specs.Asked.{next_of}
+use Rattle.xc_model.specs.Stories.{StoriesHold, StoryHolds}
 use Rattle.xc_model.specs.Moment.{TxView, JobView, Active, Moment, active_in, active_of, begun_count}
 use Rattle.xc_model.specs.IdleRows.{new_tx}
-use Rattle.xc_model.specs.Movers.{with_tx}
+use Rattle.xc_model.specs.Movers.{asked_at, with_tx}
 use Rattle.xc_flight.specs.Active.{Tx}
 use Rattle.xc_flight.specs.State.{FlightState, InFlight, AreSound, IsIdleSound, begun, turned}
 use Rattle.xc_flight.specs.Turns.{starting}
@@ -53,7 +52,7 @@ flight_at w a unnoted = flight_in w (world_in w a.words a.contents a.started) un
 pub record Flying (s : Setting) (p : Progress) (a : Airfield) : Type 0 where
   pub unnoted : ℕ → List CallWithAnswer
   pub was_asked : (at : ℕ) (job : JobView) (tx : TxView) → slice_get a.jobs at ≡ Some job → active_of job ≡ Some tx
-      → IsUnnoted tx.phase (asked_of_tx s (slice_get p.jobs at) tx) (unnoted at)
+      → IsUnnoted tx.phase (asked_at s job.place) (unnoted at)
   pub flies : InFlight (flight_at p.state.world a unnoted)
   pub sound : AreSound (flight_at p.state.world a unnoted)
   pub idle : (at : ℕ) (job : JobView) → slice_get a.jobs at ≡ Some job → active_of job ≡ None → IsIdleSound p.state.world a.next job.me.places
@@ -61,7 +60,7 @@ pub record Flying (s : Setting) (p : Progress) (a : Airfield) : Type 0 where
   pub live : p.state.world.started ≡ map (λ (job : JobView). job.block) a.jobs
   pub blocks : p.state.world.blocks ≡ s.script.outline.jobs ++ s.script.outline.bodies
   pub holds : (at : ℕ) (job : JobView) (tx : TxView) → slice_get a.jobs at ≡ Some job → active_of job ≡ Some tx
-      → HoldsFor (ran_at p.state.world job.me tx) (asked_of_tx s (slice_get p.jobs at) tx) tx.phase tx.held
+      → HoldsFor (ran_at p.state.world job.me tx) (asked_at s job.place) tx.phase tx.held
 
 -- of a station
 pub flying_of : (s : Setting) (now : Moment) → AreInFlight s now
@@ -69,7 +68,7 @@ pub flying_of : (s : Setting) (now : Moment) → AreInFlight s now
 flying_of s now f =
     record {
       unnoted = f.unnoted;
-      was_asked = λ at job tx there is. f.was_asked at tx (job, there, is);
+      was_asked = f.was_asked;
       flies = f.flies;
       sound = f.sound;
       idle = f.idle;
@@ -86,7 +85,7 @@ pub flying_from : (s : Setting) (now : Moment)
 flying_from s now f =
     record {
       unnoted = f.unnoted;
-      was_asked = λ at tx there. f.was_asked at there.0 tx there.1 there.2;
+      was_asked = f.was_asked;
       flies = f.flies;
       sound = f.sound;
       idle = f.idle;
@@ -111,17 +110,12 @@ follows_at s words now at job told there =
     let f = found_at (progress_of s.script now.journal).jobs at (omega (arith, lt, told.count)) in
     record { following = f.0; at_place = f.1; told = told.jobs_told at f.0 job f.1 there }
 
--- what it is asked depends on its replies alone
-pub asked_same : (s : Setting) (o : Option Following) (a b : TxView) → a.replies ≡ b.replies → asked_of_tx s o a ≡ asked_of_tx s o b
-asked_same s None a b e = refl
-asked_same s (Some f) a b e = ap (next_of s.script f) e
-
 -- ---- a job changes, after the same journal
 -- what is true of the job with its transaction, and with what isn't noted
-pub record Right (s : Setting) (p : Progress) (at : ℕ) (us : List CallWithAnswer) (job : JobView) : Type 0 where
-  pub was_asked : (tx : TxView) → active_of job ≡ Some tx → IsUnnoted tx.phase (asked_of_tx s (slice_get p.jobs at) tx) us
+pub record Right (s : Setting) (p : Progress) (us : List CallWithAnswer) (job : JobView) : Type 0 where
+  pub was_asked : (tx : TxView) → active_of job ≡ Some tx → IsUnnoted tx.phase (asked_at s job.place) us
   pub holds : (tx : TxView) → active_of job ≡ Some tx
-      → HoldsFor (ran_at p.state.world job.me tx) (asked_of_tx s (slice_get p.jobs at) tx) tx.phase tx.held
+      → HoldsFor (ran_at p.state.world job.me tx) (asked_at s job.place) tx.phase tx.held
 
 -- the others, by place
 pub put_cases : (jobs : List JobView) (at : ℕ) (job job' : JobView) (P : ℕ → JobView → Type 0) → slice_get jobs at ≡ Some job → P at job'
@@ -141,20 +135,20 @@ pub changed : (s : Setting) (p : Progress) (words words' : List ℕ) (contents c
     → (f : Flying s p (airfield words contents started jobs next))
     → InFlight (flight_in p.state.world (world_in p.state.world words' contents' started') (put_in f.unnoted at us) (slice_set jobs at job') next')
     → AreSound (flight_in p.state.world (world_in p.state.world words' contents' started') (put_in f.unnoted at us) (slice_set jobs at job') next')
-    → (active_of job' ≡ None → IsIdleSound p.state.world next' job'.me.places) → Right s p at us job'
+    → (active_of job' ≡ None → IsIdleSound p.state.world next' job'.me.places) → Right s p us job'
     → Flying s p (airfield words' contents' started' (slice_set jobs at job') next')
 changed s p words words' contents contents' started started' jobs next next' at us job job' there le me block f flies sound idle right =
     let w = p.state.world in
     let Idle_so : ℕ → JobView → Type 0 = λ j other. active_of other ≡ None → IsIdleSound w next' other.me.places in
     let Holds_so : ℕ → JobView → Type 0 = λ j other. (u : TxView) → active_of other ≡ Some u
-    → HoldsFor (ran_at w other.me u) (asked_of_tx s (slice_get p.jobs j) u) u.phase u.held in
+    → HoldsFor (ran_at w other.me u) (asked_at s other.place) u.phase u.held in
     let Asked_so : ℕ → JobView → Type 0 = λ j other. (u : TxView) → active_of other ≡ Some u
-    → IsUnnoted u.phase (asked_of_tx s (slice_get p.jobs j) u) (put_in f.unnoted at us j) in
+    → IsUnnoted u.phase (asked_at s other.place) (put_in f.unnoted at us j) in
     record {
       unnoted = put_in f.unnoted at us;
       was_asked = λ j other u e a. put_cases jobs at job job' Asked_so there
-          (λ u a. subst (IsUnnoted u.phase (asked_of_tx s (slice_get p.jobs at) u)) (sym (put_here f.unnoted at us)) (right.was_asked u a))
-          (λ j other ne e u a. subst (IsUnnoted u.phase (asked_of_tx s (slice_get p.jobs j) u)) (sym (put_elsewhere f.unnoted at j us ne))
+          (λ u a. subst (IsUnnoted u.phase (asked_at s job'.place)) (sym (put_here f.unnoted at us)) (right.was_asked u a))
+          (λ j other ne e u a. subst (IsUnnoted u.phase (asked_at s other.place)) (sym (put_elsewhere f.unnoted at j us ne))
           (f.was_asked j other u e a)) j other e u a;
       flies = flies;
       sound = sound;
@@ -170,15 +164,15 @@ active_one : (job : JobView) (place : Position) (tx u : TxView) → active_of (w
 active_one job place tx u e = cc e
 
 -- what is true of an active transaction
-pub right_active : (s : Setting) (p : Progress) (at : ℕ) (us : List CallWithAnswer) (job : JobView) (place : Position) (tx : TxView) (busy : ℕ)
-    → IsUnnoted tx.phase (asked_of_tx s (slice_get p.jobs at) tx) us
-    → HoldsFor (ran_at p.state.world job.me tx) (asked_of_tx s (slice_get p.jobs at) tx) tx.phase tx.held
-    → Right s p at us (record (with_tx job place tx) { busy = busy })
-right_active s p at us job place tx busy asked holds =
+pub right_active : (s : Setting) (p : Progress) (us : List CallWithAnswer) (job : JobView) (place : Position) (tx : TxView) (busy : ℕ)
+    → IsUnnoted tx.phase (asked_at s place) us
+    → HoldsFor (ran_at p.state.world job.me tx) (asked_at s place) tx.phase tx.held
+    → Right s p us (record (with_tx job place tx) { busy = busy })
+right_active s p us job place tx busy asked holds =
     let w = p.state.world in
     record {
-      was_asked = λ u e. subst (λ (v : TxView). IsUnnoted v.phase (asked_of_tx s (slice_get p.jobs at) v) us) (active_one job place tx u e) asked;
-      holds = λ u e. subst (λ (v : TxView). HoldsFor (ran_at w job.me v) (asked_of_tx s (slice_get p.jobs at) v) v.phase v.held)
+      was_asked = λ u e. subst (λ (v : TxView). IsUnnoted v.phase (asked_at s place) us) (active_one job place tx u e) asked;
+      holds = λ u e. subst (λ (v : TxView). HoldsFor (ran_at w job.me v) (asked_at s place) v.phase v.held)
           (active_one job place tx u e) holds;
     }
 
@@ -189,8 +183,8 @@ pub flies_on : (s : Setting) (p : Progress) (words words' : List ℕ) (contents 
     → (f : Flying s p (airfield words contents started jobs next))
     → InFlight (turned (flight_in p.state.world (world_in p.state.world words contents started) f.unnoted jobs next) at (Some (flown job.me us tx'))
     (world_in p.state.world words' contents' started'))
-    → IsUnnoted tx'.phase (asked_of_tx s (slice_get p.jobs at) tx') us
-    → HoldsFor (ran_at p.state.world job.me tx') (asked_of_tx s (slice_get p.jobs at) tx') tx'.phase tx'.held
+    → IsUnnoted tx'.phase (asked_at s place) us
+    → HoldsFor (ran_at p.state.world job.me tx') (asked_at s place) tx'.phase tx'.held
     → Flying s p (airfield words' contents' started' (slice_set jobs at (with_tx job place tx')) next)
 flies_on s p words words' contents contents' started started' jobs next at us job place tx tx' there is number f flies asked holds =
     let w = p.state.world in
@@ -204,12 +198,12 @@ flies_on s p words words' contents contents' started started' jobs next at us jo
     changed s p words words' contents contents' started started' jobs next next at us job job' there (omega arith) refl refl f
     (subst (λ active. InFlight (behind active)) (sym put) flies)
     (subst (λ active. AreSound (behind active)) (sym put) sound)
-    (λ none. cc none) (right_active s p at us job place tx' job.busy asked holds)
+    (λ none. cc none) (right_active s p us job place tx' job.busy asked holds)
 
 -- ---- an idle job
 -- what is true of a job without a transaction
-pub right_idle : (s : Setting) (p : Progress) (at : ℕ) (us : List CallWithAnswer) (job : JobView) → active_of job ≡ None → Right s p at us job
-right_idle s p at us job none =
+pub right_idle : (s : Setting) (p : Progress) (us : List CallWithAnswer) (job : JobView) → active_of job ≡ None → Right s p us job
+right_idle s p us job none =
     record {
       was_asked = λ u e. absurd (cc (none, e));
       holds = λ u e. absurd (cc (none, e));
@@ -230,14 +224,15 @@ flies_idle s p words contents started jobs next at job job' there none none' me 
     changed s p words words contents contents started started jobs next next at [] job job' there (omega arith) me block f
     (subst (λ active. InFlight (behind active)) (sym same) f.flies)
     (subst (λ active. AreSound (behind active)) (sym same) f.sound)
-    (λ same. subst (λ (m : Private). IsIdleSound w next m.places) (sym me) (f.idle at job there none)) (right_idle s p at [] job' none')
+    (λ same. subst (λ (m : Private). IsIdleSound w next m.places) (sym me) (f.idle at job there none)) (right_idle s p [] job' none')
 
 -- it does what it did: it passed silent statements, or was told to wait
 pub flies_waiting : (s : Setting) (p : Progress) (words : List ℕ) (contents : Contents) (started : List (List ℕ)) (jobs : List JobView)
     (next at : ℕ) (job job' : JobView)
     → slice_get jobs at ≡ Some job → job'.doing ≡ job.doing → job'.me ≡ job.me → job'.block ≡ job.block
+    → asked_at s job'.place ≡ asked_at s job.place
     → Flying s p (airfield words contents started jobs next) → Flying s p (airfield words contents started (slice_set jobs at job') next)
-flies_waiting s p words contents started jobs next at job job' there doing me block f =
+flies_waiting s p words contents started jobs next at job job' there doing me block still f =
     let w = p.state.world in
     let us = f.unnoted at in
     let same : flown_jobs (put_in f.unnoted at us) (slice_set jobs at job') ≡ flown_jobs f.unnoted jobs =
@@ -250,9 +245,9 @@ flies_waiting s p words contents started jobs next at job job' there doing me bl
     (subst (λ active. AreSound (behind active)) (sym same) f.sound)
     (λ none. subst (λ (m : Private). IsIdleSound w next m.places) (sym me) (f.idle at job there (was None none)))
     (record {
-      was_asked = λ u e. f.was_asked at job u there (was (Some u) e);
-      holds = λ u e. subst (λ (m : Private). HoldsFor (ran_at w m u) (asked_of_tx s (slice_get p.jobs at) u) u.phase u.held) (sym me)
-          (f.holds at job u there (was (Some u) e));
+      was_asked = λ u e. subst (λ a. IsUnnoted u.phase a us) (sym still) (f.was_asked at job u there (was (Some u) e));
+      holds = λ u e. subst (λ (m : Private). HoldsFor (ran_at w m u) (asked_at s job'.place) u.phase u.held) (sym me)
+          (subst (λ a. HoldsFor (ran_at w job.me u) a u.phase u.held) (sym still) (f.holds at job u there (was (Some u) e)));
     })
 
 -- its next transaction begins
@@ -278,4 +273,4 @@ begins_next s p words contents started jobs next at job place rank began there n
     changed s p words words contents contents started started jobs next (next + 1) at [] job job' there (omega arith) refl refl f
     (subst (λ active. InFlight (behind active)) (sym put) flies)
     (subst (λ active. AreSound (behind active)) (sym put) sound)
-    (λ none. cc none) (right_active s p at [] job place tx 0 tt refl)
+    (λ none. cc none) (right_active s p [] job place tx 0 tt refl)

@@ -13,14 +13,14 @@ use Rattle.xc_compensate.specs.Records.{Records}
 use Rattle.xc_host.specs.Contents.{Contents}
 use Rattle.xc_host.specs.Kept.{with_kept}
 use Rattle.xc_script.specs.Asking.{asks}
-use Rattle.xc_script.specs.Blocks.{BlockWalk, block_from}
+use Rattle.xc_script.specs.Blocks.{block_from}
 use Rattle.xc_script.specs.Position.{Position}
 use Rattle.xc_txmem.specs.Overlay.{overlaid}
 use Rattle.xc_data.specs.declared.entry.Mark.{Mark}
 use Rattle.xc_model.specs.declared.phase.Phase.TheVariants.{Running, Committing, Undoing, Backing}
 use Rattle.xc_model.specs.Setting.{Setting}
 use Rattle.xc_model.specs.Progress.{Progress, progress_of, after_entry}
-use Rattle.xc_model.specs.Stories.{asked_of_tx, StoriesHold, IsAboveSave, IsBacking, IsCommitting, IsDoing, IsInPhase, IsRunning, IsUnderway}
+use Rattle.xc_model.specs.Stories.{StoriesHold, IsAboveSave, IsBacking, IsCommitting, IsDoing, IsInPhase, IsUnderway}
 use Rattle.xc_model.specs.Moment.{TxView, SavedView, JobView, Doing, Active, Moment, active_in, active_of, actives, begun_count, entering, late_left, rank_of}
 use Rattle.xc_model.specs.Moment.{revoked, with_job}
 use Rattle.xc_model.specs.Movers.{asked_at, with_tx}
@@ -42,7 +42,7 @@ use Rattle.xc_refines.proofs.TurnEnters.{commit_lands, entry_lands}
 use Rattle.xc_refines.proofs.Grown.{idle_actives, started_new, started_their_blocks}
 use Rattle.xc_refines.proofs.StartedWorld.{starts_there}
 use Rattle.xc_refines.proofs.TurnLate.{host_late, late_lands}
-use Rattle.xc_refines.proofs.TurnLed.{led-more, commit_world, commit_handles, commit_followings, abort_world, abort_handles, abort_followings}
+use Rattle.xc_refines.proofs.TurnLed.{led-more, commit_world, commit_handles, abort_world, abort_handles}
 use Rattle.xc_data.proofs.Laws.{picked_set, ones}
 use Rattle.std.proofs.Common.{append-nil}
 use Rattle.xc_data.specs.declared.call.LateCall.TheVariants.{Thread}
@@ -130,11 +130,11 @@ module _ (s : Setting) (old : Moment) (at : ℕ) (job : JobView) (there : slice_
 
   -- a job is told to wait
   pub row_waits : (new : Moment) (job' : JobView) → job'.doing ≡ job.doing → job'.me ≡ job.me → job'.block ≡ job.block
-      → new ≡ record old { jobs = slice_set old.jobs at job'; marks = new.marks } → AreInFlight s new
-  row_waits new job' doing me block is =
+      → asked_at s job'.place ≡ asked_at s job.place → new ≡ record old { jobs = slice_set old.jobs at job'; marks = new.marks } → AreInFlight s new
+  row_waits new job' doing me block still is =
       subst (AreInFlight s) (sym is) (row_kept s old (record old { jobs = slice_set old.jobs at job'; marks = new.marks }) at job job' there
       (ap (λ d. ones (active_in d)) doing) refl refl
-      (flies_waiting s before old.words old.contents old.started old.jobs (begun_count old + 1) at job job' there doing me block f))
+      (flies_waiting s before old.words old.contents old.started old.jobs (begun_count old + 1) at job job' there doing me block still f))
 
   -- ---- an active transaction
   module _ (tx : TxView) (doing : job.doing ≡ Active tx) where
@@ -146,11 +146,6 @@ module _ (s : Setting) (old : Moment) (at : ℕ) (job : JobView) (there : slice_
 
     underway : IsUnderway s follows.following job.place tx
     underway = subst (IsDoing s (begun_count old) follows.following job) doing follows.told.doing
-
-    asked_here : tx.phase ≡ Running → asked_of_tx s (slice_get before.jobs at) tx ≡ asked_at s job.place
-    asked_here runs =
-        let running : IsRunning s follows.following job.place tx = subst (IsInPhase s follows.following job.place tx) runs underway.phase in
-        ap (λ o. asked_of_tx s o tx) follows.at_place ∙ ap (λ (b : BlockWalk). asks b.walk) (sym running.ahead)
 
     as_new : (new : Moment) (jobs : List JobView) → new.words ≡ old.words → new.started ≡ old.started
         → Flying s before (airfield old.words new.contents old.started jobs (begun_count old + 1))
@@ -258,8 +253,8 @@ module _ (s : Setting) (old : Moment) (at : ℕ) (job : JobView) (there : slice_
         let next : TxView = wanting tx row.left row.held in
         kept new row.place next (ap (λ (n : Moment). n.journal) row.behind) (ap (λ (n : Moment). n.jobs) row.behind)
         (as_new new (slice_set old.jobs at (with_tx job row.place next)) (ap (λ (n : Moment). n.words) row.behind) (ap (λ (n : Moment). n.started) row.behind)
-        (wants_so s before old new (begun_count old + 1) at job row.place tx there doing f runs (asked_here runs) (asked_at s job.place) row.left row.held refl
-        row.holds (row.contents tells)))
+        (wants_so s before old new (begun_count old + 1) at job row.place tx there doing f runs (ap asks row.same.walk) (asked_at s job.place) row.left row.held
+        refl row.holds (row.contents tells)))
 
     -- a record is tried
     pub row_compensates : (new : Moment) (c : Cause) → IsTrue s.tells → tx.phase ≡ Undoing c → Compensates (mover s at old job) tx new → AreInFlight s new
@@ -269,7 +264,7 @@ module _ (s : Setting) (old : Moment) (at : ℕ) (job : JobView) (there : slice_
         (as_new new (slice_set old.jobs at (with_tx job job.place tx')) (ap (λ (n : Moment). n.words) row.behind) (ap (λ (n : Moment). n.started) row.behind)
         (tried_keeps s before old.words old.contents old.started old.jobs (begun_count old + 1) at job job.place tx there doing f c row.older row.tried
         row.end new.contents
-        undoes row.newest row.legal (row.effect tells)))
+        undoes row.newest row.legal (row.effect tells) refl))
 
     committing : tx.phase ≡ Committing → IsCommitting s follows.following job.place tx
     committing commits = subst (IsInPhase s follows.following job.place tx) commits underway.phase
@@ -282,7 +277,7 @@ module _ (s : Setting) (old : Moment) (at : ℕ) (job : JobView) (there : slice_
         let done = host_late before.state.world old.words old.contents new.contents old.started call row.end (row.does tells) in
         kept new job.place tx' (ap (λ (n : Moment). n.journal) row.behind) (ap (λ (n : Moment). n.jobs) row.behind)
         (as_new new (slice_set old.jobs at (with_tx job job.place tx')) (ap (λ (n : Moment). n.words) row.behind) (ap (λ (n : Moment). n.started) row.behind)
-        (late_lands s before old.words old.contents new.contents old.started old.started old.jobs (begun_count old + 1) at job job.place tx there
+        (late_lands s before old.words old.contents new.contents old.started old.started old.jobs (begun_count old + 1) at job tx there
         doing commits f
         call row.end done.0 done.1 calls left (committing commits).few_ends))
 
@@ -295,7 +290,7 @@ module _ (s : Setting) (old : Moment) (at : ℕ) (job : JobView) (there : slice_
         let next = begun_count old + 1 in
         let now = world_in before.state.world old.words old.contents old.started in
         let done = starts_there s.script now block f.blocks row.end new.started row.starts in
-        let flown = late_lands s before old.words old.contents old.contents old.started new.started old.jobs next at job job.place tx there doing commits f
+        let flown = late_lands s before old.words old.contents old.contents old.started new.started old.jobs next at job tx there doing commits f
         (Thread block) row.end done.fits done.step calls left (committing commits).few_ends in
         kept new job.place tx' (ap (λ (n : Moment). n.journal) row.behind) (ap (λ (n : Moment). n.jobs) row.behind)
         (subst (λ ws. Flying s before (airfield ws new.contents new.started jobs next)) (sym (ap (λ (n : Moment). n.words) row.behind))
@@ -330,13 +325,11 @@ module _ (s : Setting) (old : Moment) (at : ℕ) (job : JobView) (there : slice_
         let blocks = started_late tx.late tx.ends in
         let more = started_jobs s.script job tx in
         let me = (f.flies.flights at (flown job.me (f.unnoted at) tx) (flown_there f.unnoted old.jobs at job tx there doing)).inside.me in
-        let many = told.count in
         entered_so job' e old.contents old.kept more refl (idle_actives job'.me.places (slice_set old.jobs at job') more (started_new s.script job' blocks))
         (entry_lands s before (after_entry s.script before e) old.words old.contents old.contents old.started old.jobs more next at job job' there refl f
         (commit_lands s before old.words old.contents old.started old.jobs next at job tx there doing f (after_entry s.script before e) job' more commits done
         (commit_world s.script before g old.jobs at job tx there follows.at_place fresh f.handles (f.unnoted at))
-        (commit_handles s.script before g old.jobs at job tx there follows.at_place fresh f.handles job' underway.kept.0 me refl)
-        (λ j ne low. commit_followings s.script before g old.jobs at job tx there follows.at_place fresh f.handles j ne (omega (arith, low, many))) refl refl
+        (commit_handles s.script before g old.jobs at job tx there follows.at_place fresh f.handles job' underway.kept.0 me refl) refl refl
         (started_their_blocks s.script job' blocks) (started_new s.script job' blocks)))
 
     -- of an abort
@@ -359,6 +352,5 @@ module _ (s : Setting) (old : Moment) (at : ℕ) (job : JobView) (there : slice_
         there back.none f
         (abort_lands s before old.words old.contents old.started old.jobs next at job tx c there doing undoes none f (after_entry s.script before e) job'
         (abort_world s.script before g old.jobs at job tx there follows.at_place fresh f.handles (f.unnoted at) c)
-        (abort_handles s.script before g old.jobs at job tx there follows.at_place fresh f.handles c job' back.me)
-        (abort_followings s.script before g old.jobs at job tx there follows.at_place fresh f.handles c) back.me back.block
+        (abort_handles s.script before g old.jobs at job tx there follows.at_place fresh f.handles c job' back.me) back.me back.block
         (λ j other at_j. (follows_at s (length old.words) old j other told at_j).told.fresh))))

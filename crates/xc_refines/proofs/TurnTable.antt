@@ -10,6 +10,7 @@ use Rattle.xc_data.specs.declared.entry.Turn.TheVariants as turn
 use Rattle.xc_data.specs.declared.undo.Undo.{Undo}
 use Rattle.xc_script.specs.declared.ask.Ask.{Ask}
 use Rattle.xc_script.specs.declared.ask.Ask.TheVariants as ask
+use Rattle.xc_script.specs.Asking.{asks}
 use Rattle.xc_data.specs.declared.entry.Mark.{Mark}
 use Rattle.xc_model.specs.declared.phase.Phase.{Phase}
 use Rattle.xc_model.specs.declared.phase.Phase.TheVariants.{Running, Committing, Undoing, Backing}
@@ -44,7 +45,7 @@ module _ (s : Setting) (old : Moment) (at : ℕ) (job : JobView) (there : slice_
   idle_flies (turn.Ended end) doing row = subst (AreInFlight s) (sym row.1) (row_ends s old at job there told flying (Ended end) (ap active_in doing) refl)
   idle_flies turn.Went doing row = subst (AreInFlight s) (sym row.1) (row_begins s old at job there told flying (ap active_in doing))
   idle_flies (turn.Busy object number) doing row =
-      row_waits s old at job there told flying new (asked_to_wait job) refl refl refl (waits_only old new at (asked_to_wait job) old.marks row.1)
+      row_waits s old at job there told flying new (asked_to_wait job) refl refl refl refl (waits_only old new at (asked_to_wait job) old.marks row.1)
   idle_flies turn.NoMemory doing row = absurd row
 
   starved_flies : (answer : Turn) → job.doing ≡ Starved → StarvedTurn (mover s at old job) answer new → AreInFlight s new
@@ -73,7 +74,7 @@ module _ (s : Setting) (old : Moment) (at : ℕ) (job : JobView) (there : slice_
     running_flies turn.Went runs row = asked_flies _ runs row
     running_flies turn.NoMemory runs row = row_wants s old at job there told flying tx doing new tells runs row
     running_flies (turn.Busy object holder) runs row =
-        row_waits s old at job there told flying new (asked_to_wait (with_tx job row.place tx)) (sym doing) refl refl
+        row_waits s old at job there told flying new (asked_to_wait (with_tx job row.place tx)) (sym doing) refl refl (ap asks row.same.walk)
         (waits_only old new at (asked_to_wait (with_tx job row.place tx)) _ row.behind)
     running_flies (turn.Ended end) runs row = absurd row
 

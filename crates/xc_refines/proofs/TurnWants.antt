@@ -21,7 +21,6 @@ use Rattle.xc_model.specs.declared.phase.Phase.TheVariants.{Running, Undoing}
 use Rattle.xc_model.specs.Setting.{Setting}
 use Rattle.xc_model.specs.Progress.{Progress}
 use Rattle.xc_model.specs.Played.{HoldsFor}
-use Rattle.xc_model.specs.Stories.{asked_of_tx}
 use Rattle.xc_model.specs.EntryEnds.{IsPartOf, next_claims}
 use Rattle.xc_model.specs.Moment.{TxView, JobView, Active, Moment, active_in}
 use Rattle.xc_model.specs.PlainSteps.{LeavesAsPlain, IsLeft, claims_at, tx_parts, contents_seen, wanting}
@@ -39,7 +38,7 @@ use Rattle.xc_refines.proofs.FlownLists.{flown_there, none_unnoted}
 use Rattle.xc_refines.proofs.TurnBack.{back_keeps}
 use Rattle.xc_refines.proofs.TurnCalls.{holding-more}
 use Rattle.xc_data.proofs.Laws.{put_at}
-use Rattle.xc_refines.proofs.TurnParts.{Flying, world_in, flight_in, asked_same, flies_on, airfield}
+use Rattle.xc_refines.proofs.TurnParts.{Flying, world_in, flight_in, flies_on, airfield}
 use Rattle.xc_refines.proofs.TurnRivals.{no_rivals}
 
 part_itself : {A : Type 0} (xs : List A) → IsPartOf xs xs
@@ -72,7 +71,7 @@ module _ (s : Setting) (p : Progress) (words : List ℕ) (contents : Contents) (
   ran = ran_at p.state.world job.me tx
 
   abbrev asked_next : Ask
-  asked_next = asked_of_tx s (slice_get p.jobs at) tx
+  asked_next = asked_at s job.place
 
   active : IsActive flight_now at tx_flown
   active = flown_there f.unnoted jobs at job tx there doing
@@ -84,7 +83,7 @@ module _ (s : Setting) (p : Progress) (words : List ℕ) (contents : Contents) (
   held_so = subst (λ ph. HoldsFor ran asked_next ph tx.held) runs (f.holds at job tx there (ap active_in doing))
 
   -- ---- after the claims of the call that is asked
-  module _ (c : Call) (asks : asked_next ≡ ask.Call c) (alone : All (HasNoRival jobs at) (claims_of c tx.me (length words))) where
+  module _ (c : Call) (asks : asked_at s place ≡ ask.Call c) (alone : All (HasNoRival jobs at) (claims_of c tx.me (length words))) where
     abbrev claims : List Claim
     claims = claims_of c tx.me (length words)
 
@@ -122,19 +121,18 @@ module _ (s : Setting) (p : Progress) (words : List ℕ) (contents : Contents) (
       abbrev wanter : TxView
       wanter = wanting tx left all_held
 
-      wanter_holds : HoldsFor ran (asked_of_tx s (slice_get p.jobs at) wanter) (Undoing cause.NoMemory) all_held
+      wanter_holds : HoldsFor ran (asked_at s place) (Undoing cause.NoMemory) all_held
       wanter_holds =
           let me : ran.me ≡ tx.me = (f.flies.flights at tx_flown active).inside.me in
           let many : length ran.world.words ≡ length words =
           (body_keeps p.state.world job.me tx.number (asked_of tx.calls tx.replies)).count ∙ sym f.flies.count in
           let touches : claims ≡ claims_of c ran.me (length ran.world.words) = λ i. claims_of c (sym me i) (sym many i) in
-          let wanted : claims ≡ next_claims ran (asked_of_tx s (slice_get p.jobs at) wanter) =
-          touches ∙ ap (next_claims ran) (sym asks ∙ asked_same s (slice_get p.jobs at) tx wanter refl) in
+          let wanted : claims ≡ next_claims ran (asked_at s place) = touches ∙ ap (next_claims ran) (sym asks) in
           (claims, subst (IsPartOf claims) wanted (part_itself claims), ap (λ l. holding l claims) held_so ∙ holding-more ran.touched claims)
 
       wanter_keeps : (us : List CallWithAnswer) (contents' : Contents)
           → InFlight (turned flight_now at (Some (flown job.me us wanter)) (world_in p.state.world words contents' started))
-          → IsUnnoted (Undoing cause.NoMemory) (asked_of_tx s (slice_get p.jobs at) wanter) us
+          → IsUnnoted (Undoing cause.NoMemory) (asked_at s place) us
           → Flying s p (airfield words contents' started (slice_set jobs at (with_tx job place wanter)) next)
       wanter_keeps us contents' flies was =
           flies_on s p words words contents contents' started started jobs next at us job place tx wanter there doing refl f flies was wanter_holds
@@ -146,7 +144,7 @@ module _ (s : Setting) (p : Progress) (words : List ℕ) (contents : Contents) (
         (subst (λ us. InFlight (turned flight_now at (Some (flown job.me (f.unnoted at)
         (record tx { phase = Undoing cause.NoMemory; undo = record tx.undo { pending = us }; held = all_held }))) flight_now.now))
         (sym (append-nil tx.undo.pending)) left_nothing)
-        (none_unnoted (Undoing cause.NoMemory) (asked_of_tx s (slice_get p.jobs at) (wanting tx [] all_held)) (f.unnoted at)
+        (none_unnoted (Undoing cause.NoMemory) (asked_at s place) (f.unnoted at)
         (is_running flight_now at tx_flown f.flies active running).all_noted)
 
     -- the call did its part, with this answer, and these records are left
@@ -184,14 +182,14 @@ module _ (s : Setting) (p : Progress) (words : List ℕ) (contents : Contents) (
           wanter_keeps left (asked_last ∷ []) contents'
           (subst (λ v. InFlight (turned flight_now at (Some (flown job.me (asked_last ∷ []) wanter)) v)) part_there
           (subst (λ t. InFlight (turned flight_now at (Some t) (after_call mid.now claimant asked_last))) wanter_is did_part))
-          (subst (λ a. IsUnnoted (Undoing cause.NoMemory) a (asked_last ∷ [])) (sym asks ∙ asked_same s (slice_get p.jobs at) tx wanter refl)
+          (subst (λ a. IsUnnoted (Undoing cause.NoMemory) a (asked_last ∷ [])) (sym asks)
           (refl, does.ahead))
 
 -- ---- whatever it left
 module _ (s : Setting) (p : Progress) (old new : Moment) (next at : ℕ) (job : JobView) (place : Position) (tx : TxView)
     (there : slice_get old.jobs at ≡ Some job)
     (doing : job.doing ≡ Active tx) (f : Flying s p (airfield old.words old.contents old.started old.jobs next)) (runs : tx.phase ≡ Running)
-    (asks : asked_of_tx s (slice_get p.jobs at) tx ≡ asked_at s job.place) where
+    (still : asked_at s place ≡ asked_at s job.place) where
   abbrev Wanting : List Undo → List Claim → Contents → Type 0
   Wanting left held contents = Flying s p (airfield old.words contents old.started (slice_set old.jobs at (with_tx job place (wanting tx left held))) next)
 
@@ -224,11 +222,11 @@ module _ (s : Setting) (p : Progress) (old new : Moment) (next at : ℕ) (job : 
       subst (Wanting left held) (sym none.1)
       (subst (λ h. Wanting left h old.contents) (sym more.1)
       (subst (λ us. Wanting us (holding tx.held (claims_at old tx c)) old.contents) (sym none.0)
-      (wants_claims_keeps s p old.words old.contents old.started old.jobs next at job place tx there doing f runs c (asks ∙ asked) more.0)))
+      (wants_claims_keeps s p old.words old.contents old.started old.jobs next at job place tx there doing f runs c (still ∙ asked) more.0)))
   wants_so (ask.Call c) left held asked (inr more) (inr (answer, does)) =
       subst (λ h. Wanting left h new.contents) (sym more.1)
-      (wants_part_keeps s p old.words old.contents old.started old.jobs next at job place tx there doing f runs c (asks ∙ asked) more.0 left answer new.contents
-      (does (record p.state.world { words = old.words; started = old.started }) refl))
+      (wants_part_keeps s p old.words old.contents old.started old.jobs next at job place tx there doing f runs c (still ∙ asked) more.0 left answer
+      new.contents (does (record p.state.world { words = old.words; started = old.started }) refl))
   wants_so ask.Commit left held asked same leaves = wants_same ask.Commit left held asked same leaves
   wants_so ask.Abort left held asked same leaves = wants_same ask.Abort left held asked same leaves
   wants_so ask.End left held asked same leaves = wants_same ask.End left held asked same leaves

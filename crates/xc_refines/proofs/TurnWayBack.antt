@@ -23,9 +23,8 @@ use Rattle.xc_model.specs.declared.phase.Phase.TheVariants.{Running, Backing}
 use Rattle.xc_model.specs.Setting.{Setting}
 use Rattle.xc_model.specs.Progress.{Progress}
 use Rattle.xc_model.specs.Played.{HoldsFor}
-use Rattle.xc_model.specs.Stories.{asked_of_tx}
 use Rattle.xc_model.specs.Moment.{TxView, SavedView, JobView, Active, active_in}
-use Rattle.xc_model.specs.Movers.{with_tx}
+use Rattle.xc_model.specs.Movers.{asked_at, with_tx}
 use Rattle.xc_model.specs.BackingRows.{phase_after, backed}
 use Rattle.xc_flight.specs.Active.{Tx, Own}
 use Rattle.xc_flight.specs.Active as flight
@@ -79,11 +78,11 @@ module _ (s : Setting) (p : Progress) (words : List ℕ) (contents : Contents) (
   flown_back = ap flown_phase backing
 
   held : tx.held ≡ held_of ran.touched
-  held = subst (λ ph. HoldsFor ran (asked_of_tx s (slice_get p.jobs at) tx) ph tx.held) backing (f.holds at job tx there (ap active_in doing))
+  held = subst (λ ph. HoldsFor ran (asked_at s job.place) ph tx.held) backing (f.holds at job tx there (ap active_in doing))
 
   noted : f.unnoted at ≡ []
-  noted = backing_noted (asked_of_tx s (slice_get p.jobs at) tx) (f.unnoted at)
-      (subst (λ ph. IsUnnoted ph (asked_of_tx s (slice_get p.jobs at) tx) (f.unnoted at)) backing (f.was_asked at job tx there (ap active_in doing)))
+  noted = backing_noted (asked_at s job.place) (f.unnoted at)
+      (subst (λ ph. IsUnnoted ph (asked_at s job.place) (f.unnoted at)) backing (f.was_asked at job tx there (ap active_in doing)))
 
   -- a mark cuts it short
   pub cut_keeps : (ph : Phase) → flown_phase ph ≡ flight.Undoing
@@ -92,7 +91,7 @@ module _ (s : Setting) (p : Progress) (words : List ℕ) (contents : Contents) (
       let tx' : TxView = record tx { phase = ph } in
       let t' = flown job.me (f.unnoted at) tx' in
       let same : tx_flown ≡ t' = λ i. record tx_flown { phase = (flown_back ∙ sym undoes) i } in
-      let a = asked_of_tx s (slice_get p.jobs at) tx' in
+      let a = asked_at s place in
       flies_on s p words words contents contents started started jobs next at (f.unnoted at) job place tx tx' there doing refl f
       (flight_goes_on flight_now at tx_flown t' flight_now.now f.flies active refl refl (keeps_itself (Own tx_flown) flight_now.now)
       (subst (Flight flight_now.state flight_now.now) same (f.flies.flights at tx_flown active)))
@@ -115,7 +114,7 @@ module _ (s : Setting) (p : Progress) (words : List ℕ) (contents : Contents) (
       (record { all = f.flies; active = active; phase = flown_back }) sound made newest s.rules.undo_tries legal in
       let leads : undone_to flight_now.now u end ≡ world_in w words contents' started =
       undone_in flight_now.now u end ∙ ap (λ cs. world_in w words cs started) (sym effect) in
-      let a = asked_of_tx s (slice_get p.jobs at) tx' in
+      let a = asked_at s place in
       flies_on s p words words contents contents' started started jobs next at (f.unnoted at) job place tx tx' there doing refl f
       (subst (λ v. InFlight (turned flight_now at (Some (flown job.me (f.unnoted at) tx')) v)) leads
       (subst (λ ph. InFlight (turned flight_now at (Some (record (flown job.me (f.unnoted at) tx') { phase = ph })) (undone_to flight_now.now u end)))
@@ -144,5 +143,5 @@ module _ (s : Setting) (p : Progress) (words : List ℕ) (contents : Contents) (
       flies_on s p words words contents contents' started started jobs next at us job place tx tx' there doing refl f
       (subst (λ v. InFlight (turned flight_now at (Some (flown job.me us tx')) v)) leads
       (subst (λ t. InFlight (turned flight_now at (Some t) (given_back flight_now.now items))) becomes done))
-      (none_unnoted Running (asked_of_tx s (slice_get p.jobs at) tx') us noted)
+      (none_unnoted Running (asked_at s place) us noted)
       (held ∙ ap held_of (sym touched))

@@ -18,9 +18,8 @@ use Rattle.xc_model.specs.declared.phase.Phase.TheVariants as phase
 use Rattle.xc_model.specs.Setting.{Setting}
 use Rattle.xc_model.specs.Progress.{progress_of}
 use Rattle.xc_model.specs.Played.{HoldsFor}
-use Rattle.xc_model.specs.Stories.{asked_of_tx}
 use Rattle.xc_model.specs.Moment.{TxView, SavedView, JobView, Doing, Active, Moment, active_of, begun_count}
-use Rattle.xc_model.specs.Movers.{IsActiveAt}
+use Rattle.xc_model.specs.Movers.{asked_at}
 use Rattle.xc_flight.specs.Active.{Tx, Saved, Phase, Running, Committing, Undoing}
 use Rattle.xc_flight.specs.State.{FlightState, InFlight, AreSound, IsIdleSound}
 
@@ -109,8 +108,8 @@ IsEmptyNew w _ = Unit {0}
 pub record AreInFlight (s : Setting) (now : Moment) : Type 0 where
   -- what isn't noted, by the places of jobs: at most a call that was asked
   pub unnoted : ℕ → List CallWithAnswer
-  pub was_asked : (at : ℕ) (tx : TxView) → IsActiveAt now.jobs at tx
-      → IsUnnoted tx.phase (asked_of_tx s (slice_get (progress_of s.script now.journal).jobs at) tx) (unnoted at)
+  pub was_asked : (at : ℕ) (job : JobView) (tx : TxView) → slice_get now.jobs at ≡ Some job → active_of job ≡ Some tx
+      → IsUnnoted tx.phase (asked_at s job.place) (unnoted at)
   pub flies : InFlight (flight_state s now unnoted)
   -- the world is sound for each active transaction, and for the next one of each other job
   pub sound : AreSound (flight_state s now unnoted)
@@ -123,5 +122,4 @@ pub record AreInFlight (s : Setting) (now : Moment) : Type 0 where
   pub blocks : (state_of s now).world.blocks ≡ s.script.outline.jobs ++ s.script.outline.bodies
   -- each active one holds what its calls claimed, in the order in which they did
   pub holds : (at : ℕ) (job : JobView) (tx : TxView) → slice_get now.jobs at ≡ Some job → active_of job ≡ Some tx
-      → HoldsFor (ran_at (state_of s now).world job.me tx) (asked_of_tx s (slice_get (progress_of s.script now.journal).jobs at) tx)
-      tx.phase tx.held
+      → HoldsFor (ran_at (state_of s now).world job.me tx) (asked_at s job.place) tx.phase tx.held

@@ -19,7 +19,7 @@ ghost use Rattle.xc_model.specs.Setting.{Setting};
 ghost use Rattle.xc_model.specs.Progress.{progress_of};
 ghost use Rattle.xc_model.specs.Moment.{TxView, JobView, Moment, late_left};
 ghost use Rattle.xc_model.specs.Rivals.{HasNoRival};
-ghost use Rattle.xc_model.specs.Movers.{IsActiveAt};
+ghost use Rattle.xc_model.specs.Movers.{IsActiveAt, asked_at};
 ghost use Rattle.xc_model.specs.PlainSteps.{claims_at};
 ghost use Rattle.xc_model.specs.Stories.{StoriesHold};
 ghost use Rattle.xc_model.specs.Consistent.{AreLinesOf};
@@ -34,7 +34,8 @@ ghost use Rattle.xc_deferred.specs.Does.{IsThereFor};
 pub fn what_is_noted_was_played()
     ensures { (s : Setting) (now : Moment) (at : ℕ) (tx : TxView) → StoriesHold s (length now.words) now.marks now.journal now.jobs
         → AreInFlight s now
-        → IsActiveAt now.jobs at tx → IsPlayedSoFar s (length now.words) (progress_of s.script now.journal) at tx }
+        → (is : IsActiveAt now.jobs at tx)
+        → IsPlayedSoFar (asked_at s is.0.place) (length now.words) (progress_of s.script now.journal) at tx }
 {}
 
 /// The files that a running transaction has open are there, within their limit, whoever holds them.
@@ -84,7 +85,7 @@ pub fn nobody_took_from_what_is_undone()
 {}
 
 /// What the newest record without an end of an undoing transaction tells of is at the host as the record left it, if
-/// nothing stands in its way.
+/// nothing blocks it.
 pub fn the_next_record_is_covered()
     ensures { (s : Setting) (now : Moment) (at : ℕ) (tx : TxView) (c : Cause)
         → StoriesHold s (length now.words) now.marks now.journal now.jobs

@@ -150,12 +150,13 @@ sum_parts : (a b : ℕ) → a + b ≡ 0 → (a ≡ 0) × (b ≡ 0)
 sum_parts a b h = (omega arith, omega arith)
 
 -- an entry that was settled without a fault, where no late call wanted memory, is the plain machine's
-pub same_entry : (s : Setting) (p : Progress) (f : Following) (e : Entry) (place : ℕ) → IsEntry s p f e → IsTrue s.tells
+pub same_entry : (s : Setting) (p : Progress) (f : Following) (last : Ask) (e : Entry) (place : ℕ) → IsEntry s p f last e → IsTrue s.tells
     → 1 ≤ s.rules.undo_tries → e.tx ≡ place + 1 → e.began ≡ place → f.first ≡ None → entry_faults e ≡ 0
     → has_memory_end e.outcome ≡ false → is_final e.outcome ≡ true → e ≡ entry_at s.script place p e.job f
-same_entry s p f e place told tells tries tx began first faults starved settled =
-    let story = told.story in
-    let played = told.played tells in
+same_entry s p f last e place told tells tries tx began first faults starved settled =
+    let is : IsEntry s p f (next_of s.script f e.replies) e = subst (λ (a : Ask). IsEntry s p f a e) told.story.after told in
+    let story = is.story in
+    let played = is.played tells in
     let next = next_of s.script f e.replies in
     let begin = block_from s.script f.job in
     let me = private_of p.state e.job in

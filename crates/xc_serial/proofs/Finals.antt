@@ -180,13 +180,14 @@ record IsFed (s : Setting) (entries : List Entry) (final : Final) : Type 0 where
 is_fed : (s : Setting) (entries : List Entry) (final : Final) → 1 ≤ s.rules.attempts → IsTrueEnd s entries final
     → all_alone entries ≡ true → wanted_memory final.lines entries ≡ false → IsFed s entries final
 is_fed s entries final some whole alone fed =
-    let told = (joint_of_parts s entries whole.journal).entries in
+    let joint = joint_of_parts s entries whole.journal in
+    let told = joint.entries in
     let opening = opening_progress s.script in
     let parts = or_parts (list_any is_starved final.lines) (some_late_starved entries) fed in
     let jobs = (progress_of s.script entries).jobs in
     let go = all_go_on s (length entries) jobs final.lines whole.ends parts.0 in
-    let settled = all_are_settled entries alone (all_go s opening entries told go).1 in
-    let untried = untried_all s opening entries told settled (untried_opening s.script s.script.outline.jobs) in
+    let settled = all_are_settled entries alone (all_go s opening joint.lasts entries told go).1 in
+    let untried = untried_all s opening joint.lasts entries told settled (untried_opening s.script s.script.outline.jobs) in
     record { settled = settled; late = parts.1; ends = plain_are s (length entries) jobs final.lines some untried whole.ends parts.0 }
 
 -- the journal is the plain one
@@ -195,11 +196,12 @@ same_entries : (s : Setting) (entries : List Entry) (final : Final) → IsTrue s
     → entries ≡ plain_journal s.script
 same_entries s entries final tells tries whole serial stop faults fed =
     let opening = opening_progress s.script in
-    let told = (joint_of_parts s entries whole.journal).entries in
+    let joint = joint_of_parts s entries whole.journal in
+    let told = joint.entries in
     let jobs = (progress_of s.script entries).jobs in
-    let next = are_next s opening 10000 entries told (rise entries serial.jobs)
+    let next = are_next s opening 10000 joint.lasts entries told (rise entries serial.jobs)
     (over_before s (length entries) jobs final.lines entries fed.ends stop) (all_over s (length entries) jobs final.lines fed.ends) in
-    same_journal s opening 0 10000 entries told tells tries serial.order faults fed.late fed.settled
+    same_journal s opening 0 10000 joint.lasts entries told tells tries serial.order faults fed.late fed.settled
     (untried_opening s.script s.script.outline.jobs) whole.few next
 
 -- where no attempt met another, no job found the journal full and nothing wanted memory, each job ended by its last transaction

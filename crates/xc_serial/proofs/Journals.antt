@@ -12,6 +12,7 @@ use Rattle.xc_data.specs.declared.entry.Cause.TheVariants as cause
 use Rattle.xc_data.specs.declared.entry.Entry.{Entry}
 use Rattle.xc_data.specs.declared.entry.Outcome.{Outcome}
 use Rattle.xc_data.specs.declared.entry.Outcome.TheVariants.{Committed, Aborted}
+use Rattle.xc_script.specs.declared.ask.Ask.{Ask}
 use Rattle.xc_script.specs.Ask.{Job, next_body}
 use Rattle.xc_script.specs.Blocks.{kept_calls}
 use Rattle.xc_model.specs.Ending.{has_memory_end, some_late_starved}
@@ -73,12 +74,13 @@ untried_after script p f e started settled all =
     subst (λ o. AreUntried (after_following script p e o).jobs) (sym started) (untried_outcome script p f e e.outcome settled all)
 
 -- so it is after the whole journal
-pub untried_all : (s : Setting) (p : Progress) (entries : List Entry) → AreTrue s p entries → all_final entries ≡ true → AreUntried p.jobs
-    → AreUntried (fold (after_entry s.script) p entries).jobs
-untried_all s p [] told settled all = all
-untried_all s p (e ∷ entries) told settled all =
+pub untried_all : (s : Setting) (p : Progress) (lasts : List Ask) (entries : List Entry) → AreTrue s p lasts entries → all_final entries ≡ true
+    → AreUntried p.jobs → AreUntried (fold (after_entry s.script) p entries).jobs
+untried_all s p lasts [] told settled all = all
+untried_all s p [] (e ∷ entries) told settled all = absurd told
+untried_all s p (last ∷ lasts) (e ∷ entries) told settled all =
     let ended = and_parts (is_final e.outcome) (all_final entries) settled in
-    untried_all s (after_entry s.script p e) entries told.1 ended.1
+    untried_all s (after_entry s.script p e) lasts entries told.1 ended.1
     (untried_after s.script p told.0.following e told.0.started ended.0 all)
 
 -- ---- the whole journal
@@ -90,14 +92,16 @@ AreNext (suc n) script p [] = next_place script p.jobs ≡ None
 AreNext (suc n) script p (e ∷ entries) = (next_place script p.jobs ≡ Some (e.job - 1)) × AreNext n script (after_entry script p e) entries
 
 -- such a journal is the plain one
-pub same_journal : (s : Setting) (p : Progress) (place n : ℕ) (entries : List Entry) → AreTrue s p entries → IsTrue s.tells → 1 ≤ s.rules.undo_tries
+pub same_journal : (s : Setting) (p : Progress) (place n : ℕ) (lasts : List Ask) (entries : List Entry) → AreTrue s p lasts entries → IsTrue s.tells
+    → 1 ≤ s.rules.undo_tries
     → AreSerial place entries → sum_by entry_faults entries ≡ 0 → some_late_starved entries ≡ false → all_final entries ≡ true
     → AreUntried p.jobs → length entries ≤ n → AreNext n s.script p entries → entries ≡ plain_from n s.script place p
-same_journal s p place zero [] told tells tries order faults starved settled all le next = refl
-same_journal s p place (suc n) [] told tells tries order faults starved settled all le next =
+same_journal s p place zero lasts [] told tells tries order faults starved settled all le next = refl
+same_journal s p place (suc n) lasts [] told tells tries order faults starved settled all le next =
     sym (ap (journal_with s.script place p (λ (after : Progress). plain_from n s.script (place + 1) after)) next)
-same_journal s p place zero (e ∷ entries) told tells tries order faults starved settled all le next = absurd (omega arith)
-same_journal s p place (suc n) (e ∷ entries) told tells tries order faults starved settled all le next =
+same_journal s p place zero lasts (e ∷ entries) told tells tries order faults starved settled all le next = absurd (omega arith)
+same_journal s p place (suc n) [] (e ∷ entries) told tells tries order faults starved settled all le next = absurd told
+same_journal s p place (suc n) (last ∷ lasts) (e ∷ entries) told tells tries order faults starved settled all le next =
     let one = told.0 in
     let f = one.following in
     let none = no_sum entry_faults e entries faults in
@@ -105,11 +109,11 @@ same_journal s p place (suc n) (e ∷ entries) told tells tries order faults sta
     let ended = and_parts (is_final e.outcome) (all_final entries) settled in
     let more = λ (after : Progress). plain_from n s.script (place + 1) after in
     let first = (untried_get p.jobs (e.job - 1) f all one.started).0 in
-    let same = same_entry s p f e place one.entry tells tries order.0 order.1 first none.0 wanted.0 ended.0 in
+    let same = same_entry s p f last e place one.entry tells tries order.0 order.1 first none.0 wanted.0 ended.0 in
     let from = one.numbered in
     let job : e.job ≡ e.job - 1 + 1 = omega arith in
     let same' : e ≡ entry_at s.script place p (e.job - 1 + 1) f = same ∙ ap (λ j. entry_at s.script place p j f) job in
-    let later = same_journal s (after_entry s.script p e) (place + 1) n entries told.1 tells tries order.3 none.1 wanted.1 ended.1
+    let later = same_journal s (after_entry s.script p e) (place + 1) n lasts entries told.1 tells tries order.3 none.1 wanted.1 ended.1
     (untried_after s.script p f e one.started ended.0 all) (omega arith) next.1 in
     ap (λ l. e ∷ l) later ∙ ap (λ x. x ∷ more (after_entry s.script p x)) same'
     ∙ sym (ap (λ o. journal_from s.script p more (entry_in s.script place p (e.job - 1) o)) one.started) ∙ sym (ap (journal_with s.script place p more) next.0)
@@ -196,13 +200,14 @@ AreOverBefore script jobs job = (i : ℕ) (g : Following) → i < job - 1 → sl
 
 -- where at the end none of the jobs before an entry's has a transaction left, and no job at all but after so many entries, each
 -- entry is of the first job that has
-pub are_next : (s : Setting) (p : Progress) (n : ℕ) (entries : List Entry) → AreTrue s p entries → EntriesRise entries
+pub are_next : (s : Setting) (p : Progress) (n : ℕ) (lasts : List Ask) (entries : List Entry) → AreTrue s p lasts entries → EntriesRise entries
     → ((k : ℕ) (e : Entry) → slice_get entries k ≡ Some e → AreOverBefore s.script (fold (after_entry s.script) p entries).jobs e.job)
     → (length entries < n → AreOver s.script (fold (after_entry s.script) p entries).jobs) → AreNext n s.script p entries
-are_next s p zero entries told up before over = tt
-are_next s p (suc n) [] told up before over =
+are_next s p zero lasts entries told up before over = tt
+are_next s p (suc n) lasts [] told up before over =
     let P = λ (f : Following). is_some (next_body s.script f.job) in position_from-zero P p.jobs ∙ none_from P p.jobs 0 (over (omega arith))
-are_next s p (suc n) (e ∷ entries) told up before over =
+are_next s p (suc n) [] (e ∷ entries) told up before over = absurd told
+are_next s p (suc n) (last ∷ lasts) (e ∷ entries) told up before over =
     let P = λ (f : Following). is_some (next_body s.script f.job) in
     let one = told.0 in
     let less : AreFrom e.job (e ∷ entries) = (omega arith, up.0) in
@@ -211,5 +216,5 @@ are_next s p (suc n) (e ∷ entries) told up before over =
           ∙ first_from P p.jobs (e.job - 1) 0 one.following one.started one.entry.story.left
           (λ j g lt has. before 0 e refl j g lt (others_stay s.script p (e ∷ entries) e.job j g less lt has))
           ∙ ap Some at,
-      are_next s (after_entry s.script p e) n entries told.1 up.1 (λ k x there. before (suc k) x there) (λ short. over (omega arith)),
+      are_next s (after_entry s.script p e) n lasts entries told.1 up.1 (λ k x there. before (suc k) x there) (λ short. over (omega arith)),
     )

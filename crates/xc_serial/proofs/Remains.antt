@@ -13,7 +13,6 @@ use Rattle.xc_print.specs.Totals.{entry_remains, outcome_remains}
 use Rattle.xc_script.specs.declared.ask.Ask.{Ask}
 use Rattle.xc_model.specs.Progress.{Progress, after_entry}
 use Rattle.xc_model.specs.Setting.{Setting}
-use Rattle.xc_model.specs.Asked.{next_of}
 use Rattle.xc_model.specs.Joint.{AreTrue, IsAskedFor}
 use Rattle.xc_serial.proofs.Calls.{no_sum}
 use Rattle.xc_serial.proofs.Entries.{legal_undone, undone_cleanly}
@@ -34,12 +33,13 @@ sum_of : (f : Entry → ℕ) (e : Entry) (entries : List Entry) → f e ≡ 0 �
 sum_of f e entries here later = sum_by-cons f e entries ∙ ap₂ (λ m n. m + n) here later
 
 -- no effect remains
-pub nothing_remains : (s : Setting) (p : Progress) (entries : List Entry) → 1 ≤ s.rules.undo_tries → AreTrue s p entries
+pub nothing_remains : (s : Setting) (p : Progress) (lasts : List Ask) (entries : List Entry) → 1 ≤ s.rules.undo_tries → AreTrue s p lasts entries
     → sum_by entry_faults entries ≡ 0 → sum_by entry_remains entries ≡ 0
-nothing_remains s p [] some told none = refl
-nothing_remains s p (e ∷ entries) some told none =
+nothing_remains s p lasts [] some told none = refl
+nothing_remains s p [] (e ∷ entries) some told none = absurd told
+nothing_remains s p (last ∷ lasts) (e ∷ entries) some told none =
     let parts = no_sum entry_faults e entries none in
     let story = told.0.entry.story in
     let outcome : outcome_faults e.outcome ≡ 0 = omega (arith, parts.0) in
-    sum_of entry_remains e entries (none_of_outcome s.rules.undo_tries e (next_of s.script told.0.following e.replies) e.outcome some story.asked outcome)
-    (nothing_remains s (after_entry s.script p e) entries some told.1 parts.1)
+    sum_of entry_remains e entries (none_of_outcome s.rules.undo_tries e last e.outcome some story.asked outcome)
+    (nothing_remains s (after_entry s.script p e) lasts entries some told.1 parts.1)

@@ -61,7 +61,7 @@ true_end s faults now lines steady over =
       words = words_are_left _ now.words now.jobs lines steady.kept.spoken over;
       state = λ tells. at_rest s now lines (steady.flying tells) over;
       ends = ends;
-      complete = λ done. complete s now.journal lines told.entries ends done;
+      complete = λ done. complete s told.lasts now.journal lines told.entries ends done;
     }
 
 -- the host's count rose by the faults of the entries alone
@@ -75,4 +75,5 @@ counted_end s faults now lines steady over =
 -- the host was called since its opening by the entries alone
 pub called_end : (s : Setting) (faults : ℕ) (now : Moment) (lines : List JobLine) → IsSteady s faults now → AreLinesOf now.jobs lines
     → AreCalled s.script now.journal now.calls
-called_end s faults now lines steady over = calls_true s.script now.journal now.jobs now.calls lines steady.kept.handled over
+called_end s faults now lines steady over =
+    calls_true s (length now.words) now.marks now.journal now.jobs now.calls lines steady.kept.told steady.kept.handled over

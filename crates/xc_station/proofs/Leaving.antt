@@ -103,11 +103,7 @@ module _ (s : Setting) (at : ℕ) (old : Moment) (job : JobView) (new : Moment) 
 
     next_leaves : (call : LateCall) → NextLate (mover s at old job) tx call new → ChangesOne at old new
     next_leaves (late_call.Thread block) row = alone _ _ row.behind refl refl
-    next_leaves (late_call.Unlink name) row = alone _ _ row.behind refl refl
-    next_leaves (late_call.Sync num) row = alone _ _ row.behind refl refl
-    next_leaves (late_call.WritePipe num bytes) row = alone _ _ row.behind refl refl
-    next_leaves (late_call.Shutdown object) row = alone _ _ row.behind refl refl
-    next_leaves (late_call.Send pair side bytes) row = alone _ _ row.behind refl refl
+    next_leaves _ row = alone _ _ row.behind refl refl
 
     late_leaves : (late : List LateCall) → LateTurn (mover s at old job) tx late new → ChangesOne at old new
     late_leaves [] row =

@@ -3,12 +3,13 @@ use Rattle.std.proofs.Common.{◌≡◌, ◌<◌, ℕ, length, subst, sym}
 use Rattle.std.specs.Prelude.{IsTrue}
 use Rattle.xc_data.specs.declared.entry.Turn.{Turn}
 use Rattle.xc_host.specs.Model.{HostModel}
+use Rattle.xc_model.specs.Handling.{HandlesAgree}
 use Rattle.xc_model.specs.Measure.{turns_left}
 use Rattle.xc_model.specs.Setting.{Setting, setting}
 use Rattle.xc_model.specs.Progress.{progress_of}
 use Rattle.xc_model.specs.Played.{IsPlayedSoFar}
 use Rattle.xc_model.specs.Moment.{TxView, Moment}
-use Rattle.xc_model.specs.Movers.{IsActiveAt}
+use Rattle.xc_model.specs.Movers.{IsActiveAt, asked_at}
 use Rattle.xc_model.specs.Rows.{IsTurn}
 use Rattle.xc_turns.proofs.Laws.{apart_kept, turn_leaves_attempts, turn_keeps_count, grounds_kept, turn_keeps_handles, leaves_fewer, turn_revokes_none}
 use Rattle.xc_turns.proofs.Laws.{turn_keeps_started, turn_keeps_words, a_turn_keeps_the_stories_but}
@@ -20,20 +21,23 @@ pub steady_kept : (s : Setting) (faults at : ℕ) (old new : Moment) (answer : T
     → IsSteady s faults new
 steady_kept s faults at old new answer steady turned =
     let told = steady.kept.told in
-    let played : IsTrue s.tells → (tx : TxView) → IsActiveAt old.jobs at tx → IsPlayedSoFar s (length old.words) (progress_of s.script old.journal) at tx =
-    λ tells tx active. played_there s old told (steady.flying tells) at active.0 tx active.1 active.2 in
+    let played : IsTrue s.tells → (tx : TxView) → (is : IsActiveAt old.jobs at tx)
+    → IsPlayedSoFar (asked_at s is.0.place) (length old.words) (progress_of s.script old.journal) at tx =
+    λ tells tx is. played_there s old told (steady.flying tells) at is.0 tx is.1 is.2 in
+    let (stories, asked) = a_turn_keeps_the_stories_but s at old new answer turned steady.kept.spoken played steady.kept.started told
+    (grounds_kept s at old new answer turned played told) in
     record {
       set = steady.set;
       kept = record {
-        told = a_turn_keeps_the_stories_but s at old new answer turned steady.kept.spoken played steady.kept.started told
-            (grounds_kept s at old new answer turned played told);
+        told = stories;
         attempts = turn_leaves_attempts s at old new answer turned told steady.kept.attempts;
         patience = λ zero. turn_revokes_none s at old new answer turned zero (steady.kept.patience zero);
         spoken = turn_keeps_words s at old new answer turned steady.kept.apart steady.kept.spoken;
         apart = apart_kept s at old new answer turned steady.kept.apart;
         counted = turn_keeps_count s at faults old new answer turned told steady.kept.counted;
         started = turn_keeps_started s at old new answer turned told steady.kept.apart steady.kept.started;
-        handled = turn_keeps_handles s at old new answer turned told steady.kept.handled;
+        handled = subst (λ lasts. HandlesAgree s lasts new.journal new.jobs new.calls) (sym asked)
+            (turn_keeps_handles s at old new answer told.lasts turned told steady.kept.handled);
       };
       flying = λ tells. turn_flies s at old new answer tells turned told (steady.flying tells);
     }

@@ -70,20 +70,12 @@ phase_turned s at old new job tx p answer there does in' row =
 ended_late : (s : Setting) (at : ℕ) (old : Moment) (job : JobView) (tx : TxView) (call : LateCall) (new : Moment) → thread_in call ≡ None
     → EndsLate (mover s at old job) tx call new → NextLate (mover s at old job) tx call new
 ended_late s at old job tx (late_call.Thread block) new starts row = cc starts
-ended_late s at old job tx (late_call.Unlink name) new starts row = row
-ended_late s at old job tx (late_call.Sync num) new starts row = row
-ended_late s at old job tx (late_call.WritePipe num bytes) new starts row = row
-ended_late s at old job tx (late_call.Shutdown object) new starts row = row
-ended_late s at old job tx (late_call.Send pair side bytes) new starts row = row
+ended_late s at old job tx _ new starts row = row
 
 -- a call that starts a job of a block is this one
 starts_block : (call : LateCall) (block : List ℕ) → thread_in call ≡ Some block → call ≡ late_call.Thread block
 starts_block (late_call.Thread block') block starts = let same : block' ≡ block = cc starts in ap late_call.Thread same
-starts_block (late_call.Unlink name) block starts = cc starts
-starts_block (late_call.Sync num) block starts = cc starts
-starts_block (late_call.WritePipe num bytes) block starts = cc starts
-starts_block (late_call.Shutdown object) block starts = cc starts
-starts_block (late_call.Send pair side bytes) block starts = cc starts
+starts_block _ block starts = cc starts
 
 -- ---- at the moments of a station
 module _ {H : Type 0} (model : HostModel H) (shared : Shared H) (journal : List Entry) (jobs : List Job) (at : ℕ) (was : Job) where

@@ -36,7 +36,7 @@ use xc_model::{Phase, Rules};
 use xc_script::JobState;
 use xc_text::Script;
 
-// Whether the faults of so many records can be counted, each of which is tried so often.
+// Whether the faults of `records` records can be counted, each of which is tried at most `tries` times.
 fn can_count(records: u32, tries: u32) -> bool
     ensures { result ≡ true → records * tries < 2 ^ 32 }
 {

@@ -150,7 +150,7 @@ fn take_room(
     ensures ok_place { OnOk result (place.new ≡ record place.old { begun = place.old.variables }) }
     ensures err_place { OnErr result (place.new ≡ place.old) }
 {
-    // Room in the journal that isn't used stays for the next begin.
+    // Room in the journal that isn't used stays for the next transaction.
     journal.reserve(spare)?;
     sentinels.begin(number, rank)?;
     // Last, since a seat can be withdrawn without fail.
@@ -162,7 +162,7 @@ fn take_room(
 }
 
 /// The turn of an idle job: its next transaction begins, with a seat, room for its entry and its variables kept for an abort; or
-/// the job waits or ends. So many transactions are active, and each has its room in the journal.
+/// the job waits or ends. `active` counts the active transactions, each of which has its room in the journal.
 pub fn begin(
     alloc: Global,
     script: &Script,
@@ -189,11 +189,14 @@ pub fn begin(
     ensures children { job.new.children.items ≡ job.old.children.items }
 {
     let entered = journal.len();
+    // First, since a job that ends or waits takes no number and no room.
     if let Some(halt) = why_halted(script, rules, sentinels, entered + active as usize, job) {
         return stop(job, &halt);
     }
+    // Those that entered and those that are active have the numbers before.
     let number = entered as u32 + active + 1;
     let rank = rank_of(&job.attempts, number);
+    // Before anything of the job changes: without room it ends as it stands.
     if take_room(journal, sentinels, &mut job.place, active + 1, number, rank).is_err() {
         return job.end(&JobEnd::NoMemory);
     }

@@ -27,7 +27,7 @@ use xc_socket::x_recvmsg;
 #[derive(Drop)]
 pub struct Buffers {
     kept: Kept,
-    // How much active transactions have taken: so many notes.
+    // How many notes active transactions have of what they took.
     noted: u32,
 }
 
@@ -43,7 +43,7 @@ impl Model for Buffers {
     ghost invariant = { λ b. (b.noted + 2 ≤ b.kept.spare) × AreKept b.kept.items };
 }
 
-// Room to give back so many notes and what one call more takes, as two pieces, and two more.
+// Room to give back `noted` notes and what one call more takes, as two pieces, and two more.
 fn make_room(kept: &mut Kept, noted: u32) -> Result<(), NoMemory>
     ensures room { OnOk result (noted + 4 ≤ kept.new.spare) }
     ensures counted { OnOk result (noted + 4 < 2 ^ 32) }
@@ -66,8 +66,8 @@ impl Buffers {
         Ok(Buffers { kept, noted: 0 })
     }
 
-    /// Reads from an open pipe, what is kept first, with room to give back what is read. Memory is wanting where more is noted than can
-    /// be counted, too.
+    /// Reads from an open pipe, what is kept first, with room to give back what is read. It answers `NoMemory` too
+    /// where more would be noted than can be counted.
     pub fn read_pipe<H: Host>(
         &mut self,
         alloc: Global,
@@ -154,7 +154,7 @@ impl Buffers {
         self.noted -= 1;
     }
 
-    /// What a transaction has taken after so many notes is in front again of what is there. It takes no memory.
+    /// What a transaction has taken behind its first `mark` notes is in front again of what is there. It takes no memory.
     pub fn give_to(&mut self, taken: &mut Taken, mark: u32)
         requires { length taken.old.items ≤ self.old.noted }
         ensures given { (w : World) → given_back w self.new.kept ≡ given_back (given_back w self.old.kept) (drop mark taken.old.items) }

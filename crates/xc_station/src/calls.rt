@@ -25,7 +25,7 @@ use crate::blocks::do_block_call;
 use crate::buffers::Buffers;
 use crate::tx::Tx;
 use std::alloc::Global;
-use xc_data::{Call, Ident, NoMemory, Place, Private, Reply};
+use xc_data::{Call, HandleUse, Ident, NoMemory, Place, Private, Reply};
 use xc_file::{
     x_close, x_create, x_len, x_open, x_read, x_rename, x_seek, x_sync, x_unlink, x_write_ovr,
     x_write_seq,
@@ -145,7 +145,7 @@ fn act<H: Host>(
 fn is_on_words(call: &Call) -> bool
     ensures { result ≡ is_word_call call.now }
 {
-    matches!(call, Call::Load { .. } | Call::Store { .. })
+    call.word().is_some()
 }
 
 // What a call may change of the private state, as it was before.
@@ -156,17 +156,13 @@ struct Before {
     stored: u32,
 }
 
-// What stands at the handle that a call may change; nothing, where it gives one. Calls that aren't named change none.
+// What is at the handle that a call may change; nothing, where it gives one.
 fn place_before(me: &Private, call: &Call) -> Place
     ensures { result ≡ place_before call.now me.now.places }
 {
-    match call {
-        Call::XRead { h, .. } => me.place(*h),
-        Call::XWriteOvr { h, .. } => me.place(*h),
-        Call::XWriteSeq { h, .. } => me.place(*h),
-        Call::XSeek { h, .. } => me.place(*h),
-        Call::XClose { h } => me.place(*h),
-        _ => Place::Vacant,
+    match call.handle_use() {
+        HandleUse::At(h) => me.place(h),
+        HandleUse::Unchanged | HandleUse::New | HandleUse::NewPair => Place::Vacant,
     }
 }
 
@@ -190,20 +186,15 @@ fn handle_in(reply: &Reply) -> Option<u16>
     }
 }
 
-// The handle at which a call with this reply may have changed what stands there. Calls that aren't named change none.
+// The handle at which a call with this reply may have changed what is there.
 fn changed_at(call: &Call, reply: &Reply) -> Option<u16>
     ensures { result ≡ changed_at call.now reply.now }
 {
-    match call {
-        Call::XOpen { .. } => handle_in(reply),
-        Call::XCreate { .. } => handle_in(reply),
-        Call::XPipe => handle_in(reply),
-        Call::XRead { h, .. } => Some(*h),
-        Call::XWriteOvr { h, .. } => Some(*h),
-        Call::XWriteSeq { h, .. } => Some(*h),
-        Call::XSeek { h, .. } => Some(*h),
-        Call::XClose { h } => Some(*h),
-        _ => None,
+    match call.handle_use() {
+        HandleUse::At(h) => Some(h),
+        HandleUse::New => handle_in(reply),
+        // Two handles take no memory, and so are never put back.
+        HandleUse::Unchanged | HandleUse::NewPair => None,
     }
 }
 
@@ -282,7 +273,7 @@ fn is_block_end(call: &Call) -> bool
 }
 
 /// Does the call that is asked, which is no back, and goes on after its reply. Without memory the place is as it was, and so are the
-/// handles, also where it is wanting after the call, for the variable that takes the reply.
+/// handles, also where it runs out after the call, for the variable that takes the reply.
 pub fn do_call<H: Host>(
     alloc: Global,
     host: &mut H,

@@ -123,17 +123,20 @@ pub fn start_job(
     ensures lines_room { length started.old.items ≤ lines.old.spare → length started.new.items ≤ lines.new.spare }
     ensures ahead_room { length started.old.items + 1 ≤ vec_capacity ahead.old → length started.new.items + 1 ≤ vec_capacity ahead.new }
 {
+    // Before memory is asked for: both of these ends depend on the script and on the jobs so far, and on no memory.
     let Some(place) = start.place else {
         return LateEnd::NoScript;
     };
     if started.len() >= MOST_JOBS {
         return LateEnd::Full(0);
     }
+    // All the room that the job will need, since nothing may fail in the turn of the entry.
     if make_room(jobs, lines, ahead, started).is_err() {
         return LateEnd::NoMemory(0);
     }
     match push_child(alloc, script, place, start.block, &mut jobs[at]) {
         Ok(()) => {
+            // Only now it has a number: a start that ends otherwise takes none.
             started.enter(start.block);
             LateEnd::Done
         }

@@ -156,7 +156,7 @@ fn one_more(attempts: &Option<Attempts>, rank: u32, last: Cause) -> Attempts
     }
 }
 
-// Goes to where a job stands after an abort of a transaction of this rank.
+// Goes to the place that a job has after an abort of a transaction of this rank.
 fn go_back(job: &mut Job, rank: u32, cause: Cause)
     requires idle { ((job_view job.old).doing ≡ Idle) × (job.old.busy ≡ 0) }
     requires next { job.old.place.next < 2 ^ 32 }
@@ -205,7 +205,7 @@ pub fn abort<H: Host>(alloc: Global, number: u32, job: &mut Job, shared: &mut Sh
     let entry = job.tx.close(alloc, number, &mut shared.sentinels);
     job.activity = Activity::Idle;
     job.busy = 0;
-    // Last, since for want of memory the job isn't idle.
+    // Last, since without memory the job isn't idle.
     go_back(job, rank, cause);
     entry
 }

@@ -32,7 +32,7 @@ pub struct Job {
     pub block: Ident,
     /// Attempts at its next transaction that met a holder or were revoked.
     pub attempts: Option<Attempts>,
-    /// How often it was told to wait since its last begin or entry.
+    /// How often it was told to wait since it last began a transaction or entered one.
     pub busy: u32,
     pub place: JobState,
     pub activity: Activity,
@@ -42,7 +42,7 @@ pub struct Job {
     pub children: Vec<Child>,
 }
 
-/// The rows of the table of turns: what a job's next turn goes by.
+/// The states of a job in the table of turns: what its next turn goes by.
 #[derive(Clone, Copy)]
 pub enum Stage {
     Idle,

@@ -297,7 +297,7 @@ fn calls_ahead(job: &Job, script: &Script) -> u32 {
 
 /// The turn of a job whose transaction runs: its next call, the entering of its commit, which writes its stores, or that
 /// of its rollback, as where it is marked. Where memory runs out it keeps what it claimed, and the record of what its call had done at
-/// the host. The journal has so many entries.
+/// the host. The journal has `entered` entries.
 #[inline(always)]
 pub fn run<H: Host>(
     alloc: Global,

@@ -33,7 +33,7 @@ pub struct Saved {
 
 /// A job's transaction, with what its entry will say. It lies in its job for all of the job's transactions, and with it
 /// the job's handles: no begin and no end copies them. These have places of their
-/// own, and what a call on a word reads stands together, so that a turn finds little of many jobs in its way.
+/// own, and what a call on a word reads lies together, so that a turn loads little of each job.
 ///
 /// 256 handles are 4 KiB: inside the job they would keep what each turn reads of many jobs far apart.
 #[derive(Drop)]
@@ -46,7 +46,7 @@ pub struct Tx {
     pub number: u32,
     /// The number of the first attempt at it.
     pub rank: u32,
-    /// The length that the journal had at its begin.
+    /// The length that the journal had when it began.
     pub began: u32,
     /// Whether a call may have changed the handles since the start.
     pub changed: bool,
@@ -115,7 +115,7 @@ impl Tx {
         }
     }
 
-    /// Begins the next transaction, with the handles of the last one's end: those of its begin, where it was aborted. It
+    /// Begins the next transaction, with the handles of the last one's end: those of its start, where it was aborted. It
     /// has done nothing yet. It takes no memory.
     pub fn begin(&mut self, alloc: Global, number: u32, rank: u32, began: u32)
         ensures tx { tx_view self.new ≡ new_tx number rank began (begun_of self.old) }
@@ -169,7 +169,7 @@ impl Tx {
         self.changed = false;
     }
 
-    // Room for so many calls with their replies, each on an object of its own. A list that has its room at once need not grow.
+    // Room for `calls` calls with their replies, each on an object of its own. A list that has its room at once need not grow.
     fn make_room(&mut self, calls: u32) -> Result<(), NoMemory>
         ensures same { tx_view self.new ≡ tx_view self.old }
         ensures begun { begun_of self.new ≡ begun_of self.old }

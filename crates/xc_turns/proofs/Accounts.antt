@@ -1,5 +1,5 @@
 -- How each entry of a true journal is accounted for.
-use Rattle.std.proofs.Common.{◌≡◌, ℕ, zero, suc, List, [], ◌∷◌, IsTrue, take, get_or, ap, sym, ◌∙◌, subst}
+use Rattle.std.proofs.Common.{◌≡◌, ℕ, zero, suc, List, [], ◌∷◌, IsTrue, take, get_or, ap, sym, subst}
 use Rattle.std.specs.List.{fold}
 use Rattle.std.specs.Prelude.{slice_get, Option}
 use Rattle.std.specs.declared.option.Option.TheVariants.{Some}
@@ -17,19 +17,17 @@ use Rattle.xc_world.specs.Late.{late}
 use Rattle.xc_world.specs.Run.{lates, late_asked_of}
 use Rattle.xc_world.specs.World.{World}
 use Rattle.xc_model.specs.Accounted.{Account, AreAccounted, AreLateEnds, CauseHolds, IsAccounted, IsLateEnd, account_of, own_part, own_scene, progress_before}
-use Rattle.xc_model.specs.Asked.{ScriptJob, lasts_from, next_of}
+use Rattle.xc_model.specs.Asked.{lasts_of}
 use Rattle.xc_model.specs.EntryEnds.{IsCauseOf, cause_in}
-use Rattle.xc_model.specs.Grounds.{Part, IsGrounded, scene_of}
-use Rattle.xc_model.specs.Joint.{AreTrue, IsAskedFor, IsPlayedOutcome, IsTrueEntry, asked_behind, entry_parts, part_of, parts_from}
-use Rattle.xc_model.specs.Machine.{machine_part}
-use Rattle.xc_model.specs.Progress.{Progress, after_entry, body_of, following_of, opening_progress}
+use Rattle.xc_model.specs.Grounds.{Part, AreGrounded, IsGrounded, scene_of}
+use Rattle.xc_model.specs.Joint.{AreTrue, IsAskedFor, IsPlayedOutcome, IsTrueEntry, entry_parts, part_of, parts_from}
+use Rattle.xc_model.specs.Progress.{Progress, after_entry, body_of, opening_progress}
 use Rattle.xc_model.specs.Recorded.{no_records, all_records, IsStuckIn, saved_records}
 use Rattle.xc_model.specs.Setting.{Setting}
 use Rattle.xc_model.specs.Truth.{IsTrueJournal}
 use Rattle.xc_script.specs.declared.ask.Ask.{Ask}
 use Rattle.xc_script.specs.declared.ask.Ask.TheVariants as ask
-use Rattle.xc_turns.proofs.Halves.{jobs_in, jobs_more, jobs_opened}
-use Rattle.xc_turns.proofs.Ways.{joint_of_parts, last_same, parts_same}
+use Rattle.xc_turns.proofs.Ways.{joint_of_parts, lasts_are, parts_same}
 
 -- ---- late calls
 end_is : (w : World) (call : LateCall) (end : LateEnd) → (late w call (late_answer_of end)).end ≡ end → IsLateEnd w call end
@@ -69,55 +67,41 @@ module _ (a : Account) where
       }
   outcome_accounts (Aborted report) asked played ground = cause_accounts report.records report.cause asked.0.asked asked.0.stuck ground
 
-entry_accounts : (s : Setting) (journal : List Entry) (place : ℕ) (e : Entry) → IsTrueEntry s (progress_before s journal place) e
-    → (account_of s journal place e).next ≡ asked_behind s.script (following_of (progress_before s journal place) e) e.replies
+entry_accounts : (s : Setting) (journal : List Entry) (place : ℕ) (e : Entry)
+    → IsTrueEntry s (progress_before s journal place) (account_of s journal place e).next e
     → HasGround (account_of s journal place e) (cause_in e.outcome) → IsAccounted (account_of s journal place e) e.outcome
-entry_accounts s journal place e one last ground =
-    let entry = one.entry in
-    let account = account_of s journal place e in
-    let to : account.next ≡ next_of s.script one.following e.replies = last ∙ ap (λ o. asked_behind s.script o e.replies) one.started in
-    subst (λ (next : Ask). IsAccounted (record account { next = next }) e.outcome) (sym to)
-    (outcome_accounts (record account { next = next_of s.script one.following e.replies }) e.outcome entry.story.asked
-    (λ tells. (entry.played tells).outcome)
-    (subst (λ (next : Ask). HasGround (record account { next = next }) (cause_in e.outcome)) to ground))
+entry_accounts s journal place e one ground =
+    outcome_accounts (account_of s journal place e) e.outcome one.entry.story.asked (λ tells. (one.entry.played tells).outcome) ground
 
 -- ---- the whole journal
-true_there : (s : Setting) (p : Progress) (entries : List Entry) (place : ℕ) (e : Entry) → AreTrue s p entries → slice_get entries place ≡ Some e
-    → IsTrueEntry s (fold (after_entry s.script) p (take place entries)) e
-true_there s p [] place e is there = cc
-true_there s p (d ∷ entries) zero e is there = let same : d ≡ e = cc in subst (IsTrueEntry s p) same is.0
-true_there s p (d ∷ entries) (suc place) e is there = true_there s (after_entry s.script p d) entries place e is.1 there
+true_there : (s : Setting) (p : Progress) (lasts : List Ask) (entries : List Entry) (place : ℕ) (e : Entry) → AreTrue s p lasts entries
+    → slice_get entries place ≡ Some e → IsTrueEntry s (fold (after_entry s.script) p (take place entries)) (get_or lasts place ask.End) e
+true_there s p lasts [] place e is there = cc
+true_there s p [] (d ∷ entries) place e is there = absurd is
+true_there s p (last ∷ lasts) (d ∷ entries) zero e is there = let same : d ≡ e = cc in subst (IsTrueEntry s p last) same is.0
+true_there s p (last ∷ lasts) (d ∷ entries) (suc place) e is there = true_there s (after_entry s.script p d) lasts entries place e is.1 there
 
-part_there : (s : Setting) (p : Progress) (entries : List Entry) (place : ℕ) (e : Entry) → slice_get entries place ≡ Some e
-    → slice_get (parts_from s p entries) place ≡ Some (part_of s (fold (after_entry s.script) p (take place entries)) e)
-part_there s p [] place e there = cc
-part_there s p (d ∷ entries) zero e there = let same : d ≡ e = cc in ap (λ x. Some (part_of s p x)) same
-part_there s p (d ∷ entries) (suc place) e there = part_there s (after_entry s.script p d) entries place e there
-
-last_there : (s : Setting) (p : Progress) (entries : List Entry) (place : ℕ) (e : Entry) → slice_get entries place ≡ Some e
-    → get_or (lasts_from s.script (jobs_in p) entries) place ask.End
-    ≡ asked_behind s.script (following_of (fold (after_entry s.script) p (take place entries)) e) e.replies
-last_there s p [] place e there = cc
-last_there s p (d ∷ entries) zero e there =
-    let same : d ≡ e = cc in last_same s.script p d ∙ ap (λ (x : Entry). asked_behind s.script (following_of p x) x.replies) same
-last_there s p (d ∷ entries) (suc place) e there =
-    ap (λ (js : List ScriptJob). get_or (lasts_from s.script js entries) place ask.End) (sym (jobs_more s.script p d))
-    ∙ last_there s (after_entry s.script p d) entries place e there
+part_there : (s : Setting) (p : Progress) (lasts : List Ask) (entries : List Entry) (place : ℕ) (e : Entry) → AreTrue s p lasts entries
+    → slice_get entries place ≡ Some e
+    → slice_get (parts_from s p lasts entries) place
+    ≡ Some (part_of (fold (after_entry s.script) p (take place entries)) (get_or lasts place ask.End) e)
+part_there s p lasts [] place e is there = cc
+part_there s p [] (d ∷ entries) place e is there = absurd is
+part_there s p (last ∷ lasts) (d ∷ entries) zero e is there = let same : d ≡ e = cc in ap (λ x. Some (part_of p last x)) same
+part_there s p (last ∷ lasts) (d ∷ entries) (suc place) e is there = part_there s (after_entry s.script p d) lasts entries place e is.1 there
 
 -- each entry of a true journal is accounted for
 pub journal_accounts : (s : Setting) (journal : List Entry) → IsTrueJournal s journal → AreAccounted s journal
 journal_accounts s journal is place e there =
     let joint = joint_of_parts s journal is in
     let opening = opening_progress s.script in
-    let before = progress_before s journal place in
-    let part = part_of s before e in
-    let account = account_of s journal place e in
-    let last : account.next ≡ asked_behind s.script (following_of before e) e.replies =
-    ap (λ (js : List ScriptJob). get_or (lasts_from s.script js journal) place ask.End) (sym (jobs_opened s.script))
-    ∙ last_there s opening journal place e there in
-    let ground : IsGrounded (scene_of s.tells (entry_parts s journal) []) place part part.cause =
-    joint.grounded.entries place part (part_there s opening journal place e there) in
-    let own : IsGrounded (own_scene account) place part part.cause =
-    subst (λ (ps : List Part). IsGrounded (scene_of s.tells ps []) place part part.cause) (parts_same s journal) ground in
-    entry_accounts s journal place e (true_there s opening journal place e joint.entries there) last
-    (subst (λ (next : Ask). IsGrounded (own_scene account) place (machine_part before.state next e) (cause_in e.outcome)) (sym last) own)
+    let lasts = lasts_of s.script journal in
+    let same : joint.lasts ≡ lasts = lasts_are s joint.lasts journal joint.entries in
+    let entries : AreTrue s opening lasts journal = subst (λ xs. AreTrue s opening xs journal) same joint.entries in
+    let grounded : AreGrounded (scene_of s.tells (entry_parts s lasts journal) []) =
+    subst (λ xs. AreGrounded (scene_of s.tells (entry_parts s xs journal) [])) same joint.grounded in
+    let part = own_part (account_of s journal place e) in
+    let ground : IsGrounded (scene_of s.tells (entry_parts s lasts journal) []) place part part.cause =
+    grounded.entries place part (part_there s opening lasts journal place e entries there) in
+    entry_accounts s journal place e (true_there s opening lasts journal place e entries there)
+    (subst (λ (ps : List Part). IsGrounded (scene_of s.tells ps []) place part part.cause) (parts_same s lasts journal) ground)

@@ -13,9 +13,8 @@ use Rattle.xc_data.specs.declared.entry.JobLine.{JobLine}
 use Rattle.xc_data.specs.declared.entry.Mark.{Mark}
 use Rattle.xc_data.specs.declared.script.HostCallKind.{HostCallKind}
 use Rattle.xc_host.specs.Cause.{times}
-use Rattle.xc_text.specs.declared.script.Script.{Script}
 use Rattle.xc_model.specs.Setting.{Setting}
-use Rattle.xc_model.specs.Handles.{AreCalled}
+use Rattle.xc_model.specs.Handles.{AreCalled, AreHandled, Reached, opened_reach}
 use Rattle.xc_model.specs.Handling.{HandlesAgree, places_of}
 use Rattle.xc_model.specs.Grounds.{Part, IsPresent, Other, IsGrounded, AreGrounded, scene_of}
 use Rattle.xc_model.specs.Progress.{Following, progress_of}
@@ -30,7 +29,7 @@ use Rattle.xc_model.specs.Words.{WordsAgree}
 use Rattle.xc_model.specs.Consistent.{AreLinesOf, IsLineOf}
 use Rattle.xc_turns.proofs.HandledMade.{ended_times}
 use Rattle.xc_turns.proofs.Jobs.{none_active}
-use Rattle.xc_turns.proofs.Ways.{parts_of_joint}
+use Rattle.xc_turns.proofs.Ways.{lasts_are, parts_of_joint}
 
 -- ---- no transaction is active
 line_none : (line : JobLine) (job : JobView) (d : Doing) → IsLineOf line job d → active_in d ≡ None
@@ -64,20 +63,14 @@ entry_there journal i e at =
     )
 
 -- ---- conflicts
-parts_none : (s : Setting) (words : ℕ) (marks : ℕ → Option Mark) (number : ℕ) (followings : List Following) (jobs : List JobView) (lines : List JobLine)
-    → AreLinesOf jobs lines
-    → (j : ℕ) → get_or (active_parts (reading s words marks) number followings jobs) j None ≡ None
-parts_none s words marks number [] [] lines are zero = refl
-parts_none s words marks number [] [] lines are (suc j) = refl
-parts_none s words marks number (f ∷ fs) [] lines are zero = refl
-parts_none s words marks number (f ∷ fs) [] lines are (suc j) = refl
-parts_none s words marks number fs (job ∷ jobs) [] are j = absurd are
-parts_none s words marks number [] (job ∷ jobs) (line ∷ lines) are zero =
-    ap (active_part (reading s words marks) None number) (line_none line job job.doing are.0)
-parts_none s words marks number [] (job ∷ jobs) (line ∷ lines) are (suc j) = parts_none s words marks (number + 1) [] jobs lines are.1 j
-parts_none s words marks number (f ∷ fs) (job ∷ jobs) (line ∷ lines) are zero =
-    ap (active_part (reading s words marks) (Some f) number) (line_none line job job.doing are.0)
-parts_none s words marks number (f ∷ fs) (job ∷ jobs) (line ∷ lines) are (suc j) = parts_none s words marks (number + 1) fs jobs lines are.1 j
+parts_none : (s : Setting) (words : ℕ) (marks : ℕ → Option Mark) (number : ℕ) (jobs : List JobView) (lines : List JobLine) → AreLinesOf jobs lines
+    → (j : ℕ) → get_or (active_parts (reading s words marks) number jobs) j None ≡ None
+parts_none s words marks number [] lines are zero = refl
+parts_none s words marks number [] lines are (suc j) = refl
+parts_none s words marks number (job ∷ jobs) [] are j = absurd are
+parts_none s words marks number (job ∷ jobs) (line ∷ lines) are zero =
+    ap (active_part (reading s words marks) number job.place) (line_none line job job.doing are.0)
+parts_none s words marks number (job ∷ jobs) (line ∷ lines) are (suc j) = parts_none s words marks (number + 1) jobs lines are.1 j
 
 -- none of these parts is there
 abbrev AreNone : List (Option Part) → Type 0
@@ -136,39 +129,43 @@ all_logged tells log active none g =
 -- where each job has ended the journal is true, both parts of an entry at once
 joint_true : (s : Setting) (words : ℕ) (marks : ℕ → Option Mark) (journal : List Entry) (jobs : List JobView) (calls : HostCallKind → ℕ)
     → (lines : List JobLine)
-    → StoriesHold s words marks journal jobs → HandlesAgree s.script journal jobs calls
+    → (told : StoriesHold s words marks journal jobs) → HandlesAgree s told.lasts journal jobs calls
     → AreLinesOf jobs lines → IsJointJournal s journal
 joint_true s words marks journal jobs calls lines told handled are =
     let begins : AreBegins journal (map entry_begin journal) =
     subst (AreBegins journal) (begins_there journal jobs (none_active jobs (none_there jobs lines are))) told.begins in
     let many : length (map entry_begin journal) ≡ length journal = length-map journal entry_begin in
     record {
+      lasts = told.lasts;
       entries = told.entries;
       numbers = subst (λ n. IsPermutation (numbers_of journal) (counting 1 n)) many
           (subst (λ ns. IsPermutation ns (counting 1 (length (map entry_begin journal)))) (numbers_there journal) begins.numbers);
       begins = λ i j a b ea eb less. begins.order (entry_begin a) (entry_begin b) (entry_there journal i a ea) (entry_there journal j b eb) less;
-      grounded = all_logged s.tells (entry_parts s journal) (active_parts (reading s words marks) 1 (progress_of s.script journal).jobs jobs)
-          (parts_none s words marks 1 (progress_of s.script journal).jobs jobs lines are) told.grounded;
+      grounded = all_logged s.tells (entry_parts s told.lasts journal) (active_parts (reading s words marks) 1 jobs)
+          (parts_none s words marks 1 jobs lines are) told.grounded;
       handled = λ tells. (record { places = places_of jobs; made = handled.entered }, handled.entries);
     }
 
 -- so it is true of the machine, and asked by the script
 pub journal_true : (s : Setting) (words : ℕ) (marks : ℕ → Option Mark) (journal : List Entry) (jobs : List JobView) (calls : HostCallKind → ℕ)
     → (lines : List JobLine)
-    → StoriesHold s words marks journal jobs → HandlesAgree s.script journal jobs calls
+    → (told : StoriesHold s words marks journal jobs) → HandlesAgree s told.lasts journal jobs calls
     → AreLinesOf jobs lines → IsTrueJournal s journal
 journal_true s words marks journal jobs calls lines told handled are =
     parts_of_joint s journal (joint_true s words marks journal jobs calls lines told handled are)
 
 -- the host was called by its entries, and by nothing else
-pub calls_true : (script : Script) (journal : List Entry) (jobs : List JobView) (calls : HostCallKind → ℕ) (lines : List JobLine)
-    → HandlesAgree script journal jobs calls → AreLinesOf jobs lines → AreCalled script journal calls
-calls_true script journal jobs calls lines handled are =
+pub calls_true : (s : Setting) (words : ℕ) (marks : ℕ → Option Mark) (journal : List Entry) (jobs : List JobView) (calls : HostCallKind → ℕ)
+    → (lines : List JobLine)
+    → (told : StoriesHold s words marks journal jobs) → HandlesAgree s told.lasts journal jobs calls
+    → AreLinesOf jobs lines → AreCalled s.script journal calls
+calls_true s words marks journal jobs calls lines told handled are =
+    let ends : Reached = record { places = places_of jobs; made = handled.entered } in
     record {
-      ends = record { places = places_of jobs; made = handled.entered };
-      entries = handled.entries;
+      ends = ends;
+      entries = subst (λ lasts. AreHandled (opened_reach s.script.outline) lasts journal ends) (lasts_are s told.lasts journal told.entries) handled.entries;
       called = λ kind.
-          let none = ended_times kind script jobs lines handled.under_way are handled.active in
+          let none = ended_times kind s jobs lines handled.under_way are handled.active in
           let all : times kind handled.entered + sum_by (times kind) handled.under_way ≡ times kind handled.entered = omega (arith, none) in
           subst (λ n. RisesBy n 0 (calls kind)) all (handled.called kind);
     }

@@ -15,6 +15,7 @@ use Rattle.xc_data.specs.declared.entry.JobLine.{JobLine}
 use Rattle.xc_data.specs.declared.entry.Outcome.{Outcome}
 use Rattle.xc_data.specs.declared.entry.Outcome.TheVariants.{Committed, Aborted}
 use Rattle.xc_text.specs.declared.script.Script.{Script}
+use Rattle.xc_script.specs.declared.ask.Ask.{Ask}
 use Rattle.xc_script.specs.Ask.{Job, fresh_job, block_place, next_body, transactions_at}
 use Rattle.xc_model.specs.Setting.{Setting}
 use Rattle.xc_script.specs.Blocks.{kept_calls}
@@ -104,12 +105,13 @@ entry_passes : (script : Script) (p : Progress) (f : Following) (e : Entry) → 
 entry_passes script p f e started =
     ap (λ o. passed_by (after_following script p e o).jobs) started ∙ outcome_passes script p f e e.outcome started
 
-all_pass : (s : Setting) (p : Progress) (journal : List Entry) → AreTrue s p journal
+all_pass : (s : Setting) (p : Progress) (lasts : List Ask) (journal : List Entry) → AreTrue s p lasts journal
     → passed_by (fold (after_entry s.script) p journal).jobs ≡ passed_by p.jobs + count_by (λ (e : Entry). is_final e.outcome) journal
-all_pass s p [] are = omega arith
-all_pass s p (e ∷ journal) are =
+all_pass s p lasts [] are = omega arith
+all_pass s p [] (e ∷ journal) are = absurd are
+all_pass s p (last ∷ lasts) (e ∷ journal) are =
     let here = entry_passes s.script p are.0.following e are.0.started in
-    let rest = all_pass s (after_entry s.script p e) journal are.1 in
+    let rest = all_pass s (after_entry s.script p e) lasts journal are.1 in
     omega (arith, here, rest, sum_by-cons (λ (x : Entry). one_if (is_final x.outcome)) e journal)
 
 -- ---- no job passes more than its block has
@@ -145,14 +147,15 @@ outcome_within script p f e (Committed late) less each =
     (each_map (IsWithinBlock script) (started_following script job (p.entered + 1)) blocks (λ b. omega arith))
 outcome_within script p f e (Aborted r) less each = cause_within script p f e r.cause less each
 
-all_within : (s : Setting) (p : Progress) (journal : List Entry) → AreTrue s p journal → AllByRecursion (IsWithinBlock s.script) p.jobs
+all_within : (s : Setting) (p : Progress) (lasts : List Ask) (journal : List Entry) → AreTrue s p lasts journal → AllByRecursion (IsWithinBlock s.script) p.jobs
     → AllByRecursion (IsWithinBlock s.script) (fold (after_entry s.script) p journal).jobs
-all_within s p [] are each = each
-all_within s p (e ∷ journal) are each =
+all_within s p lasts [] are each = each
+all_within s p [] (e ∷ journal) are each = absurd are
+all_within s p (last ∷ lasts) (e ∷ journal) are each =
     let f = are.0.following in
     let less = some_within (transactions_at s.script f.job.block) f.job.next are.0.entry.story.left in
     let next = outcome_within s.script p f e e.outcome less each in
-    all_within s (after_entry s.script p e) journal are.1
+    all_within s (after_entry s.script p e) lasts journal are.1
     (subst (λ o. AllByRecursion (IsWithinBlock s.script) (after_following s.script p e o).jobs) (sym are.0.started) next)
 
 -- ---- where no job is starved at the end none was before, and each entry is settled or tried again
@@ -187,13 +190,14 @@ outcome_goes script p f e (Committed late) started goes each =
 outcome_goes script p f e (Aborted r) started goes each = cause_goes p f e r.cause started goes each
 
 -- of all entries
-pub all_go : (s : Setting) (p : Progress) (journal : List Entry) → AreTrue s p journal
+pub all_go : (s : Setting) (p : Progress) (lasts : List Ask) (journal : List Entry) → AreTrue s p lasts journal
     → AllByRecursion IsNotStarved (fold (after_entry s.script) p journal).jobs
     → AllByRecursion IsNotStarved p.jobs × (list_all (λ (e : Entry). is_final_or_tried_again e.outcome) journal ≡ true)
-all_go s p [] are each = (each, refl)
-all_go s p (e ∷ journal) are each =
+all_go s p lasts [] are each = (each, refl)
+all_go s p [] (e ∷ journal) are each = absurd are
+all_go s p (last ∷ lasts) (e ∷ journal) are each =
     let t = are.0 in
-    let rest = all_go s (after_entry s.script p e) journal are.1 each in
+    let rest = all_go s (after_entry s.script p e) lasts journal are.1 each in
     let next : AllByRecursion IsNotStarved (after_outcome s.script p t.following e e.outcome).jobs =
     subst (λ o. AllByRecursion IsNotStarved (after_following s.script p e o).jobs) t.started rest.0 in
     let here = outcome_goes s.script p t.following e e.outcome t.started t.entry.story.goes_on next in
@@ -224,16 +228,16 @@ ends_done s entries (f ∷ fs) (line ∷ lines) ends done within =
     ((here.0, rest.0), omega (arith, past, within.0, rest.1, sum_by-cons (λ (g : Following). g.job.next) f fs))
 
 -- where all are done all is complete
-pub complete : (s : Setting) (entries : List Entry) (lines : List JobLine) → AreTrue s (opening_progress s.script) entries
+pub complete : (s : Setting) (lasts : List Ask) (entries : List Entry) (lines : List JobLine) → AreTrue s (opening_progress s.script) lasts entries
     → AreEnds s (length entries) (progress_of s.script entries).jobs lines → all_done lines ≡ true → IsComplete s.script entries
-complete s entries lines are ends done =
+complete s lasts entries lines are ends done =
     let start : Progress = opening_progress s.script in
     let opened : List ℕ → Following = λ name. untried name (fresh_job s.script (block_place s.script name)) 0 in
     let none : passed_by start.jobs ≡ 0 = passed_none opened s.script.outline.jobs (λ name. refl) in
     let first : AllByRecursion (IsWithinBlock s.script) start.jobs = each_map (IsWithinBlock s.script) opened s.script.outline.jobs (λ name. omega arith) in
     let jobs : List Following = (progress_of s.script entries).jobs in
-    let end = ends_done s (length entries) jobs lines ends done (all_within s start entries are first) in
+    let end = ends_done s (length entries) jobs lines ends done (all_within s start lasts entries are first) in
     record {
-      others = (all_go s start entries are end.0).1;
-      count = omega (arith, all_pass s start entries are, none, end.1);
+      others = (all_go s start lasts entries are end.0).1;
+      count = omega (arith, all_pass s start lasts entries are, none, end.1);
     }

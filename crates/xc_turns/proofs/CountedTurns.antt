@@ -78,7 +78,7 @@ pub none_late : (s : Setting) (at : ℕ) (now : Moment) (job : JobView) (tx : Tx
     → tx.phase ≡ Undoing c → StoriesHold s (length now.words) now.marks now.journal now.jobs → tx.ends ≡ []
 none_late s at now job tx c stands is undoes told =
     let phase = story_in_phase s at now job tx stands is told in
-    let undoing : IsUndoing s phase.0 tx c = subst (IsInPhase s phase.0 job.place tx) undoes phase.1 in
+    let undoing : IsUndoing s phase.0 job.place tx c = subst (IsInPhase s phase.0 job.place tx) undoes phase.1 in
     undoing.no_ends
 
 -- a reply that tells of no way back tells of a fault, or of none

@@ -17,24 +17,18 @@ use Rattle.xc_data.specs.declared.call.Call.{Call}
 use Rattle.xc_data.specs.declared.call.Call.TheVariants as call
 use Rattle.xc_script.specs.declared.ask.Ask.{Ask}
 use Rattle.xc_script.specs.declared.ask.Ask.TheVariants as ask
-use Rattle.xc_script.specs.Asking.{asks}
-use Rattle.xc_script.specs.Blocks.{BlockWalk}
 use Rattle.std.proofs.Common.{[]}
-use Rattle.xc_script.specs.Position.{Position}
 use Rattle.xc_data.specs.declared.entry.Mark.{Mark}
-use Rattle.xc_model.specs.declared.phase.Phase.TheVariants.{Running, Backing}
 use Rattle.xc_model.specs.Setting.{Setting}
-use Rattle.xc_model.specs.Moment.{TxView, JobView, Doing, Idle, Active, Starved, Ended, Moment, active_in, active_of, unmarked}
+use Rattle.xc_model.specs.Moment.{TxView, JobView, Moment, active_of, unmarked}
 use Rattle.xc_model.specs.Movers.{IsActiveAt, asked_at, mover}
 use Rattle.xc_model.specs.Rivals.{IsFirstRival, IsRival}
 use Rattle.xc_model.specs.PlainSteps.{claims_at}
 use Rattle.xc_model.specs.Grounds.{Part, Other, HoldsObject, Ground, IsGrounded, AreGrounded, scene_of}
-use Rattle.xc_model.specs.Progress.{Following, Progress, progress_of}
-use Rattle.xc_model.specs.Asked.{next_of}
 use Rattle.xc_model.specs.Joint.{entry_parts}
-use Rattle.xc_model.specs.Stories.{StoriesHold, IsDoing, IsUnderway, IsInPhase, IsRunning, IsBacking, active_begin, active_part, active_parts, part_under_way}
-use Rattle.xc_model.specs.Stories.{asked_of_tx, cause_of_phase, wanted_by, reading}
-use Rattle.xc_turns.proofs.Lists.{contains_first, get_beside, not_both}
+use Rattle.xc_model.specs.Stories.{StoriesHold, active_begin, active_part, active_parts, part_under_way}
+use Rattle.xc_model.specs.Stories.{cause_of_phase, wanted_by, reading}
+use Rattle.xc_turns.proofs.Lists.{contains_first, not_both}
 use Rattle.xc_data.proofs.Laws.{get_set_same, get_set_other}
 use Rattle.xc_turns.proofs.Progressing.{parts_length}
 use Rattle.xc_turns.proofs.StoryBegins.{active_begun}
@@ -53,43 +47,11 @@ unmarked_other marks number n ne = ap (λ (b : Bool). if b then None else marks 
 unmarked_itself : (marks : ℕ → Option Mark) (number : ℕ) → unmarked marks number number ≡ None
 unmarked_itself marks number = ap (λ (b : Bool). if b then None else marks number) (eq-eqb number number refl)
 
--- ---- what is told of an active transaction
-underway : (s : Setting) (begun : ℕ) (f : Following) (job : JobView) (was : TxView) (d : Doing) → active_in d ≡ Some was → IsDoing s begun f job d
-    → IsUnderway s f job.place was
-underway s begun f job was Idle e told = cc
-underway s begun f job was (Active tx) e told = let is : tx ≡ was = cc in subst (IsUnderway s f job.place) is told
-underway s begun f job was Starved e told = cc
-underway s begun f job was (Ended end) e told = cc
-
--- what a running one is asked, its job asks where it stands
-asked_there : (s : Setting) (f : Following) (place : Position) (was : TxView) → IsUnderway s f place was → was.phase ≡ Running
-    → next_of s.script f was.replies ≡ asked_at s place
-asked_there s f place was told running =
-    let at : IsRunning s f place was = subst (IsInPhase s f place was) running told.phase in
-    sym (ap (λ (b : BlockWalk). asks b.walk) at.ahead)
-
--- and one whose block goes back is asked the back
-back_asked : (s : Setting) (f : Following) (place : Position) (was : TxView) → IsUnderway s f place was → was.phase ≡ Backing
-    → next_of s.script f was.replies ≡ ask.Call call.Back
-back_asked s f place was told backs =
-    let at : IsBacking s f place was = subst (IsInPhase s f place was) backs told.phase in
-    ap (λ (b : BlockWalk). asks b.walk) (sym at.ahead) ∙ at.asked
-
 -- ---- a turn of the job in this place
 module _ (s : Setting) (at : ℕ) (old new : Moment) (job : JobView) (stands : slice_get old.jobs at ≡ Some job)
     (told : StoriesHold s (length old.words) old.marks old.journal old.jobs) where
   abbrev words : ℕ
   words = length old.words
-
-  abbrev led : Progress
-  led = progress_of s.script old.journal
-
-  abbrev led_here : Option Following
-  led_here = slice_get led.jobs at
-
-  -- the journal tells of the job
-  following : (f : Following) × (led_here ≡ Some f)
-  following = get_beside led.jobs old.jobs at job told.count stands
 
   -- an active one began by now
   pub by_now : (j : ℕ) (tx : TxView) → IsActiveAt old.jobs j tx → tx.began ≤ length old.journal
@@ -97,24 +59,25 @@ module _ (s : Setting) (at : ℕ) (old new : Moment) (job : JobView) (stands : s
 
   -- ---- what its conflict is judged by
   abbrev log : List Part
-  log = entry_parts s old.journal
+  log = entry_parts s told.lasts old.journal
 
   abbrev before : List (Option Part)
-  before = active_parts (reading s words old.marks) 1 led.jobs old.jobs
+  before = active_parts (reading s words old.marks) 1 old.jobs
 
   abbrev behind_of : (ℕ → Option Mark) → JobView → List (Option Part)
-  behind_of marks behind = active_parts (reading s words marks) 1 led.jobs (slice_set old.jobs at behind)
+  behind_of marks behind = active_parts (reading s words marks) 1 (slice_set old.jobs at behind)
 
-  abbrev part_here : (ℕ → Option Mark) → TxView → Part
-  part_here marks tx = part_under_way (reading s words marks) led_here (at + 1) tx
+  -- the part of its transaction, where it stands
+  abbrev part_here : (ℕ → Option Mark) → JobView → TxView → Part
+  part_here marks there tx = part_under_way (reading s words marks) (at + 1) there.place tx
 
-  pub here_before : (o : Option TxView) → active_of job ≡ o → get_or before at None ≡ active_part (reading s words old.marks) led_here (at + 1) o
-  here_before o e = part_read s words old.marks led.jobs old.jobs at job o stands e
+  pub here_before : (o : Option TxView) → active_of job ≡ o → get_or before at None ≡ active_part (reading s words old.marks) (at + 1) job.place o
+  here_before o e = part_read s words old.marks old.jobs at job o stands e
 
   here_after : (marks : ℕ → Option Mark) (behind : JobView) (o : Option TxView) → active_of behind ≡ o
-      → get_or (behind_of marks behind) at None ≡ active_part (reading s words marks) led_here (at + 1) o
+      → get_or (behind_of marks behind) at None ≡ active_part (reading s words marks) (at + 1) behind.place o
   here_after marks behind o e =
-      part_read s words marks led.jobs (slice_set old.jobs at behind) at behind o (get_set_same old.jobs at job behind stands) e
+      part_read s words marks (slice_set old.jobs at behind) at behind o (get_set_same old.jobs at job behind stands) e
 
   is_part : (parts : List (Option Part)) (a b : Part) → get_or parts at None ≡ Some a → get_or parts at None ≡ Some b → a ≡ b
   is_part parts a b e got = let both : Some a ≡ Some b = sym e ∙ got in cc
@@ -132,8 +95,8 @@ module _ (s : Setting) (at : ℕ) (old new : Moment) (job : JobView) (stands : s
     where
       elsewhere : (j : ℕ) → j ≢ at → get_or (behind_of marks behind) j None ≡ get_or before j None
       elsewhere j away =
-          part_elsewhere s words old.marks marks led.jobs led.jobs old.jobs (slice_set old.jobs at behind) j (get_set_other old.jobs at j behind away)
-          (λ tx active. others j tx away active) (inl refl)
+          part_elsewhere s words old.marks marks old.jobs (slice_set old.jobs at behind) j (get_set_other old.jobs at j behind away)
+          (λ tx active. others j tx away active)
 
       kept : (j : ℕ) (a : Part) → get_or before j None ≡ Some a
           → (b : Part) × Follows s.tells a b × (get_or (behind_of marks behind) j None ≡ Some b)
@@ -173,24 +136,20 @@ module _ (s : Setting) (at : ℕ) (old new : Moment) (job : JobView) (stands : s
           let none : cause_of_phase (marks k.tx.number) k.tx.phase ≡ None =
           ap (λ m. cause_of_phase m k.tx.phase) (unmarked_itself old.marks k.tx.number) ∙ ap (cause_of_phase None) k.running in
           subst (λ (x : Part). IsGrounded (scene_of s.tells log before) (length log) x x.cause)
-          (is_part (behind_of marks k.behind) (part_here marks k.tx) b (here_after marks k.behind (Some k.tx) k.after) got)
-          (subst (IsGrounded (scene_of s.tells log before) (length log) (part_here marks k.tx)) (sym none) tt)
+          (is_part (behind_of marks k.behind) (part_here marks k.behind k.tx) b (here_after marks k.behind (Some k.tx) k.after) got)
+          (subst (IsGrounded (scene_of s.tells log before) (length log) (part_here marks k.behind k.tx)) (sym none) tt)
 
   -- ---- an active one goes on
-  -- what it is asked next depends on its private state and its replies alone
-  wanted_on : (o : Option Following) (was tx : TxView) → tx.me ≡ was.me → tx.replies ≡ was.replies
-      → wanted_by words tx (asked_of_tx s o tx) ≡ wanted_by words was (asked_of_tx s o was)
-  wanted_on o was tx me replies = by_me (asked_of_tx s o tx) ∙ ap (wanted_by words was) (by_replies o)
+  -- what it wants depends on its private state and on what it is asked alone
+  wanted_on : (behind : JobView) (was tx : TxView) → tx.me ≡ was.me → asked_at s behind.place ≡ asked_at s job.place
+      → wanted_by words tx (asked_at s behind.place) ≡ wanted_by words was (asked_at s job.place)
+  wanted_on behind was tx me still = by_me (asked_at s behind.place) ∙ ap (wanted_by words was) still
     where
       by_me : (a : Ask) → wanted_by words tx a ≡ wanted_by words was a
       by_me (ask.Call call) = ap (λ (m : Private). claims_of call m words) me
       by_me ask.Commit = refl
       by_me ask.Abort = refl
       by_me ask.End = refl
-
-      by_replies : (f : Option Following) → asked_of_tx s f tx ≡ asked_of_tx s f was
-      by_replies None = refl
-      by_replies (Some f) = ap (next_of s.script f) replies
 
   no_conflict : (e : Part) (why : Option Cause) → IsNoConflict why → IsGrounded (scene_of s.tells log before) (length log) e why
   no_conflict e (Some (cause.Conflict object holder from)) none = absurd none
@@ -203,8 +162,8 @@ module _ (s : Setting) (at : ℕ) (old new : Moment) (job : JobView) (stands : s
   rival_named j number rival active numbered other =
       let there = active in
       record {
-        who = part_under_way (reading s words old.marks) (slice_get led.jobs j) (j + 1) rival;
-        present = inr (j, part_read s words old.marks led.jobs old.jobs j there.0 (Some rival) there.1 there.2);
+        who = part_under_way (reading s words old.marks) (j + 1) there.0.place rival;
+        present = inr (j, part_read s words old.marks old.jobs j there.0 (Some rival) there.1 there.2);
         numbered = numbered;
         other = λ (e : j + 1 ≡ at + 1). other (omega arith);
         began = by_now j rival active;
@@ -218,24 +177,13 @@ module _ (s : Setting) (at : ℕ) (old new : Moment) (job : JobView) (stands : s
       record { claim = holds.0; names = holds.2.0 ∙ names; among = holds.1 }
 
   -- what it is asked next claims the object
-  pub asked_wants : (was tx : TxView) → active_of job ≡ Some was → tx.me ≡ was.me → tx.replies ≡ was.replies → (call : Call)
-      → asked_at s job.place ≡ ask.Call call → was.phase ≡ Running → wanted_by words tx (asked_of_tx s led_here tx) ≡ claims_at old was call
-  asked_wants was tx active me replies call asked running =
-      let f = following in
-      let there = told.jobs_told at f.0 job f.1 stands in
-      let going = underway s _ f.0 job was job.doing active there.doing in
-      wanted_on led_here was tx me replies
-      ∙ ap (λ (o : Option Following). wanted_by words was (asked_of_tx s o was)) f.1
-      ∙ ap (wanted_by words was) (asked_there s f.0 job.place was going running ∙ asked)
+  pub asked_wants : (behind : JobView) (was tx : TxView) → tx.me ≡ was.me → asked_at s behind.place ≡ asked_at s job.place → (call : Call)
+      → asked_at s job.place ≡ ask.Call call → wanted_by words tx (asked_at s behind.place) ≡ claims_at old was call
+  asked_wants behind was tx me still call asked = wanted_on behind was tx me still ∙ ap (wanted_by words was) asked
 
   -- a back claims nothing
-  back_wants : (was : TxView) → active_of job ≡ Some was → was.phase ≡ Backing → wanted_by words was (asked_of_tx s led_here was) ≡ []
-  back_wants was active backs =
-      let f = following in
-      let there = told.jobs_told at f.0 job f.1 stands in
-      let going = underway s _ f.0 job was job.doing active there.doing in
-      ap (λ (o : Option Following). wanted_by words was (asked_of_tx s o was)) f.1
-      ∙ ap (wanted_by words was) (back_asked s f.0 job.place was going backs)
+  back_wants : (was : TxView) → asked_at s job.place ≡ ask.Call call.Back → wanted_by words was (asked_at s job.place) ≡ []
+  back_wants was backs = ap (wanted_by words was) backs
 
   -- the claim that meets is one of those
   pub met_listed : (claims : List Claim) (object : Object) (holder : ℕ) → (met : IsFirstRival old.jobs at claims object holder) → Contains claims met.met
@@ -244,17 +192,18 @@ module _ (s : Setting) (at : ℕ) (old new : Moment) (job : JobView) (stands : s
       (Contains-append_right met.front (met.met ∷ met.rest) met.met (contains_first met.met met.rest))
 
   -- so the conflict is grounded
-  met_grounded : (was tx : TxView) → active_of job ≡ Some was → tx.began ≡ was.began → (m : MeetsRival (mover s at old job) was tx)
-      → Ground (scene_of s.tells log before) (length log) (part_here old.marks tx)
+  met_grounded : (behind : JobView) (was tx : TxView) → active_of job ≡ Some was → tx.began ≡ was.began
+      → (m : MeetsRival (mover s at old job) behind was tx)
+      → Ground (scene_of s.tells log before) (length log) (part_here old.marks behind tx)
       (record { object = m.object; number = m.holder; at = length old.journal })
   unfolding rival_named rival_holds
-  met_grounded was tx active began m =
+  met_grounded behind was tx active began m =
       let met = m.met in
       let rival = met.rival in
       let holds = rival.holds in
       let early = by_now at was (job, stands, active) in
-      let count = parts_length s old.journal in
-      let claimed = sym (asked_wants was tx active m.me m.replies m.call m.asked m.running) in
+      let count = parts_length s told.lasts old.journal told.entries in
+      let claimed = sym (asked_wants behind was tx m.me m.still m.call m.asked) in
       record {
         before = omega arith;
         within = omega arith;
@@ -268,44 +217,46 @@ module _ (s : Setting) (at : ℕ) (old new : Moment) (job : JobView) (stands : s
       }
 
   -- its cause is the old one, none that names another, or this
-  why_grounded : (was tx : TxView) → active_of job ≡ Some was → tx.rank ≡ was.rank → tx.began ≡ was.began → AreCovered was.held tx.held
-      → CauseOn (mover s at old job) was tx → IsGrounded (scene_of s.tells log before) (length log) (part_here old.marks tx) (cause_on old tx)
-  why_grounded was tx active rank began held (same k) =
-      subst (IsGrounded (scene_of s.tells log before) (length log) (part_here old.marks tx)) (sym k.cause)
-      (ground_as s.tells log before (part_here old.marks was) (part_here old.marks tx) (cause_on old was)
-      (record { job = refl; rank = rank; began = began; held = held; wanted = λ t. wanted_on led_here was tx k.me k.replies })
-      (told.grounded.actives at (part_here old.marks was) (here_before (Some was) active)))
-  why_grounded was tx active rank began held (free none) = no_conflict (part_here old.marks tx) (cause_on old tx) none
-  why_grounded was tx active rank began held (meets m) =
-      subst (IsGrounded (scene_of s.tells log before) (length log) (part_here old.marks tx))
-      (sym (ap (cause_of_phase (old.marks tx.number)) m.phase ∙ undoing_is (old.marks tx.number) _)) (met_grounded was tx active began m)
+  why_grounded : (behind : JobView) (was tx : TxView) → active_of job ≡ Some was → tx.rank ≡ was.rank → tx.began ≡ was.began
+      → AreCovered was.held tx.held → CauseOn (mover s at old job) behind was tx
+      → IsGrounded (scene_of s.tells log before) (length log) (part_here old.marks behind tx) (cause_on old tx)
+  why_grounded behind was tx active rank began held (same k) =
+      subst (IsGrounded (scene_of s.tells log before) (length log) (part_here old.marks behind tx)) (sym k.cause)
+      (ground_as s.tells log before (part_here old.marks job was) (part_here old.marks behind tx) (cause_on old was)
+      (record { job = refl; rank = rank; began = began; held = held; wanted = λ t. wanted_on behind was tx k.me k.still })
+      (told.grounded.actives at (part_here old.marks job was) (here_before (Some was) active)))
+  why_grounded behind was tx active rank began held (free none) = no_conflict (part_here old.marks behind tx) (cause_on old tx) none
+  why_grounded behind was tx active rank began held (meets m) =
+      subst (IsGrounded (scene_of s.tells log before) (length log) (part_here old.marks behind tx))
+      (sym (ap (cause_of_phase (old.marks tx.number)) m.phase ∙ undoing_is (old.marks tx.number) _)) (met_grounded behind was tx active began m)
 
   covered_on : (was held : List Claim) → HoldsOn old.jobs at was held → AreCovered was held
   covered_on was held (inl e) = covered_same was held e
   covered_on was held (inr more) = subst (AreCovered was) (sym more.2) (covered_all was more.0)
 
   -- what it holds or wants it goes on to hold or want
-  reach_on : (was tx : TxView) → active_of job ≡ Some was → AreCovered was.held tx.held → AsksOn s old job was tx
-      → AreCovered ((part_here old.marks was).held ++ (part_here old.marks was).wanted) ((part_here old.marks tx).held ++ (part_here old.marks tx).wanted)
-  reach_on was tx active held (inl stays_asked) =
-      let a = part_here old.marks was in
-      let b = part_here old.marks tx in
+  reach_on : (behind : JobView) (was tx : TxView) → AreCovered was.held tx.held → AsksOn (mover s at old job) behind was tx
+      → AreCovered ((part_here old.marks job was).held ++ (part_here old.marks job was).wanted)
+      ((part_here old.marks behind tx).held ++ (part_here old.marks behind tx).wanted)
+  reach_on behind was tx held (inl still) =
+      let a = part_here old.marks job was in
+      let b = part_here old.marks behind tx in
       covered_parts a.held a.wanted (b.held ++ b.wanted) (covered_front a.held b.held b.wanted held)
-      (covered_back a.wanted b.held b.wanted (covered_same a.wanted b.wanted (wanted_on led_here was tx stays_asked.0 stays_asked.1)))
-  reach_on was tx active held (inr (inr backs)) =
-      let a = part_here old.marks was in
-      let b = part_here old.marks tx in
+      (covered_back a.wanted b.held b.wanted (covered_same a.wanted b.wanted (wanted_on behind was tx still.0 still.1)))
+  reach_on behind was tx held (inr (inr backs)) =
+      let a = part_here old.marks job was in
+      let b = part_here old.marks behind tx in
       covered_parts a.held a.wanted (b.held ++ b.wanted) (covered_front a.held b.held b.wanted held)
-      (subst (λ (cs : List Claim). AreCovered cs (b.held ++ b.wanted)) (sym (back_wants was active backs))
+      (subst (λ (cs : List Claim). AreCovered cs (b.held ++ b.wanted)) (sym (back_wants was backs))
       (record { each = λ c at. absurd (omega (arith, at.1)) }))
-  reach_on was tx active held (inr (inl done)) =
-      let a = part_here old.marks was in
-      let b = part_here old.marks tx in
+  reach_on behind was tx held (inr (inl done)) =
+      let a = part_here old.marks job was in
+      let b = part_here old.marks behind tx in
       let claims = claims_at old was done.call in
       let claimed : AreCovered claims b.held = subst (AreCovered claims) (sym done.held) (claims_covered was.held claims) in
       covered_parts a.held a.wanted (b.held ++ b.wanted) (covered_front a.held b.held b.wanted held)
       (covered_front a.wanted b.held b.wanted
-      (subst (λ (cs : List Claim). AreCovered cs b.held) (sym (asked_wants was was active refl refl done.call done.asked done.running)) claimed))
+      (subst (λ (cs : List Claim). AreCovered cs b.held) (sym (asked_wants job was was refl refl done.call done.asked)) claimed))
 
   pub moves_grounded : (k : Moves s at old job new) → AreGrounded (scene_of s.tells log (behind_of old.marks k.behind))
   moves_grounded k = go_at old.marks k.behind (λ j tx away active. refl) own fresh
@@ -313,27 +264,27 @@ module _ (s : Setting) (at : ℕ) (old new : Moment) (job : JobView) (stands : s
       held : AreCovered k.was.held k.tx.held
       held = covered_on k.was.held k.tx.held k.held
 
-      follows : Follows s.tells (part_here old.marks k.was) (part_here old.marks k.tx)
+      follows : Follows s.tells (part_here old.marks job k.was) (part_here old.marks k.behind k.tx)
       follows = record {
         number = k.number;
         job = refl;
         rank = k.rank;
         began = k.began;
         held = held;
-        reach = λ t. reach_on k.was k.tx k.before held k.wants;
+        reach = λ t. reach_on k.behind k.was k.tx held k.wants;
       }
 
       own : (a : Part) → get_or before at None ≡ Some a
           → (b : Part) × Follows s.tells a b × (get_or (behind_of old.marks k.behind) at None ≡ Some b)
       own a got = (
-        part_here old.marks k.tx,
-        subst (λ (x : Part). Follows s.tells x (part_here old.marks k.tx))
-            (is_part before (part_here old.marks k.was) a (here_before (Some k.was) k.before) got) follows,
+        part_here old.marks k.behind k.tx,
+        subst (λ (x : Part). Follows s.tells x (part_here old.marks k.behind k.tx))
+            (is_part before (part_here old.marks job k.was) a (here_before (Some k.was) k.before) got) follows,
         here_after old.marks k.behind (Some k.tx) k.after,
       )
 
       fresh : (b : Part) → get_or (behind_of old.marks k.behind) at None ≡ Some b → IsGrounded (scene_of s.tells log before) (length log) b b.cause
       fresh b got =
           subst (λ (x : Part). IsGrounded (scene_of s.tells log before) (length log) x x.cause)
-          (is_part (behind_of old.marks k.behind) (part_here old.marks k.tx) b (here_after old.marks k.behind (Some k.tx) k.after) got)
-          (why_grounded k.was k.tx k.before k.rank k.began held k.why)
+          (is_part (behind_of old.marks k.behind) (part_here old.marks k.behind k.tx) b (here_after old.marks k.behind (Some k.tx) k.after) got)
+          (why_grounded k.behind k.was k.tx k.before k.rank k.began held k.why)

@@ -15,21 +15,18 @@ use Rattle.xc_host.specs.Cause.{IsCalled, times}
 use Rattle.xc_host.proofs.Laws.{rises_sum}
 use Rattle.xc_script.specs.declared.ask.Ask.{Ask}
 use Rattle.xc_script.specs.Blocks.{kept_calls}
-use Rattle.xc_text.specs.declared.script.Script.{Script}
 use Rattle.xc_world.specs.Opening.{opening_handles}
-use Rattle.xc_model.specs.Asked.{lasts_of}
 use Rattle.xc_model.specs.Called.{EndMakes}
 use Rattle.xc_model.specs.Entering.{behind_commit, entry_of, started_job, started_jobs}
 use Rattle.xc_model.specs.Handles.{AreHandled, HandlesCalls, HandlesEntry, Reached, handled_anew, handles_behind, opened_reach}
 use Rattle.xc_model.specs.Handling.{HandlesAgree, HasMade, MadeBy, handled_in, places_of}
-use Rattle.xc_model.specs.Joint.{asked_behind}
 use Rattle.xc_model.specs.LateCalls.{started_late}
 use Rattle.xc_model.specs.Moment.{TxView, JobView, active_of}
+use Rattle.xc_model.specs.Movers.{asked_at}
 use Rattle.xc_model.specs.Opened.{opened_job}
-use Rattle.xc_model.specs.Progress.{following_of, progress_of}
+use Rattle.xc_model.specs.Setting.{Setting}
 use Rattle.xc_model.proofs.Laws.{started_same}
 use Rattle.xc_turns.proofs.Grown.{started_idle}
-use Rattle.xc_turns.proofs.HandledLasts.{lasts_whole}
 use Rattle.xc_turns.proofs.HandledMade.{MadeAt, grown_times, made_at, made_grown, made_set, no_mades, opened_made, opened_times}
 use Rattle.xc_turns.proofs.HandledTx.{times_append}
 use Rattle.xc_turns.proofs.Lists.{sum_set_place}
@@ -59,32 +56,30 @@ places_each job_of (name ∷ names) places same =
     ap₂ (λ (p : List Place) (ps : List (List Place)). p ∷ ps) (same name) (places_each job_of names places same)
 
 -- the jobs of a script before their first transactions
-pub opened_handled : (script : Script) (names : List (List ℕ)) (calls : HostCallKind → ℕ) → names ≡ script.outline.jobs
-    → ((kind : HostCallKind) → calls kind ≡ 0)
-    → HandlesAgree script [] (map (opened_job script) names) calls
-opened_handled script names calls are none =
-    let outline = script.outline in
-    let jobs = map (opened_job script) names in
+pub opened_handled : (s : Setting) (names : List (List ℕ)) (calls : HostCallKind → ℕ) → names ≡ s.script.outline.jobs → ((kind : HostCallKind) → calls kind ≡ 0)
+    → HandlesAgree s [] [] (map (opened_job s.script) names) calls
+opened_handled s names calls are none =
+    let outline = s.script.outline in
+    let jobs = map (opened_job s.script) names in
     let places : places_of jobs ≡ replicate (length outline.jobs) (opening_handles outline) =
-    places_each (opened_job script) names (opening_handles outline) (λ name. refl)
+    places_each (opened_job s.script) names (opening_handles outline) (λ name. refl)
     ∙ ap (λ (ns : List (List ℕ)). replicate (length ns) (opening_handles outline)) are in
     record {
       entered = [];
       entries = (refl, ap (λ (ps : List (List Place)). reach ps []) places);
       under_way = no_mades jobs;
-      active = opened_made script names;
+      active = opened_made s names;
       called = λ kind.
-          let zero = opened_times kind script names in
+          let zero = opened_times kind s names in
           let all : 0 ≡ 0 + sum_by (times kind) (no_mades jobs) = omega (arith, zero) in
           subst (λ n. RisesBy n 0 (calls kind)) all (none kind);
     }
 
-module _ (script : Script) (journal : List Entry) (jobs : List JobView) (calls : HostCallKind → ℕ) (at : ℕ) (job : JobView)
-    (stands : slice_get jobs at ≡ Some job)
-    (h : HandlesAgree script journal jobs calls) where
+module _ (s : Setting) (lasts : List Ask) (journal : List Entry) (jobs : List JobView) (calls : HostCallKind → ℕ) (at : ℕ) (job : JobView)
+    (stands : slice_get jobs at ≡ Some job) (h : HandlesAgree s lasts journal jobs calls) where
   -- which calls of the host its active transaction made
-  abbrev pub there : MadeAt script job h.under_way at
-  there = made_at script jobs h.under_way at job h.active stands
+  abbrev pub there : MadeAt s job h.under_way at
+  there = made_at s jobs h.under_way at job h.active stands
 
   -- a job with its handles stands in its place
   places_stay : (job' : JobView) → job'.me.places ≡ job.me.places → places_of (slice_set jobs at job') ≡ places_of jobs
@@ -105,44 +100,41 @@ module _ (script : Script) (journal : List Entry) (jobs : List JobView) (calls :
 
   -- it goes on with its handles, and made more calls
   pub stays_handled : (job' : JobView) (made' more : List HostCallKind) (calls' : HostCallKind → ℕ) → job'.me.places ≡ job.me.places
-      → MadeBy script job' (active_of job') made' → ((kind : HostCallKind) → times kind made' ≡ times kind there.made + times kind more)
-      → IsCalled more calls calls' → HandlesAgree script journal (slice_set jobs at job') calls'
+      → MadeBy s job' (active_of job') made' → ((kind : HostCallKind) → times kind made' ≡ times kind there.made + times kind more)
+      → IsCalled more calls calls' → HandlesAgree s lasts journal (slice_set jobs at job') calls'
   stays_handled job' made' more calls' same by grown used =
       record {
         entered = h.entered;
-        entries = subst (λ (ps : List (List Place)). AreHandled (opened_reach script.outline) (lasts_of script journal) journal (reach ps h.entered))
+        entries = subst (λ (ps : List (List Place)). AreHandled (opened_reach s.script.outline) lasts journal (reach ps h.entered))
             (sym (places_stay job' same)) h.entries;
         under_way = slice_set h.under_way at made';
-        active = made_set script jobs h.under_way at job job' made' h.active stands by;
+        active = made_set s jobs h.under_way at job job' made' h.active stands by;
         called = more_called made' more calls' grown used;
       }
 
-  module _ (tx : TxView) (made : HasMade script job tx there.made) where
+  module _ (tx : TxView) (made : HasMade s job tx there.made) where
     -- what was asked last of it
-    abbrev last : Outcome → Ask
-    last o = asked_behind script (following_of (progress_of script journal) (entry_of tx at o)) tx.replies
+    abbrev last : Ask
+    last = asked_at s job.place
 
     -- its entry leads to these handles
-    enters_handled : (o : Outcome) (ends : List HostCallKind) (places : List (List Place)) → EndMakes (last o) tx.late o ends
+    enters_handled : (o : Outcome) (ends : List HostCallKind) (places : List (List Place)) → EndMakes last tx.late o ends
         → places ≡ handles_behind (places_of jobs) (entry_of tx at o) tx.me.places o
-        → AreHandled (opened_reach script.outline) (lasts_of script (journal ++ entry_of tx at o ∷ [])) (journal ++ entry_of tx at o ∷ [])
-        (reach places (h.entered ++ made.body ++ ends))
+        → AreHandled (opened_reach s.script.outline) (lasts ++ last ∷ []) (journal ++ entry_of tx at o ∷ []) (reach places (h.entered ++ made.body ++ ends))
     enters_handled o ends places uses behind =
         let found : unwrap_or (slice_get (places_of jobs) (at + 1 - 1)) [] ≡ job.me.places =
         ap (λ i. unwrap_or (slice_get (places_of jobs) i) []) (place_of_number at)
         ∙ ap (λ (p : Option (List Place)). unwrap_or p []) (get_map (λ (x : JobView). x.me.places) jobs at job stands) in
         let now = reach (places_of jobs) h.entered in
         let next = reach places (h.entered ++ made.body ++ ends) in
-        subst (λ (ls : List Ask). AreHandled (opened_reach script.outline) ls (journal ++ entry_of tx at o ∷ []) next)
-        (sym (lasts_whole script journal (entry_of tx at o)))
-        (entry_more (opened_reach script.outline) (lasts_of script journal) journal (last o) (entry_of tx at o) now next h.entries (record {
+        entry_more (opened_reach s.script.outline) lasts journal last (entry_of tx at o) now next h.entries (record {
           left = handled_in tx made.body;
           calls = subst (λ (ps : List Place). HandlesCalls tx.number tx.calls tx.replies (handled_anew ps) (handled_in tx made.body)) (sym found) made.calls;
           ends = ends;
           uses = uses;
           places = behind;
           made = refl;
-        }))
+        })
 
     -- the count of calls is as before where its entry takes its calls over
     entered_called : (ends : List HostCallKind) (calls' : HostCallKind → ℕ)
@@ -163,28 +155,28 @@ module _ (script : Script) (journal : List Entry) (jobs : List JobView) (calls :
 
     -- it was aborted: the handles stay
     pub aborted_handled : (report : Report) (job' : JobView) (ends : List HostCallKind) (calls' : HostCallKind → ℕ) → job'.me.places ≡ job.me.places
-        → EndMakes (last (Aborted report)) tx.late (Aborted report) ends → MadeBy script job' (active_of job') []
+        → EndMakes last tx.late (Aborted report) ends → MadeBy s job' (active_of job') []
         → ((kind : HostCallKind) → times kind there.made ≡ times kind made.body + times kind ends) → ((kind : HostCallKind) → calls' kind ≡ calls kind)
-        → HandlesAgree script (journal ++ entry_of tx at (Aborted report) ∷ []) (slice_set jobs at job') calls'
+        → HandlesAgree s (lasts ++ last ∷ []) (journal ++ entry_of tx at (Aborted report) ∷ []) (slice_set jobs at job') calls'
     aborted_handled report job' ends calls' same uses by all rest =
         record {
           entered = h.entered ++ made.body ++ ends;
           entries = enters_handled (Aborted report) ends (places_of (slice_set jobs at job')) uses (places_stay job' same);
           under_way = slice_set h.under_way at [];
-          active = made_set script jobs h.under_way at job job' [] h.active stands by;
+          active = made_set s jobs h.under_way at job job' [] h.active stands by;
           called = entered_called ends calls' all rest;
         }
 
     -- it committed: its job has those of its end, and so have the jobs that it started
     pub committed_handled : (calls' : HostCallKind → ℕ) → map thread_in tx.late ≡ map thread_asked (kept_calls tx.calls tx.replies)
         → ((kind : HostCallKind) → times kind there.made ≡ times kind made.body + times kind made.lates) → ((kind : HostCallKind) → calls' kind ≡ calls kind)
-        → HandlesAgree script (journal ++ entry_of tx at (Committed tx.ends) ∷ [])
-        (slice_set jobs at (behind_commit job tx) ++ started_jobs script job tx) calls'
+        → HandlesAgree s (lasts ++ last ∷ []) (journal ++ entry_of tx at (Committed tx.ends) ∷ [])
+        (slice_set jobs at (behind_commit job tx) ++ started_jobs s.script job tx) calls'
     committed_handled calls' kept all rest =
         let job' = behind_commit job tx in
         let left = tx.me.places in
         let blocks = started_late tx.late tx.ends in
-        let more = started_jobs script job tx in
+        let more = started_jobs s.script job tx in
         let places = λ (x : JobView). x.me.places in
         let mades = slice_set h.under_way at [] in
         record {
@@ -193,11 +185,11 @@ module _ (script : Script) (journal : List Entry) (jobs : List JobView) (calls :
               (map-append places (slice_set jobs at job') more
               ∙ ap₂ (λ (xs ys : List (List Place)). xs ++ ys)
               (map_set places jobs at job' ∙ ap (λ i. slice_set (places_of jobs) i left) (sym (place_of_number at)))
-              (places_each (started_job script job') blocks left (λ name. refl)
+              (places_each (started_job s.script job') blocks left (λ name. refl)
               ∙ ap (λ (bs : List (List ℕ)). replicate (length bs) left) (started_same tx.late (kept_calls tx.calls tx.replies) tx.ends kept)));
           under_way = mades ++ no_mades more;
-          active = made_grown script (slice_set jobs at job') mades more (made_set script jobs h.under_way at job job' [] h.active stands refl)
-              (started_idle script job' blocks);
+          active = made_grown s (slice_set jobs at job') mades more (made_set s jobs h.under_way at job job' [] h.active stands refl)
+              (started_idle s.script job' blocks);
           called = λ kind.
               subst (λ n. RisesBy (times kind (h.entered ++ made.body ++ made.lates) + n) 0 (calls' kind)) (sym (grown_times kind mades more))
               (entered_called made.lates calls' all rest kind);

@@ -10,8 +10,6 @@ use Rattle.xc_data.specs.declared.entry.Cause.TheVariants as cause
 use Rattle.xc_data.specs.declared.entry.Entry.{Entry}
 use Rattle.xc_data.specs.declared.entry.JobEnd.TheVariants as job_end
 use Rattle.xc_data.specs.declared.entry.Mark.{Mark}
-use Rattle.xc_data.specs.declared.entry.Outcome.{Outcome}
-use Rattle.xc_data.specs.declared.entry.Outcome.TheVariants.{Aborted}
 use Rattle.xc_data.specs.declared.entry.Report.{Report}
 use Rattle.xc_data.specs.declared.entry.Turn.{Turn}
 use Rattle.xc_data.specs.declared.entry.Turn.TheVariants as turn
@@ -23,29 +21,26 @@ use Rattle.xc_host.specs.Cause.{IsCalled, times}
 use Rattle.xc_host.specs.Uses.{BacksFor, LatesFor}
 use Rattle.xc_script.specs.declared.ask.Ask.{Ask}
 use Rattle.xc_script.specs.declared.ask.Ask.TheVariants as ask
-use Rattle.xc_script.specs.Ask.{Job}
 use Rattle.xc_script.specs.Asking.{asks}
-use Rattle.xc_script.specs.Blocks.{BlockWalk, block_from}
+use Rattle.xc_script.specs.Blocks.{block_from}
 use Rattle.xc_script.specs.Position.{Position}
 use Rattle.xc_world.specs.Fits.{is_back}
 use Rattle.xc_world.specs.Late.{kept_call}
 use Rattle.xc_model.specs.declared.phase.Phase.{Phase}
 use Rattle.xc_model.specs.declared.phase.Phase.TheVariants.{Running, Committing, Undoing, Backing}
-use Rattle.xc_model.specs.Asked.{asked_after}
 use Rattle.xc_model.specs.BackingRows.{backed, phase_after, BackingRow, EndsBack, OpenRow, BackingTurn, MarkedBack}
 use Rattle.xc_model.specs.Called.{BacksMake, StopsBy}
 use Rattle.xc_model.specs.CommittingRows.{CommittingTurn, LateTurn}
-use Rattle.xc_model.specs.Entering.{behind_abort, entry_of}
+use Rattle.xc_model.specs.Entering.{behind_abort}
 use Rattle.xc_model.specs.Handles.{handled_anew}
-use Rattle.xc_model.specs.Handling.{HandlesAgree, HasMade, MadeBy, StopsIn, asked_in, begun_job}
+use Rattle.xc_model.specs.Handling.{HandlesAgree, HasMade, MadeBy, StopsIn}
 use Rattle.xc_model.specs.IdleRows.{IdleTurn, beginning_job}
-use Rattle.xc_model.specs.Joint.{asked_behind}
 use Rattle.xc_model.specs.Moment.{TxView, SavedView, JobView, Doing, Idle, Active, Starved, Ended, Moment}
 use Rattle.xc_model.specs.Moment.{active_in, active_of, begun_count, late_left, rank_of, revoked}
-use Rattle.xc_model.specs.Movers.{HasCalled, IsSameBegin, asked_at, mover}
+use Rattle.xc_model.specs.Movers.{HasCalled, asked_at, mover}
 use Rattle.xc_model.specs.PlainSteps.{StopsAt, claims_at, noting, wanting}
-use Rattle.xc_model.specs.Progress.{Following, following_of, progress_of}
-use Rattle.xc_model.specs.Rows.{StarvedTurn, ActiveTurn, TurnOf, IsTurn}
+use Rattle.xc_model.specs.Progress.{Following, progress_of}
+use Rattle.xc_model.specs.Rows.{StarvedTurn, ActiveTurn, TurnOf, IsTurn, lasts_behind}
 use Rattle.xc_model.specs.RunningRows.{Calls, CalledTurn, AskedTurn, MarkedTurn, RunningTurn, Wants}
 use Rattle.xc_model.specs.Setting.{Setting}
 use Rattle.xc_model.specs.Stories.{StoriesHold, StoryHolds, IsDoing, IsInPhase, IsUnderway}
@@ -56,8 +51,8 @@ use Rattle.xc_turns.proofs.HandledRows.{aborted_handled, committed_handled, stay
 use Rattle.xc_turns.proofs.Jobs.{behind_abort_none}
 use Rattle.xc_turns.proofs.LateEnds.{Ends, next_ends, next_uses}
 use Rattle.xc_turns.proofs.Lists.{get_beside}
+use Rattle.xc_turns.proofs.Progressing.{lasts_grow, lasts_stay}
 use Rattle.xc_turns.proofs.StoryAsks.{asks-count}
-use Rattle.xc_turns.proofs.StoryEntries.{place_of_number}
 
 -- an abort leaves the job's handles
 abort_places : (job : JobView) (tx : TxView) (c : Cause) → (behind_abort job tx c).me.places ≡ job.me.places
@@ -78,28 +73,36 @@ revoked_stops : (m : Mark) (last : Ask) → StopsIn (Undoing (revoked m)) last [
 revoked_stops m last = refl
 
 module _ (s : Setting) (at : ℕ) (old : Moment) (job : JobView) (new : Moment) (stands : slice_get old.jobs at ≡ Some job)
-    (told : StoriesHold s (length old.words) old.marks old.journal old.jobs) (h : HandlesAgree s.script old.journal old.jobs old.calls) where
+    (told : StoriesHold s (length old.words) old.marks old.journal old.jobs) (lasts : List Ask) (h : HandlesAgree s lasts old.journal old.jobs old.calls) where
   -- the handles of the new moment
   abbrev After : Type 0
-  After = HandlesAgree s.script new.journal new.jobs new.calls
+  After = HandlesAgree s (lasts_behind (asked_at s job.place) old.journal new.journal lasts) new.journal new.jobs new.calls
 
   -- what the job's active transaction made
-  abbrev was : MadeAt s.script job h.under_way at
-  was = there s.script old.journal old.jobs old.calls at job stands h
+  abbrev was : MadeAt s job h.under_way at
+  was = there s lasts old.journal old.jobs old.calls at job stands h
 
-  -- with this journal and these jobs
-  become : (journal : List Entry) (jobs : List JobView) → new.journal ≡ journal → new.jobs ≡ jobs → HandlesAgree s.script journal jobs new.calls → After
-  become journal jobs p q so =
-      subst (λ (es : List Entry). HandlesAgree s.script es new.jobs new.calls) (sym p)
-      (subst (λ (js : List JobView). HandlesAgree s.script journal js new.calls) (sym q) so)
+  -- with these asks, this journal and these jobs
+  become : (asked : List Ask) (journal : List Entry) (jobs : List JobView) → lasts_behind (asked_at s job.place) old.journal new.journal lasts ≡ asked
+      → new.journal ≡ journal → new.jobs ≡ jobs → HandlesAgree s asked journal jobs new.calls → After
+  become asked journal jobs l p q so =
+      subst (λ (xs : List Ask). HandlesAgree s xs new.journal new.jobs new.calls) (sym l)
+      (subst (λ (es : List Entry). HandlesAgree s asked es new.jobs new.calls) (sym p)
+      (subst (λ (js : List JobView). HandlesAgree s asked journal js new.calls) (sym q) so))
+
+  -- where an entry comes
+  enters_as : (e : Entry) (jobs : List JobView) → new.journal ≡ old.journal ++ e ∷ [] → new.jobs ≡ jobs
+      → HandlesAgree s (lasts ++ asked_at s job.place ∷ []) (old.journal ++ e ∷ []) jobs new.calls → After
+  enters_as e jobs p q so =
+      become (lasts ++ asked_at s job.place ∷ []) (old.journal ++ e ∷ []) jobs (lasts_grow _ _ _ lasts e p) p q so
 
   -- the job goes on, and made more calls
-  goes_on : (job' : JobView) (made' more : List HostCallKind) → job'.me.places ≡ job.me.places → MadeBy s.script job' (active_of job') made'
+  goes_on : (job' : JobView) (made' more : List HostCallKind) → job'.me.places ≡ job.me.places → MadeBy s job' (active_of job') made'
       → ((kind : HostCallKind) → times kind made' ≡ times kind was.made + times kind more) → IsCalled more old.calls new.calls
       → new.journal ≡ old.journal → new.jobs ≡ slice_set old.jobs at job' → After
   goes_on job' made' more same by grown used p q =
-      become old.journal (slice_set old.jobs at job') p q
-      (stays_handled s.script old.journal old.jobs old.calls at job stands h job' made' more new.calls same by grown used)
+      become lasts old.journal (slice_set old.jobs at job') (lasts_stay _ _ _ lasts p) p q
+      (stays_handled s lasts old.journal old.jobs old.calls at job stands h job' made' more new.calls same by grown used)
 
   -- as many as before
   same_times : (made' : List HostCallKind) → ((kind : HostCallKind) → times kind made' ≡ times kind was.made) → (kind : HostCallKind)
@@ -120,7 +123,7 @@ module _ (s : Setting) (at : ℕ) (old : Moment) (job : JobView) (new : Moment) 
   -- then the job made none
   module _ (idle : active_of job ≡ None) where
     none_made : was.made ≡ []
-    none_made = subst (λ (o : Option TxView). MadeBy s.script job o was.made) idle was.by
+    none_made = subst (λ (o : Option TxView). MadeBy s job o was.made) idle was.by
 
     none_times : (kind : HostCallKind) → times kind [] ≡ times kind was.made
     none_times kind = ap (times kind) (sym none_made)
@@ -128,7 +131,7 @@ module _ (s : Setting) (at : ℕ) (old : Moment) (job : JobView) (new : Moment) 
     -- from none to none
     rests : (job' : JobView) → job'.me.places ≡ job.me.places → active_of job' ≡ None → new.journal ≡ old.journal → new.jobs ≡ slice_set old.jobs at job'
         → ((kind : HostCallKind) → new.calls kind ≡ old.calls kind) → After
-    rests job' same none p q calls = goes_on job' [] [] same (idle_made s.script job' none) (same_times [] none_times) calls p q
+    rests job' same none p q calls = goes_on job' [] [] same (idle_made s job' none) (same_times [] none_times) calls p q
 
     by_idle : job.doing ≡ Idle → (answer : Turn) → IdleTurn (mover s at old job) answer new → After
     by_idle is (turn.Ended end) row =
@@ -137,7 +140,7 @@ module _ (s : Setting) (at : ℕ) (old : Moment) (job : JobView) (new : Moment) 
     by_idle is turn.Went row =
         let number = begun_count old + 1 in
         let job' = beginning_job old job in
-        goes_on job' [] [] refl (begun_made s.script job' number (rank_of job.attempts number) (length old.journal) job.me story.fresh refl)
+        goes_on job' [] [] refl (begun_made s job' number (rank_of job.attempts number) (length old.journal) job.me story.fresh refl)
         (same_times [] none_times) (λ kind. ap (λ (n : Moment). n.calls kind) row.1)
         (ap (λ (n : Moment). n.journal) row.1) (ap (λ (n : Moment). n.jobs) row.1)
     by_idle is (turn.Busy object number) row =
@@ -158,8 +161,8 @@ module _ (s : Setting) (at : ℕ) (old : Moment) (job : JobView) (new : Moment) 
 
   module _ (tx : TxView) (is : job.doing ≡ Active tx) where
     -- what it made
-    made : HasMade s.script job tx was.made
-    made = subst (λ (d : Doing). MadeBy s.script job (active_in d) was.made) is was.by
+    made : HasMade s job tx was.made
+    made = subst (λ (d : Doing). MadeBy s job (active_in d) was.made) is was.by
 
     under : IsUnderway s follows.0 job.place tx
     under = subst (IsDoing s (begun_count old) follows.0 job) is story.doing
@@ -182,7 +185,7 @@ module _ (s : Setting) (at : ℕ) (old : Moment) (job : JobView) (new : Moment) 
     going place busy tx' = record job { place = place; busy = busy; doing = Active tx' }
 
     -- it goes on, and made more calls
-    moves : (place : Position) (busy : ℕ) (tx' : TxView) (made' more : List HostCallKind) → HasMade s.script (going place busy tx') tx' made'
+    moves : (place : Position) (busy : ℕ) (tx' : TxView) (made' more : List HostCallKind) → HasMade s (going place busy tx') tx' made'
         → ((kind : HostCallKind) → times kind made' ≡ times kind was.made + times kind more) → IsCalled more old.calls new.calls
         → new.journal ≡ old.journal → new.jobs ≡ slice_set old.jobs at (going place busy tx') → After
     moves place busy tx' made' more by grown used p q = goes_on (going place busy tx') made' more refl by grown used p q
@@ -193,13 +196,13 @@ module _ (s : Setting) (at : ℕ) (old : Moment) (job : JobView) (new : Moment) 
         → new.journal ≡ old.journal → new.jobs ≡ slice_set old.jobs at (going place busy (record tx { phase = p })) → After
     turns place busy p none stopped calls =
         let tx' = record tx { phase = p } in
-        let so : HasMade s.script (going place busy tx') tx' was.made = record {
+        let so : HasMade s (going place busy tx') tx' was.made = record {
           body = made.body;
           stops = made.stops;
           backs = made.backs;
           lates = made.lates;
           calls = made.calls;
-          stopped = subst (StopsIn p (asked_in s.script place tx')) (sym none) (stopped (asked_in s.script place tx'));
+          stopped = subst (StopsIn p (asked_at s place)) (sym none) (stopped (asked_at s place));
           undone = made.undone;
           ended = made.ended;
           all = made.all;
@@ -209,20 +212,20 @@ module _ (s : Setting) (at : ℕ) (old : Moment) (job : JobView) (new : Moment) 
     -- ---- a running one
     module _ (runs : tx.phase ≡ Running) where
       none_yet : made.stops ≡ []
-      none_yet = subst (λ (x : Phase). StopsIn x (asked_in s.script job.place tx) made.stops) runs made.stopped
+      none_yet = subst (λ (x : Phase). StopsIn x (asked_at s job.place) made.stops) runs made.stopped
 
       call_handled : (c : Call) → is_back c ≡ false → Calls (mover s at old job) tx c new → After
       call_handled c ahead row =
           let (more, named, used) = row.uses in
           let tx' = noting tx c row.reply (claims_at old tx c) row.parts in
-          let so : HasMade s.script (going row.place job.busy tx') tx' ((made.body ++ more) ++ made.stops ++ made.backs ++ made.lates) = record {
+          let so : HasMade s (going row.place job.busy tx') tx' ((made.body ++ more) ++ made.stops ++ made.backs ++ made.lates) = record {
             body = made.body ++ more;
             stops = made.stops;
             backs = made.backs;
             lates = made.lates;
             calls = called_handled tx c row.reply (claims_at old tx c) row.parts (handled_anew job.me.places) made.body more ahead each
                 row.checked row.after named made.calls;
-            stopped = subst (λ (x : Phase). StopsIn x (asked_in s.script row.place tx') made.stops) (sym runs) none_yet;
+            stopped = subst (λ (x : Phase). StopsIn x (asked_at s row.place) made.stops) (sym runs) none_yet;
             undone = subst (λ (u : Records). BacksMake u.ended made.backs) (sym row.undo) made.undone;
             ended = other_lates tx.late (tx.late ++ kept_call c tx.me row.reply) tx.ends made.lates (in_phase Running runs).no_ends made.ended;
             all = refl;
@@ -255,28 +258,17 @@ module _ (s : Setting) (at : ℕ) (old : Moment) (job : JobView) (new : Moment) 
           (ap (λ (n : Moment). n.journal) row.behind) (ap (λ (n : Moment). n.jobs) row.behind)
       by_ask ask.End row = absurd row
 
-      -- what it is asked, by its begin and its replies
-      asked_so : (place : Position) → IsSameBegin job.place place → asked_at s job.place ≡ asked_in s.script place tx
-      asked_so place same =
-          let ahead = (in_phase Running runs).ahead in
-          let begun : follows.0.job ≡ begun_job place = λ i. record {
-            block = (sym (same.block ∙ under.standing.block)) i;
-            next = (sym (same.next ∙ under.standing.next)) i;
-            variables = (sym (same.begun ∙ under.standing.begun)) i;
-          } in
-          ap (λ (b : BlockWalk). asks b.walk) ahead ∙ ap (λ (j : Job). asked_after s.script j tx.replies) begun
-
       wants_handled : Wants (mover s at old job) tx new → After
       wants_handled row =
           let (more, named, used) = row.uses in
           let tx' = wanting tx row.left row.held in
-          let so : HasMade s.script (going row.place job.busy tx') tx' (made.body ++ more ++ made.backs ++ made.lates) = record {
+          let so : HasMade s (going row.place job.busy tx') tx' (made.body ++ more ++ made.backs ++ made.lates) = record {
             body = made.body;
             stops = more;
             backs = made.backs;
             lates = made.lates;
             calls = made.calls;
-            stopped = subst (λ (a : Ask). StopsAt a more) (asked_so row.place row.same.begin) named;
+            stopped = subst (λ (a : Ask). StopsAt a more) (sym (ap asks row.same.walk)) named;
             undone = made.undone;
             ended = made.ended;
             all = refl;
@@ -306,13 +298,13 @@ module _ (s : Setting) (at : ℕ) (old : Moment) (job : JobView) (new : Moment) 
       by_mark (Some m) _ row = absurd row
 
     -- one more compensation ended
-    tried : (p : Phase) (older : List Undo) (undo : Undo) (end : UndoEnd) → StopsIn p (asked_in s.script job.place tx) made.stops
+    tried : (p : Phase) (older : List Undo) (undo : Undo) (end : UndoEnd) → StopsIn p (asked_at s job.place) made.stops
         → HasCalled (BacksFor undo end) old new → new.journal ≡ old.journal
         → new.jobs ≡ slice_set old.jobs at
         (going job.place job.busy (record tx { phase = p; undo = record { pending = older; ended = (undo, end) ∷ tx.undo.ended } })) → After
     tried p older undo end stopped (more, named, used) =
         let tx' = record tx { phase = p; undo = record { pending = older; ended = (undo, end) ∷ tx.undo.ended } } in
-        let so : HasMade s.script (going job.place job.busy tx') tx' (made.body ++ made.stops ++ (made.backs ++ more) ++ made.lates) = record {
+        let so : HasMade s (going job.place job.busy tx') tx' (made.body ++ made.stops ++ (made.backs ++ more) ++ made.lates) = record {
           body = made.body;
           stops = made.stops;
           backs = made.backs ++ more;
@@ -334,13 +326,13 @@ module _ (s : Setting) (at : ℕ) (old : Moment) (job : JobView) (new : Moment) 
     -- ---- one whose block goes back
     module _ (backs : tx.phase ≡ Backing) where
       none_back : made.stops ≡ []
-      none_back = subst (λ (x : Phase). StopsIn x (asked_in s.script job.place tx) made.stops) backs made.stopped
+      none_back = subst (λ (x : Phase). StopsIn x (asked_at s job.place) made.stops) backs made.stopped
 
       block_back : (kept : SavedView) → tx.saved ≡ Some kept → EndsBack (mover s at old job) tx kept new → After
       block_back kept opened row =
           let tx' = backed tx kept in
           let phase = in_phase Backing backs in
-          let so : HasMade s.script (going row.place job.busy tx') tx' ((made.body ++ made.backs) ++ [] ++ [] ++ made.lates) = record {
+          let so : HasMade s (going row.place job.busy tx') tx' ((made.body ++ made.backs) ++ [] ++ [] ++ made.lates) = record {
             body = made.body ++ made.backs;
             stops = [];
             backs = [];
@@ -364,8 +356,8 @@ module _ (s : Setting) (at : ℕ) (old : Moment) (job : JobView) (new : Moment) 
       by_block : (kept : SavedView) (b : Bool) → tx.saved ≡ Some kept → BackingRow (mover s at old job) tx kept b new → After
       by_block kept true opened row =
           tried (phase_after (length row.older + 1) row.end) row.older row.tried row.end
-          (subst (StopsIn (phase_after (length row.older + 1) row.end) (asked_in s.script job.place tx)) (sym none_back)
-          (none_stopped (length row.older + 1) row.end (asked_in s.script job.place tx)))
+          (subst (StopsIn (phase_after (length row.older + 1) row.end) (asked_at s job.place)) (sym none_back)
+          (none_stopped (length row.older + 1) row.end (asked_at s job.place)))
           row.uses (ap (λ (n : Moment). n.journal) row.behind) (ap (λ (n : Moment). n.jobs) row.behind)
       by_block kept false opened row = block_back kept opened row
 
@@ -391,7 +383,7 @@ module _ (s : Setting) (at : ℕ) (old : Moment) (job : JobView) (new : Moment) 
         → HasCalled (LatesFor c row.end) old new → After
     late_handled c calls left row (more, named, used) =
         let tx' = record tx { ends = tx.ends ++ row.end ∷ [] } in
-        let so : HasMade s.script (going job.place job.busy tx') tx' (made.body ++ made.stops ++ made.backs ++ (made.lates ++ more)) = record {
+        let so : HasMade s (going job.place job.busy tx') tx' (made.body ++ made.stops ++ made.backs ++ (made.lates ++ more)) = record {
           body = made.body;
           stops = made.stops;
           backs = made.backs;
@@ -413,12 +405,12 @@ module _ (s : Setting) (at : ℕ) (old : Moment) (job : JobView) (new : Moment) 
     commit_handled : tx.phase ≡ Committing → LateTurn (mover s at old job) tx [] new → After
     commit_handled commits row =
         let phase = in_phase Committing commits in
-        become _ _ (ap (λ (n : Moment). n.journal) row.0) (ap (λ (n : Moment). n.jobs) row.0)
-        (committed_handled s.script old.journal old.jobs old.calls at job stands h tx made new.calls under.kept.0
+        enters_as _ _ (ap (λ (n : Moment). n.journal) row.0) (ap (λ (n : Moment). n.jobs) row.0)
+        (committed_handled s lasts old.journal old.jobs old.calls at job stands h tx made new.calls under.kept.0
         (λ kind.
         let before = made_times kind in
         let none : times kind made.stops ≡ 0 =
-        ap (times kind) (subst (λ (x : Phase). StopsIn x (asked_in s.script job.place tx) made.stops) commits made.stopped) in
+        ap (times kind) (subst (λ (x : Phase). StopsIn x (asked_at s job.place) made.stops) commits made.stopped) in
         let backs : times kind made.backs ≡ 0 = ap (times kind) (no_backs tx.undo.ended made.backs phase.none made.undone) in
         omega (arith, before, none, backs))
         (λ kind. ap (λ (n : Moment). n.calls kind) row.0))
@@ -434,30 +426,17 @@ module _ (s : Setting) (at : ℕ) (old : Moment) (job : JobView) (new : Moment) 
     by_committing commits (turn.Ended end) row = absurd row
 
     -- ---- one rolling back
-    -- what was asked last of it
-    last_so : (o : Outcome) → asked_in s.script job.place tx
-        ≡ asked_behind s.script (following_of (progress_of s.script old.journal) (entry_of tx at o)) tx.replies
-    last_so o =
-        let begun : begun_job job.place ≡ follows.0.job = λ i. record {
-          block = under.standing.block i;
-          next = under.standing.next i;
-          variables = under.standing.begun i;
-        } in
-        ap (λ (j : Job). asked_after s.script j tx.replies) begun
-        ∙ ap (λ (o : Option Following). asked_behind s.script o tx.replies)
-        (sym (ap (λ i. slice_get (progress_of s.script old.journal).jobs i) (place_of_number at) ∙ follows.1))
-
     abort_handled : (c : Cause) → tx.phase ≡ Undoing c → EntersAborted (mover s at old job) tx c new → After
     abort_handled c undoes row =
         let phase = in_phase (Undoing c) undoes in
         let report : Report = record { cause = c; records = tx.undo.ended } in
-        let stopped : StopsBy c (asked_in s.script job.place tx) made.stops =
-        subst (λ (x : Phase). StopsIn x (asked_in s.script job.place tx) made.stops) undoes made.stopped in
-        become _ _ (ap (λ (n : Moment). n.journal) row.behind) (ap (λ (n : Moment). n.jobs) row.behind)
-        (aborted_handled s.script old.journal old.jobs old.calls at job stands h tx made report (behind_abort job tx c) (made.stops ++ made.backs) new.calls
+        let stopped : StopsBy c (asked_at s job.place) made.stops =
+        subst (λ (x : Phase). StopsIn x (asked_at s job.place) made.stops) undoes made.stopped in
+        enters_as _ _ (ap (λ (n : Moment). n.journal) row.behind) (ap (λ (n : Moment). n.jobs) row.behind)
+        (aborted_handled s lasts old.journal old.jobs old.calls at job stands h tx made report (behind_abort job tx c) (made.stops ++ made.backs) new.calls
         (abort_places job tx c)
-        (made.stops, made.backs, subst (λ (a : Ask). StopsBy c a made.stops) (last_so (Aborted report)) stopped, made.undone, refl)
-        (idle_made s.script (behind_abort job tx c) (behind_abort_none job tx c))
+        (made.stops, made.backs, stopped, made.undone, refl)
+        (idle_made s (behind_abort job tx c) (behind_abort_none job tx c))
         (λ kind.
         let before = made_times kind in
         let lates : times kind made.lates ≡ 0 = ap (times kind) (no_ends_made tx.late tx.ends made.lates phase.no_ends made.ended) in
@@ -489,7 +468,7 @@ module _ (s : Setting) (at : ℕ) (old : Moment) (job : JobView) (new : Moment) 
   by_doing (Ended end) is answer row = absurd row
 
 -- a turn keeps the handles, and the count of the host's calls
-pub turn_keeps_handles : (s : Setting) (at : ℕ) (old new : Moment) (answer : Turn) → IsTurn s at old answer new
-    → StoriesHold s (length old.words) old.marks old.journal old.jobs → HandlesAgree s.script old.journal old.jobs old.calls
-    → HandlesAgree s.script new.journal new.jobs new.calls
-turn_keeps_handles s at old new answer t told h = by_doing s at old t.job new t.there told h t.job.doing refl answer t.row
+pub turn_keeps_handles : (s : Setting) (at : ℕ) (old new : Moment) (answer : Turn) (lasts : List Ask) → (t : IsTurn s at old answer new)
+    → StoriesHold s (length old.words) old.marks old.journal old.jobs → HandlesAgree s lasts old.journal old.jobs old.calls
+    → HandlesAgree s (lasts_behind (asked_at s t.job.place) old.journal new.journal lasts) new.journal new.jobs new.calls
+turn_keeps_handles s at old new answer lasts t told h = by_doing s at old t.job new t.there told lasts h t.job.doing refl answer t.row

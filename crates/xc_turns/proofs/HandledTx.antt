@@ -18,7 +18,7 @@ use Rattle.xc_data.specs.declared.undo.Undo.{Undo}
 use Rattle.xc_data.specs.declared.undo.UndoEnd.{UndoEnd}
 use Rattle.xc_host.specs.Cause.{counts_for, times}
 use Rattle.xc_host.specs.Uses.{CallsOf, LatesFor}
-use Rattle.xc_text.specs.declared.script.Script.{Script}
+use Rattle.xc_model.specs.Setting.{Setting}
 use Rattle.xc_world.specs.After.{IsMeAfter}
 use Rattle.xc_world.specs.Checks.{IsChecked, refusal_of}
 use Rattle.xc_world.specs.Ends.{is_undone}
@@ -135,9 +135,9 @@ parts_times kind body stops backs lates =
 
 -- ---- jobs
 -- a transaction that has just begun made no call
-pub begun_made : (script : Script) (job : JobView) (number rank began : ℕ) (me : Private) → me ≡ beginning me.places → job.me ≡ me
-    → HasMade script job (new_tx number rank began me) []
-begun_made script job number rank began me fresh own =
+pub begun_made : (s : Setting) (job : JobView) (number rank began : ℕ) (me : Private) → me ≡ beginning me.places → job.me ≡ me
+    → HasMade s job (new_tx number rank began me) []
+begun_made s job number rank began me fresh own =
     record {
       body = [];
       stops = [];

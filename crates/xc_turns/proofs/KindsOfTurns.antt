@@ -4,13 +4,14 @@ use Rattle.std.specs.Prelude.{All, Option, slice_set}
 use Rattle.std.specs.declared.option.Option.TheVariants.{None, Some}
 use Rattle.xc_data.specs.Claims.{holding}
 use Rattle.xc_data.specs.declared.call.Call.{Call}
+use Rattle.xc_data.specs.declared.call.Call.TheVariants as call
 use Rattle.xc_data.specs.declared.claim.Claim.{Claim}
 use Rattle.xc_data.specs.declared.object.Object.{Object}
 use Rattle.xc_data.specs.declared.entry.Cause.{Cause}
 use Rattle.xc_data.specs.declared.entry.Cause.TheVariants as cause
 use Rattle.xc_data.specs.declared.entry.Outcome.{Outcome}
 use Rattle.xc_script.specs.declared.ask.Ask.TheVariants as ask
-use Rattle.xc_model.specs.declared.phase.Phase.TheVariants.{Running, Undoing, Backing}
+use Rattle.xc_model.specs.declared.phase.Phase.TheVariants.{Running, Undoing}
 use Rattle.xc_model.specs.Setting.{Setting}
 use Rattle.xc_model.specs.Moment.{TxView, JobView, Moment, active_of, begun_count}
 use Rattle.xc_model.specs.Moment.{unmarked}
@@ -60,12 +61,13 @@ HoldsOn jobs at was held = (held ≡ was) ⊎ ((claims : List Claim) × All (Has
 pub record HoldsAsked (s : Setting) (old : Moment) (job : JobView) (was tx : TxView) : Type 0 where
   pub call : Call
   pub asked : asked_at s job.place ≡ ask.Call call
-  pub running : was.phase ≡ Running
   pub held : tx.held ≡ holding was.held (claims_at old was call)
 
 -- what it is asked stays, or the asked call is done; a block's way back claims nothing
-abbrev pub AsksOn : Setting → Moment → JobView → TxView → TxView → Type 0
-AsksOn s old job was tx = ((tx.me ≡ was.me) × (tx.replies ≡ was.replies)) ⊎ (HoldsAsked s old job was tx ⊎ (was.phase ≡ Backing))
+abbrev pub AsksOn : Mover → JobView → TxView → TxView → Type 0
+AsksOn m behind was tx =
+    ((tx.me ≡ was.me) × (asked_at m.setting behind.place ≡ asked_at m.setting m.job.place))
+    ⊎ (HoldsAsked m.setting m.old m.job was tx ⊎ (asked_at m.setting m.job.place ≡ ask.Call call.Back))
 
 -- no conflict and no revocation
 abbrev pub IsNoConflict : Option Cause → Type 0
@@ -78,28 +80,27 @@ abbrev pub cause_on : Moment → TxView → Option Cause
 cause_on now tx = cause_of_phase (now.marks tx.number) tx.phase
 
 -- that stays, with all that it is judged by
-pub record IsSameCause (old : Moment) (was tx : TxView) : Type 0 where
-  pub cause : cause_on old tx ≡ cause_on old was
+pub record IsSameCause (m : Mover) (behind : JobView) (was tx : TxView) : Type 0 where
+  pub cause : cause_on m.old tx ≡ cause_on m.old was
   pub me : tx.me ≡ was.me
-  pub replies : tx.replies ≡ was.replies
+  pub still : asked_at m.setting behind.place ≡ asked_at m.setting m.job.place
 
 -- the call that it is asked meets a holder
-pub record MeetsRival (m : Mover) (was tx : TxView) : Type 0 where
+pub record MeetsRival (m : Mover) (behind : JobView) (was tx : TxView) : Type 0 where
   pub call : Call
   pub asked : asked_at m.setting m.job.place ≡ ask.Call call
-  pub running : was.phase ≡ Running
   pub object : Object
   pub holder : ℕ
   pub met : IsFirstRival m.old.jobs m.at (claims_at m.old was call) object holder
   pub phase : tx.phase ≡ Undoing (cause.Conflict object holder (length m.old.journal))
   pub me : tx.me ≡ was.me
-  pub replies : tx.replies ≡ was.replies
+  pub still : asked_at m.setting behind.place ≡ asked_at m.setting m.job.place
 
 -- it has the old cause, none that names a holder, or a new one that does
-pub data CauseOn (m : Mover) (was tx : TxView) : Type 0 where
-  same : IsSameCause m.old was tx → CauseOn m was tx
-  free : IsNoConflict (cause_on m.old tx) → CauseOn m was tx
-  meets : MeetsRival m was tx → CauseOn m was tx
+pub data CauseOn (m : Mover) (behind : JobView) (was tx : TxView) : Type 0 where
+  same : IsSameCause m behind was tx → CauseOn m behind was tx
+  free : IsNoConflict (cause_on m.old tx) → CauseOn m behind was tx
+  meets : MeetsRival m behind was tx → CauseOn m behind was tx
 
 -- an active transaction goes on
 pub record Moves (s : Setting) (at : ℕ) (old : Moment) (job : JobView) (new : Moment) : Type 0 where
@@ -114,8 +115,8 @@ pub record Moves (s : Setting) (at : ℕ) (old : Moment) (job : JobView) (new : 
   pub rank : tx.rank ≡ was.rank
   pub began : tx.began ≡ was.began
   pub held : HoldsOn old.jobs at was.held tx.held
-  pub wants : AsksOn s old job was tx
-  pub why : CauseOn (mover s at old job) was tx
+  pub wants : AsksOn (mover s at old job) behind was tx
+  pub why : CauseOn (mover s at old job) behind was tx
   pub marks : new.marks ≡ old.marks
 
 -- an active transaction stays as it is, and another one is marked
@@ -126,7 +127,7 @@ pub record Stays (s : Setting) (at : ℕ) (old : Moment) (job : JobView) (new : 
   pub tx : TxView
   pub before : active_of job ≡ Some tx
   pub after : active_of behind ≡ Some tx
-  pub running : tx.phase ≡ Running
+  pub still : asked_at s behind.place ≡ asked_at s job.place
   pub object : Object
   pub holder : ℕ
   pub waits : Waits (mover s at old job) tx object holder new

@@ -15,7 +15,6 @@ pub mod GroundEntries
 pub mod Grounding
 pub mod Grown
 pub mod Halves
-pub mod HandledLasts
 pub mod HandledMade
 pub mod HandledRows
 pub mod HandledTurns

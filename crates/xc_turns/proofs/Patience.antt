@@ -64,11 +64,11 @@ module _ (s : Setting) (at : ℕ) (old new : Moment) (job : JobView) (stands : s
   on_mark tx is = subst (λ (m : Option Mark). IsUnrevoked (cause_of_phase m tx.phase)) (sym (none.marks tx.number)) is
 
   -- a transaction that goes on for such a cause
-  goes_on : (was tx : TxView) → IsUnrevoked (cause_of_phase None was.phase) → CauseOn (mover s at old job) was tx
+  goes_on : (behind : JobView) (was tx : TxView) → IsUnrevoked (cause_of_phase None was.phase) → CauseOn (mover s at old job) behind was tx
       → IsUnrevoked (cause_of_phase None tx.phase)
-  goes_on was tx before (same e) = on_phase tx (subst IsUnrevoked (sym e.cause) (on_mark was before))
-  goes_on was tx before (free e) = on_phase tx (free_unrevoked (cause_on old tx) e)
-  goes_on was tx before (meets e) = subst (λ (p : Phase). IsUnrevoked (cause_of_phase None p)) (sym e.phase) tt
+  goes_on behind was tx before (same e) = on_phase tx (subst IsUnrevoked (sym e.cause) (on_mark was before))
+  goes_on behind was tx before (free e) = on_phase tx (free_unrevoked (cause_on old tx) e)
+  goes_on behind was tx before (meets e) = subst (λ (p : Phase). IsUnrevoked (cause_of_phase None p)) (sym e.phase) tt
 
   -- no such one in this place
   nothing_here : (behind : JobView) → active_of behind ≡ None → (tx : TxView) → active_of behind ≡ Some tx → IsUnrevoked (cause_of_phase None tx.phase)
@@ -101,7 +101,7 @@ module _ (s : Setting) (at : ℕ) (old new : Moment) (job : JobView) (stands : s
         entries = subst AreUnrevoked (sym k.journal) none.entries;
         active = subst (λ (jobs : List JobView). (j : ℕ) (tx : TxView) → IsActiveAt jobs j tx → IsUnrevoked (cause_of_phase None tx.phase))
             (sym k.sets.jobs) (set_active k.behind (one_here k.behind k.tx k.after
-            (goes_on k.was k.tx (none.active at k.was (job, stands, k.before)) k.why)));
+            (goes_on k.behind k.was k.tx (none.active at k.was (job, stands, k.before)) k.why)));
         marks = λ n. ap (λ marks. marks n) k.marks ∙ none.marks n;
       }
   kind_revokes_none zero (stays k) =

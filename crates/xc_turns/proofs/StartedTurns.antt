@@ -11,7 +11,7 @@ use mathlib.Core.Logic.{dite}
 use native.Mathlib.Decide.{ℕ_discrete}
 use Rattle.xc_data.specs.declared.call.Call.{Call}
 use Rattle.xc_data.specs.declared.call.LateCall.{LateCall}
-use Rattle.xc_data.specs.declared.call.LateCall.TheVariants.{Thread, Unlink, Sync, WritePipe, Shutdown, Send}
+use Rattle.xc_data.specs.declared.call.LateCall.TheVariants.{Thread}
 use Rattle.xc_data.specs.declared.call.LateEnd.{LateEnd}
 use Rattle.xc_data.specs.declared.call.LateEnd.TheVariants as end
 use Rattle.xc_data.specs.declared.claim.Claim.{Claim}
@@ -353,11 +353,7 @@ module _ (s : Setting) (at : ℕ) (old : Moment) (job : JobView) (new : Moment) 
         ended row.end (Thread block) rest left (ap (λ (n : Moment). n.jobs) row.behind) one.0 one.1
         (subst (λ was. IsStart s.script was block row.end (was ++ started_with (Some block) row.end)) alone
         (subst (IsStart s.script old.started block row.end) one.0 row.starts))
-    by_next (Unlink name) rest left row = at_host (Unlink name) rest refl left row
-    by_next (Sync num) rest left row = at_host (Sync num) rest refl left row
-    by_next (WritePipe num bytes) rest left row = at_host (WritePipe num bytes) rest refl left row
-    by_next (Shutdown o) rest left row = at_host (Shutdown o) rest refl left row
-    by_next (Send num side bytes) rest left row = at_host (Send num side bytes) rest refl left row
+    by_next c rest left row = at_host c rest refl left row
 
     -- what it has started stands in front of what others have
     leads : (b : Bool) → keeps_start tx ≡ b → all_started old.jobs ≡ started_by tx ++ all_started (slice_set old.jobs at (behind_commit job tx))

@@ -8,6 +8,7 @@ use Rattle.xc_data.specs.declared.entry.Cause.TheVariants as cause
 use Rattle.xc_data.specs.declared.entry.Entry.{Entry}
 use Rattle.xc_data.specs.Private.{IsSided}
 use Rattle.xc_world.specs.World.{beginning}
+use Rattle.xc_script.specs.declared.ask.Ask.{Ask}
 use Rattle.xc_script.specs.Ask.{Job}
 use Rattle.xc_script.specs.Values.{Variables}
 use Rattle.xc_script.specs.Position.{at_begin}
@@ -31,15 +32,15 @@ use Rattle.xc_turns.proofs.StoryEntries.{aborted_by, gone_on}
 
 -- ---- an entry after the journal
 -- all is told after it, where its job is, and the jobs that it started
-pub enters : (s : Setting) (journal : List Entry) (jobs more : List JobView) (at : ℕ) (job next : JobView) (tx : TxView) (e : Entry) (f g : Following)
-    (gs : List Following)
+pub enters : (s : Setting) (lasts : List Ask) (journal : List Entry) (jobs more : List JobView) (at : ℕ) (job next : JobView) (tx : TxView) (last : Ask)
+    (e : Entry) (f g : Following) (gs : List Following)
     → slice_get jobs at ≡ Some job → active_of job ≡ Some tx → active_of next ≡ None → entry_begin e ≡ active_begin tx
     → slice_get (progress_of s.script journal).jobs at ≡ Some f
     → (after_entry s.script (progress_of s.script journal) e).jobs ≡ slice_set (progress_of s.script journal).jobs at g ++ gs
     → length gs ≡ length more → AreIdle more → JobStoriesHold s (begun_in journal jobs) (length journal + 1) gs more
-    → IsTrueEntry s (progress_of s.script journal) e → StoryHolds s (begun_in journal jobs) (length journal + 1) g next
-    → StoriesHoldBut s journal jobs → StoriesHoldBut s (journal ++ e ∷ []) (slice_set jobs at next ++ more)
-enters s journal jobs more_jobs at job next tx e f g gs stands some none same got leads even idle started one mine told =
+    → IsTrueEntry s (progress_of s.script journal) last e → StoryHolds s (begun_in journal jobs) (length journal + 1) g next
+    → StoriesHoldBut s lasts journal jobs → StoriesHoldBut s (lasts ++ last ∷ []) (journal ++ e ∷ []) (slice_set jobs at next ++ more)
+enters s lasts journal jobs more_jobs at job next tx last e f g gs stands some none same got leads even idle started one mine told =
     let p = progress_of s.script journal in
     let fs = p.jobs in
     let n = begun_in journal jobs in
@@ -62,7 +63,7 @@ enters s journal jobs more_jobs at job next tx e f g gs stands some none same go
     (told_in_place s n n (length journal) (length journal + 1) fs (slice_set fs at g) jobs at job next g (omega arith) (omega arith) stands
     (get_set_same fs at f g got) (λ j ne. get_set_other fs at j g ne) mine told.jobs_told) started in
     record {
-      entries = true-more s journal e told.entries one;
+      entries = true-more s lasts journal last e told.entries one;
       count = ap length led ∙ length-append (slice_set fs at g) gs ∙ ap₂ (λ a b. a + b) set_count even ∙ sym (length-append set_jobs more_jobs);
       jobs_told = subst (λ gs. JobStoriesHold s (begun_in (journal ++ e ∷ []) next_jobs) (length (journal ++ e ∷ [])) gs next_jobs) (sym led)
           (subst (λ k. JobStoriesHold s k (length (journal ++ e ∷ [])) (slice_set fs at g ++ gs) next_jobs) (sym count)

@@ -24,14 +24,14 @@ use Rattle.xc_model.specs.WordCalls.{AreWordReplies}
 use Rattle.xc_model.specs.Progress.{Following, Progress, after_entry, after_following, following_abort, following_of}
 use Rattle.xc_model.specs.Progress.{committed_job, started_following, untried}
 use Rattle.xc_model.specs.Recorded.{HasRecords, IsStuckIn, all_records, no_records, saved_records}
-use Rattle.xc_model.specs.Asked.{next_of}
 use Rattle.xc_model.specs.EntryEnds.{AreRecords, HasAbortCause, IsHeldAt, IsReport, is_tried_again}
 use Rattle.xc_model.specs.Joint.{IsPlayed, IsTrueEntry}
 use Rattle.xc_model.specs.Moment.{TxView, late_left}
 use Rattle.xc_model.specs.LateCalls.{started_late}
 use Rattle.xc_data.specs.Calls.{thread_asked, thread_in}
 use Rattle.xc_model.specs.Entering.{entry_of}
-use Rattle.xc_model.specs.Stories.{HasRecordsIn, IsCommitting, IsInPhase, IsUndoing, IsUnderway, asked_of_tx}
+use Rattle.xc_model.specs.Movers.{asked_at}
+use Rattle.xc_model.specs.Stories.{HasRecordsIn, IsCommitting, IsInPhase, IsUndoing, IsUnderway}
 use Rattle.xc_model.specs.Played.{HoldsFor, IsPlayedSoFar, RecordsFor, ran_behind}
 use Rattle.xc_model.specs.Started.{HasStartEnds}
 use Rattle.xc_model.specs.Starts.{AreStarts}
@@ -49,15 +49,15 @@ pub entry_following : (p : Progress) (at : ℕ) (tx : TxView) (outcome : Outcome
 entry_following p at tx outcome f got = ap (slice_get p.jobs) (place_of_number at) ∙ got
 
 -- ---- a commit
-commit_played : (s : Setting) (words : ℕ) (p : Progress) (at : ℕ) (tx : TxView) (next : Ask) → tx.phase ≡ Committing → length tx.ends ≡ length tx.late
-    → IsPlayedSoFar s words p at tx → IsPlayed p next (entry_of tx at (Committed tx.ends))
-commit_played s words p at tx next commits all so =
+commit_played : (next : Ask) (words : ℕ) (p : Progress) (at : ℕ) (tx : TxView) → tx.phase ≡ Committing → length tx.ends ≡ length tx.late
+    → IsPlayedSoFar next words p at tx → IsPlayed p next (entry_of tx at (Committed tx.ends))
+commit_played next words p at tx commits all so =
     let ran = ran_behind p at tx in
     let whole : take (length tx.ends) ran.late ≡ ran.late = take_all ran.late (length tx.ends) (all ∙ ap length (sym so.late)) in
     record {
       fits = so.fits;
       replies = so.replies;
-      held = subst (λ (f : Phase). HoldsFor ran (asked_of_tx s (slice_get p.jobs at) tx) f tx.held) commits so.holds;
+      held = subst (λ (f : Phase). HoldsFor ran next f tx.held) commits so.holds;
       outcome = record {
         ends = ap (λ (calls : List LateCall). (lates ran.world (late_asked_of calls tx.ends)).ends) (sym whole) ∙ so.ends;
         late_fits = subst (λ (calls : List LateCall). IsTrue (lates_fit ran.world (late_asked_of calls tx.ends))) whole so.late_fits;
@@ -67,8 +67,8 @@ commit_played s words p at tx next commits all so =
 -- the entry of a commit is true after a true journal
 pub commit_true : (s : Setting) (words : ℕ) (p : Progress) (f : Following) (at : ℕ) (place : Position) (tx : TxView) → slice_get p.jobs at ≡ Some f
     → tx.phase ≡ Committing → late_left tx ≡ [] → IsUnderway s f place tx → tx.began ≤ p.entered → AreWordReplies p.words tx.calls tx.replies
-    → HasStartEnds s.script (map (λ (g : Following). g.block) p.jobs) tx → (IsTrue s.tells → IsPlayedSoFar s words p at tx)
-    → IsTrueEntry s p (entry_of tx at (Committed tx.ends))
+    → HasStartEnds s.script (map (λ (g : Following). g.block) p.jobs) tx → (IsTrue s.tells → IsPlayedSoFar (asked_at s place) words p at tx)
+    → IsTrueEntry s p (asked_at s place) (entry_of tx at (Committed tx.ends))
 commit_true s words p f at place tx got commits none under began said starts played =
     let committing : IsCommitting s f place tx = subst (IsInPhase s f place tx) commits under.phase in
     let all : length tx.ends ≡ length tx.late = left_none tx.late tx.ends committing.few_ends none in
@@ -85,16 +85,14 @@ commit_true s words p f at place tx got commits none under began said starts pla
           rank = under.rank;
           failures = let lt = under.attempts in omega arith;
           calls = under.asked;
-          asked = (
-            ap (λ (b : BlockWalk). asks b.walk) (sym committing.ahead) ∙ committing.asked,
-            all ∙ late_as_many tx.late (kept_calls tx.calls tx.replies) under.kept.0,
-          );
+          after = ap (λ (b : BlockWalk). asks b.walk) committing.ahead;
+          asked = (committing.asked, all ∙ late_as_many tx.late (kept_calls tx.calls tx.replies) under.kept.0);
           faults = under.faults;
         };
         words = said;
         in_time = under.in_time;
         starts = subst (λ calls. AreStarts s.script (map (λ (g : Following). g.block) p.jobs) calls tx.ends) under.kept.0 starts;
-        played = λ t. commit_played s words p at tx (next_of s.script f tx.replies) commits all (played t);
+        played = λ t. commit_played (asked_at s place) words p at tx commits all (played t);
       };
     }
 
@@ -140,22 +138,19 @@ records_back ran tx next (cause.Conflict object holder at) records h = h
 records_back ran tx next (cause.Revoked object by at) records h = h
 records_back ran tx next cause.NoMemory records h = h
 
-abort_played : (s : Setting) (words : ℕ) (p : Progress) (f : Following) (at : ℕ) (tx : TxView) (c : Cause) → slice_get p.jobs at ≡ Some f
-    → tx.phase ≡ Undoing c → tx.undo.pending ≡ [] → IsPlayedSoFar s words p at tx
-    → IsPlayed p (next_of s.script f tx.replies) (entry_of tx at (aborted_by c tx))
-abort_played s words p f at tx c got undoes none so =
+abort_played : (next : Ask) (words : ℕ) (p : Progress) (at : ℕ) (tx : TxView) (c : Cause) → tx.phase ≡ Undoing c → tx.undo.pending ≡ []
+    → IsPlayedSoFar next words p at tx → IsPlayed p next (entry_of tx at (aborted_by c tx))
+abort_played next words p at tx c undoes none so =
     let ran = ran_behind p at tx in
-    let next = next_of s.script f tx.replies in
     let ended : List Undo = map (λ (r : Ending). r.0) tx.undo.ended in
-    let asked : asked_of_tx s (slice_get p.jobs at) tx ≡ next = ap (λ o. asked_of_tx s o tx) got in
-    let holds = subst (λ (h : Phase). HoldsFor ran (asked_of_tx s (slice_get p.jobs at) tx) h tx.held) undoes so.holds in
-    let told = subst (λ (h : Phase). RecordsFor ran tx.number (asked_of_tx s (slice_get p.jobs at) tx) h (tx.undo.pending ++ ended)) undoes so.records in
-    let all = subst (λ (us : List Undo). RecordsFor ran tx.number (asked_of_tx s (slice_get p.jobs at) tx) (Undoing c) (us ++ ended)) none told in
+    let holds = subst (λ (h : Phase). HoldsFor ran next h tx.held) undoes so.holds in
+    let told = subst (λ (h : Phase). RecordsFor ran tx.number next h (tx.undo.pending ++ ended)) undoes so.records in
+    let all = subst (λ (us : List Undo). RecordsFor ran tx.number next (Undoing c) (us ++ ended)) none told in
     record {
       fits = so.fits;
       replies = so.replies;
-      held = held_back ran next c tx.held (subst (λ a. HoldsFor ran a (Undoing c) tx.held) asked holds);
-      outcome = records_back ran tx.number next c ended (subst (λ a. RecordsFor ran tx.number a (Undoing c) ended) asked all);
+      held = held_back ran next c tx.held holds;
+      outcome = records_back ran tx.number next c ended all;
     }
 
 few_tried : (b : Bool) (n m : ℕ) → n < m → (if b then n + 1 else n) ≤ m
@@ -164,7 +159,7 @@ few_tried false n m lt = omega arith
 
 -- its report has the records of its calls, with their ends
 report_so : (s : Setting) (f : Following) (place : Position) (tx : TxView) (c : Cause) → tx.phase ≡ Undoing c → tx.undo.pending ≡ []
-    → IsUnderway s f place tx → IsUndoing s f tx c
+    → IsUnderway s f place tx → IsUndoing s f place tx c
     → IsReport s.rules.undo_tries (all_records no_records tx.calls tx.replies) (record { cause = c; records = tx.undo.ended })
 report_so s f place tx c undoes none under undoing =
     let k = all_records no_records tx.calls tx.replies in
@@ -176,9 +171,9 @@ report_so s f place tx c undoes none under undoing =
     }
 
 -- and its cause is what it was asked, or a way back that got stuck
-caused_so : (s : Setting) (f : Following) (tx : TxView) (c : Cause) → tx.undo.pending ≡ [] → IsUndoing s f tx c
-    → HasAbortCause (all_records no_records tx.calls tx.replies) (next_of s.script f tx.replies) (record { cause = c; records = tx.undo.ended })
-caused_so s f tx c none undoing =
+caused_so : (s : Setting) (f : Following) (place : Position) (tx : TxView) (c : Cause) → tx.undo.pending ≡ [] → IsUndoing s f place tx c
+    → HasAbortCause (all_records no_records tx.calls tx.replies) (asked_at s place) (record { cause = c; records = tx.undo.ended })
+caused_so s f place tx c none undoing =
     let k = all_records no_records tx.calls tx.replies in
     record {
       asked = undoing.caused;
@@ -188,9 +183,9 @@ caused_so s f tx c none undoing =
 -- the entry of an abort is true after a true journal
 pub abort_true : (s : Setting) (words : ℕ) (p : Progress) (f : Following) (at : ℕ) (place : Position) (tx : TxView) (c : Cause) → slice_get p.jobs at ≡ Some f
     → tx.phase ≡ Undoing c → tx.undo.pending ≡ [] → IsUnderway s f place tx → tx.began ≤ p.entered → AreWordReplies p.words tx.calls tx.replies
-    → (IsTrue s.tells → IsPlayedSoFar s words p at tx) → IsTrueEntry s p (entry_of tx at (aborted_by c tx))
+    → (IsTrue s.tells → IsPlayedSoFar (asked_at s place) words p at tx) → IsTrueEntry s p (asked_at s place) (entry_of tx at (aborted_by c tx))
 abort_true s words p f at place tx c got undoes none under began said played =
-    let undoing : IsUndoing s f tx c = subst (IsInPhase s f place tx) undoes under.phase in
+    let undoing : IsUndoing s f place tx c = subst (IsInPhase s f place tx) undoes under.phase in
     record {
       following = f;
       numbered = omega arith;
@@ -204,13 +199,14 @@ abort_true s words p f at place tx c got undoes none under began said played =
           rank = under.rank;
           failures = few_tried (is_tried_again c) (length f.failed) s.rules.attempts under.attempts;
           calls = under.asked;
-          asked = (caused_so s f tx c none undoing, report_so s f place tx c undoes none under undoing);
+          after = ap (λ (b : BlockWalk). asks b.walk) undoing.ahead;
+          asked = (caused_so s f place tx c none undoing, report_so s f place tx c undoes none under undoing);
           faults = under.faults;
         };
         words = said;
         in_time = under.in_time;
         starts = tt;
-        played = λ t. abort_played s words p f at tx c got undoes none (played t);
+        played = λ t. abort_played (asked_at s place) words p at tx c undoes none (played t);
       };
     }
 

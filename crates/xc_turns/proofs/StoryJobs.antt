@@ -10,6 +10,7 @@ use Rattle.xc_data.specs.declared.entry.Entry.{Entry}
 use Rattle.xc_data.specs.declared.entry.JobEnd.{JobEnd}
 use Rattle.xc_data.specs.declared.entry.JobEnd.TheVariants as job_end
 use Rattle.xc_data.specs.declared.entry.Mark.{Mark}
+use Rattle.xc_script.specs.declared.ask.Ask.{Ask}
 use Rattle.xc_model.specs.Setting.{Setting}
 use Rattle.xc_model.specs.Grounds.{AreGrounded}
 use Rattle.xc_model.specs.Progress.{Following, opening_progress, progress_of}
@@ -31,25 +32,35 @@ abbrev pub begun_in : List Entry → List JobView → ℕ
 begun_in journal jobs = length journal + length (actives jobs)
 
 -- what is true of the stories, but for the grounds of conflicts
-pub record StoriesHoldBut (s : Setting) (journal : List Entry) (jobs : List JobView) : Type 0 where
-  pub entries : AreTrue s (opening_progress s.script) journal
+pub record StoriesHoldBut (s : Setting) (lasts : List Ask) (journal : List Entry) (jobs : List JobView) : Type 0 where
+  pub entries : AreTrue s (opening_progress s.script) lasts journal
   pub count : length (progress_of s.script journal).jobs ≡ length jobs
   pub jobs_told : JobStoriesHold s (begun_in journal jobs) (length journal) (progress_of s.script journal).jobs jobs
   pub begins : AreBegins journal (begins_of journal jobs)
   pub few : begun_in journal jobs ≤ 10000
 
 -- it is a part of what is true between two turns
-pub told_but : (s : Setting) (words : ℕ) (marks : ℕ → Option Mark) (journal : List Entry) (jobs : List JobView) → StoriesHold s words marks journal jobs
-    → StoriesHoldBut s journal jobs
+pub told_but : (s : Setting) (words : ℕ) (marks : ℕ → Option Mark) (journal : List Entry) (jobs : List JobView)
+    → (told : StoriesHold s words marks journal jobs) → StoriesHoldBut s told.lasts journal jobs
 told_but s words marks journal jobs told =
     record { entries = told.entries; count = told.count; jobs_told = told.jobs_told; begins = told.begins; few = told.few }
 
 -- and with the grounds it is all of it
-pub told_whole : (s : Setting) (words : ℕ) (marks : ℕ → Option Mark) (journal : List Entry) (jobs : List JobView) → StoriesHoldBut s journal jobs
-    → AreGrounded (scene_at (reading s words marks) journal jobs)
-    → StoriesHold s words marks journal jobs
-told_whole s words marks journal jobs told grounded =
-    record { entries = told.entries; count = told.count; jobs_told = told.jobs_told; begins = told.begins; few = told.few; grounded = grounded }
+pub told_whole : (s : Setting) (words : ℕ) (marks : ℕ → Option Mark) (lasts : List Ask) (journal : List Entry) (jobs : List JobView)
+    → StoriesHoldBut s lasts journal jobs → AreGrounded (scene_at (reading s words marks) lasts journal jobs)
+    → (now : StoriesHold s words marks journal jobs) × (now.lasts ≡ lasts)
+told_whole s words marks lasts journal jobs told grounded = (
+  record {
+    lasts = lasts;
+    entries = told.entries;
+    count = told.count;
+    jobs_told = told.jobs_told;
+    begins = told.begins;
+    few = told.few;
+    grounded = grounded;
+  },
+  refl,
+)
 
 -- ---- a job that stays as it was
 end_later : (s : Setting) (was is : ℕ) (f : Following) (end : JobEnd) → was ≤ is → IsEnd s was f end → IsEnd s is f end
@@ -113,11 +124,11 @@ told_append s begun entered (f ∷ fs) gs (job ∷ jobs) more count told rest =
 
 -- ---- a turn that enters nothing
 -- one that begins nothing either
-pub story_goes_on : (s : Setting) (journal : List Entry) (jobs : List JobView) (at : ℕ) (job next : JobView) → slice_get jobs at ≡ Some job
+pub story_goes_on : (s : Setting) (lasts : List Ask) (journal : List Entry) (jobs : List JobView) (at : ℕ) (job next : JobView) → slice_get jobs at ≡ Some job
     → option_map active_begin (active_of next) ≡ option_map active_begin (active_of job)
     → ((f : Following) → StoryHolds s (begun_in journal jobs) (length journal) f job → StoryHolds s (begun_in journal jobs) (length journal) f next)
-    → StoriesHoldBut s journal jobs → StoriesHoldBut s journal (slice_set jobs at next)
-story_goes_on s journal jobs at job next stands same moves told =
+    → StoriesHoldBut s lasts journal jobs → StoriesHoldBut s lasts journal (slice_set jobs at next)
+story_goes_on s lasts journal jobs at job next stands same moves told =
     let fs = (progress_of s.script journal).jobs in
     let n = begun_in journal jobs in
     let e = length journal in
@@ -135,12 +146,12 @@ story_goes_on s journal jobs at job next stands same moves told =
     }
 
 -- one that begins
-pub begins_in : (s : Setting) (journal : List Entry) (jobs : List JobView) (at : ℕ) (job next : JobView) (tx : TxView) → slice_get jobs at ≡ Some job
-    → active_of job ≡ None → active_of next ≡ Some tx → tx.number ≡ begun_in journal jobs + 1 → tx.began ≡ length journal
+pub begins_in : (s : Setting) (lasts : List Ask) (journal : List Entry) (jobs : List JobView) (at : ℕ) (job next : JobView) (tx : TxView)
+    → slice_get jobs at ≡ Some job → active_of job ≡ None → active_of next ≡ Some tx → tx.number ≡ begun_in journal jobs + 1 → tx.began ≡ length journal
     → begun_in journal jobs < 10000
     → ((f : Following) → StoryHolds s (begun_in journal jobs) (length journal) f job → StoryHolds s (begun_in journal jobs + 1) (length journal) f next)
-    → StoriesHoldBut s journal jobs → StoriesHoldBut s journal (slice_set jobs at next)
-begins_in s journal jobs at job next tx stands none some number began room moves told =
+    → StoriesHoldBut s lasts journal jobs → StoriesHoldBut s lasts journal (slice_set jobs at next)
+begins_in s lasts journal jobs at job next tx stands none some number began room moves told =
     let fs = (progress_of s.script journal).jobs in
     let n = begun_in journal jobs in
     let e = length journal in

@@ -45,7 +45,6 @@ use Rattle.xc_model.specs.declared.phase.Phase.{Phase}
 use Rattle.xc_model.specs.declared.phase.Phase.TheVariants.{Running, Committing, Undoing, Backing}
 use Rattle.xc_model.specs.Setting.{Setting}
 use Rattle.xc_model.specs.Progress.{Following}
-use Rattle.xc_model.specs.Asked.{next_of}
 use Rattle.xc_model.specs.EntryEnds.{IsCauseOf}
 use Rattle.xc_model.specs.Ending.{IsEnd}
 use Rattle.xc_model.specs.Moment.{TxView, SavedView, JobView, Doing, Idle, Active, Starved, Ended, Moment, begun_count, failures, rank_of, revoked}
@@ -379,7 +378,6 @@ backs_one_underway s f place tx kept older u end backs is above newest legal und
     let count : length tx.undo.pending ≡ length older + 1 = ap length newest ∙ length-append older (u ∷ []) in
     let all_legal : AreLegal s.rules.undo_tries (length older + 1) ((u, end) ∷ tx.undo.ended) =
     (legal, subst (λ n. AreLegal s.rules.undo_tries (n + 1) tx.undo.ended) count backing.legal) in
-    let asked : next_of s.script f tx.replies ≡ ask.Call call.Back = ap (λ (b : BlockWalk). asks b.walk) (sym backing.ahead) ∙ backing.asked in
     record {
       goes_on = under.goes_on;
       left = under.left;
@@ -400,7 +398,7 @@ backs_one_underway s f place tx kept older u end backs is above newest legal und
         saved = under.counted.saved;
       };
       faults = under.faults;
-      phase = by_end end all_legal asked backing count;
+      phase = by_end end all_legal backing count;
     }
   where
     counted_so : (e : UndoEnd) → AreRecordsOf (left_records tx).now (older ++ tried ((u, e) ∷ tx.undo.ended))
@@ -412,11 +410,11 @@ backs_one_underway s f place tx kept older u end backs is above newest legal und
     saved_count : IsCountedSave (Some kept) (left_records tx).saved
     saved_count = subst (λ o. IsCountedSave o (left_records tx).saved) is under.counted.saved
 
-    by_end : (e : UndoEnd) → AreLegal s.rules.undo_tries (length older + 1) ((u, e) ∷ tx.undo.ended) → next_of s.script f tx.replies ≡ ask.Call call.Back
-        → IsBacking s f place tx → length tx.undo.pending ≡ length older + 1
+    by_end : (e : UndoEnd) → AreLegal s.rules.undo_tries (length older + 1) ((u, e) ∷ tx.undo.ended) → IsBacking s f place tx
+        → length tx.undo.pending ≡ length older + 1
         → IsInPhase s f place (record tx { phase = phase_after (length older + 1) e; undo = record { pending = older; ended = (u, e) ∷ tx.undo.ended } })
         (phase_after (length older + 1) e)
-    by_end (Undone faults) all_legal asked backing count =
+    by_end (Undone faults) all_legal backing count =
         record {
           ahead = backing.ahead;
           asked = backing.asked;
@@ -427,9 +425,10 @@ backs_one_underway s f place tx kept older u end backs is above newest legal und
           within = subst (λ o. IsAboveSave o older) (sym is) (omega (arith, above, count));
         }
     -- it is the newest that failed, and of the block
-    by_end (Failed done faults) all_legal asked backing count =
+    by_end (Failed done faults) all_legal backing count =
         record {
-          caused = asked;
+          ahead = backing.ahead;
+          caused = backing.asked;
           legal = all_legal;
           stuck = (
             of_block kept (left_records tx) (length older + 1) saved_count (omega (arith, above, count)),
@@ -447,7 +446,7 @@ backs_one_underway s f place tx kept older u end backs is above newest legal und
           no_ends = backing.no_ends;
         }
     -- all newer ones are undone, so none stands in its way
-    by_end (Blocked by) all_legal asked backing count =
+    by_end (Blocked by) all_legal backing count =
         let none = none_blocks (length older + 1 + 1) u tx.undo.ended backing.undone in
         let some : None ≡ Some by = sym none ∙ all_legal.0 in
         cc some
@@ -528,13 +527,13 @@ cut_underway s f place tx m backs under =
       together = under.together;
       counted = record { now = records_in s f place tx Backing backs under; saved = under.counted.saved };
       faults = under.faults;
-      phase = record { caused = tt; legal = backing.legal; stuck = tt; no_ends = backing.no_ends };
+      phase = record { ahead = backing.ahead; caused = tt; legal = backing.legal; stuck = tt; no_ends = backing.no_ends };
     }
 
 -- rolling back
 pub back_underway : (s : Setting) (f : Following) (old new : Position) (tx : TxView) (c : Cause) (undo : Records) (held : List Claim)
     → undo.ended ≡ tx.undo.ended → tx.phase ≡ Running → IsSamePosition s old new
-    → (next_of s.script f tx.replies ≡ asked_at s old → IsCauseOf c (next_of s.script f tx.replies))
+    → IsCauseOf c (asked_at s old)
     → (AreRecordsOf (left_records tx).now tx.undo.pending → HasRecords (left_records tx) c undo.pending)
     → IsStuckIn (saved_records (left_records tx)) (length undo.pending + 1) undo.ended c
     → IsUnderway s f old tx → IsUnderway s f new (record tx { phase = Undoing c; undo = undo; held = held })
@@ -561,7 +560,8 @@ back_underway s f old new tx c undo held ended runs same caused count stuck unde
       counted = record { now = has; saved = under.counted.saved };
       faults = under.faults;
       phase = record {
-        caused = caused (ap (λ (b : BlockWalk). asks b.walk) (sym running.ahead));
+        ahead = same_way s old new same ∙ running.ahead;
+        caused = subst (IsCauseOf c) (sym (ap asks same.walk)) caused;
         legal = subst (λ ends. AreLegal s.rules.undo_tries (length undo.pending + 1) ends) (sym (ended ∙ running.none)) tt;
         stuck = stuck;
         no_ends = running.no_ends;
@@ -688,11 +688,12 @@ pub tried_underway : (s : Setting) (f : Following) (place : Position) (tx : TxVi
     → tx.phase ≡ Undoing c → tx.undo.pending ≡ older ++ u ∷ [] → IsLegalEnd s.rules.undo_tries u end (way_of older u tx.undo)
     → IsUnderway s f place tx → IsUnderway s f place (record tx { undo = record { pending = older; ended = (u, end) ∷ tx.undo.ended } })
 tried_underway s f place tx c older u end undoes newest legal under =
-    let undoing : IsUndoing s f tx c = subst (IsInPhase s f place tx) undoes under.phase in
+    let undoing : IsUndoing s f place tx c = subst (IsInPhase s f place tx) undoes under.phase in
     let next : TxView = record tx { undo = record { pending = older; ended = (u, end) ∷ tx.undo.ended } } in
     let count : length tx.undo.pending ≡ length older + 1 = ap length newest ∙ length-append older (u ∷ []) in
     let as_before : all_of tx ≡ all_of next = newest_tried older tx.undo.pending u end tx.undo.ended newest in
-    let phase : IsUndoing s f next c = record {
+    let phase : IsUndoing s f place next c = record {
+      ahead = undoing.ahead;
       caused = undoing.caused;
       legal = (legal, subst (λ n. AreLegal s.rules.undo_tries (n + 1) tx.undo.ended) count undoing.legal);
       stuck = stuck_on (saved_records (left_records tx)) c (length tx.undo.pending + 1) (length older + 1) (u, end) tx.undo.ended (omega (arith, count))

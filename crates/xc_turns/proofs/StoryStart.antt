@@ -14,8 +14,9 @@ use Rattle.xc_data.specs.declared.entry.Mark.{Mark}
 use Rattle.xc_model.specs.Setting.{Setting}
 use Rattle.xc_model.specs.EntryEnds.{IsUnrevoked, cause_in}
 use Rattle.xc_model.specs.Grounds.{Part}
-use Rattle.xc_model.specs.Progress.{Following, progress_of, untried}
+use Rattle.xc_model.specs.Progress.{Following, untried}
 use Rattle.xc_model.specs.Counted.{tx_faults}
+use Rattle.xc_model.specs.Handling.{HandlesAgree}
 use Rattle.xc_model.specs.Holding.{AreApart}
 use Rattle.xc_model.specs.Consistent.{IsConsistent}
 use Rattle.xc_model.specs.Opened.{IsOpening, opened_job}
@@ -65,14 +66,11 @@ opened_told s begun entered (name ∷ names) zero f job got_f got =
 opened_told s begun entered (name ∷ names) (suc at) f job got_f got = opened_told s begun entered names at f job got_f got
 
 -- no conflict has to be grounded
-none_wanted : (s : Setting) (words : ℕ) (marks : ℕ → Option Mark) (number : ℕ) (fs : List Following) (names : List (List ℕ)) (j : ℕ) (e : Part)
-    → get_or (active_parts (reading s words marks) number fs (opened_jobs s.script names)) j None ≡ Some e → ⊥
-none_wanted s words marks number [] [] j e got = cc
-none_wanted s words marks number (f ∷ fs) [] j e got = cc
-none_wanted s words marks number [] (name ∷ names) zero e got = cc
-none_wanted s words marks number [] (name ∷ names) (suc j) e got = none_wanted s words marks (number + 1) [] names j e got
-none_wanted s words marks number (f ∷ fs) (name ∷ names) zero e got = cc
-none_wanted s words marks number (f ∷ fs) (name ∷ names) (suc j) e got = none_wanted s words marks (number + 1) fs names j e got
+none_wanted : (s : Setting) (words : ℕ) (marks : ℕ → Option Mark) (number : ℕ) (names : List (List ℕ)) (j : ℕ) (e : Part)
+    → get_or (active_parts (reading s words marks) number (opened_jobs s.script names)) j None ≡ Some e → ⊥
+none_wanted s words marks number [] j e got = cc
+none_wanted s words marks number (name ∷ names) zero e got = cc
+none_wanted s words marks number (name ∷ names) (suc j) e got = none_wanted s words marks (number + 1) names j e got
 
 none_begun : AreBegins [] []
 none_begun =
@@ -82,21 +80,24 @@ none_begun =
       by_now = λ a in_a. absurd (let none = in_a.1 in omega arith);
     }
 
-start_told : (s : Setting) (words : ℕ) (marks : ℕ → Option Mark) → StoriesHold s words marks [] (opened_jobs s.script s.script.outline.jobs)
+start_told : (s : Setting) (words : ℕ) (marks : ℕ → Option Mark)
+    → (now : StoriesHold s words marks [] (opened_jobs s.script s.script.outline.jobs)) × (now.lasts ≡ [])
 start_told s words marks =
     let names = s.script.outline.jobs in
     let jobs = opened_jobs s.script names in
-    record {
-      entries = tt;
+    let told : StoriesHold s words marks [] jobs = record {
+      lasts = [];
+      entries = refl;
       count = length-map names (opened_following s.script) ∙ sym (length-map names (opened_job s.script));
       jobs_told = λ at f job got_f got. opened_told s (0 + length (actives jobs)) 0 names at f job got_f got;
       begins = subst (λ (txs : List TxView). AreBegins [] (map active_begin txs)) (sym (none_opened s.script names)) none_begun;
       few = subst (λ (txs : List TxView). 0 + length txs ≤ 10000) (sym (none_opened s.script names)) (omega arith);
       grounded = record {
         entries = λ i e got. cc;
-        actives = λ j e got. absurd (none_wanted s words marks 1 (progress_of s.script []).jobs names j e got);
+        actives = λ j e got. absurd (none_wanted s words marks 1 names j e got);
       };
-    }
+    } in
+    (told, refl)
 
 start_spoken : (script : Script) (names : List (List ℕ)) (words : List ℕ) → WordsAgree words words (opened_jobs script names)
 start_spoken script names words =
@@ -129,8 +130,9 @@ start_kept s now few opening =
     let names = s.script.outline.jobs in
     let first : Moment = record now { words = s.script.outline.words; journal = []; jobs = opened_jobs s.script names; started = names } in
     let same : now ≡ first = λ i. record now { words = opening.words i; journal = opening.journal i; jobs = opening.jobs i; started = opening.started i } in
+    let start = start_told s (length s.script.outline.words) now.marks in
     let kept : IsConsistent s now.faults first = record {
-      told = start_told s (length s.script.outline.words) now.marks;
+      told = start.0;
       attempts = tt;
       patience = λ zero. record {
         entries = All-nil (λ (e : Entry). IsUnrevoked (cause_in e.outcome));
@@ -146,6 +148,7 @@ start_kept s now few opening =
         holds = λ j tx active. absurd (opened_rests s.script names j tx active);
         starts = λ j tx active. absurd (opened_rests s.script names j tx active);
       };
-      handled = opened_handled s.script names now.calls refl opening.calls;
+      handled = subst (λ lasts. HandlesAgree s lasts [] (opened_jobs s.script names) now.calls) (sym start.1)
+          (opened_handled s names now.calls refl opening.calls);
     } in
     subst (IsConsistent s now.faults) (sym same) kept

@@ -26,7 +26,7 @@ use Rattle.xc_model.specs.WordCalls.{AreWordReplies}
 use Rattle.xc_model.specs.Progress.{Following, following_abort, progress_of}
 use Rattle.xc_model.specs.Moment.{TxView, JobView, Doing, Idle, Active, Starved, Ended, Moment, active_in, begun_count, late_left, rank_of, revoked}
 use Rattle.xc_model.specs.Moment.{asked_to_wait}
-use Rattle.xc_model.specs.Rows.{ActiveTurn, IsTurn}
+use Rattle.xc_model.specs.Rows.{ActiveTurn, IsTurn, lasts_behind}
 use Rattle.xc_model.specs.RunningRows.{BeginsBack, CalledTurn, AskedTurn, Calls, Commits, Conflicts}
 use Rattle.xc_model.specs.BackingRows.{phase_after, backed, BacksOne, EndsBack, BackingRow, OpenRow, MarkedBack}
 use Rattle.xc_data.specs.declared.call.Call.TheVariants as call
@@ -56,7 +56,7 @@ use Rattle.xc_model.specs.Started.{AreStarted, HasStartEnds, blocks}
 use Rattle.xc_model.specs.Words.{WordsAgree}
 use Rattle.xc_turns.proofs.Lists.{get_beside}
 use Rattle.xc_turns.proofs.Jobs.{behind_abort_none}
-use Rattle.xc_turns.proofs.Progressing.{entered-all}
+use Rattle.xc_turns.proofs.Progressing.{entered-all, lasts_grow, lasts_stay}
 use Rattle.xc_turns.proofs.StoryBegins.{active_begun}
 use Rattle.xc_turns.proofs.StoryJobs.{StoriesHoldBut, begins_in, story_goes_on, told_but, told_whole}
 use Rattle.xc_turns.proofs.StoryRows.{begins_back_underway, backs_one_underway, ends_back_underway, cut_underway}
@@ -72,11 +72,12 @@ use Rattle.xc_turns.proofs.Grown.{started_idle}
 use Rattle.xc_turns.proofs.LateEnds.{next_ends}
 use Rattle.xc_turns.proofs.StoryEnds.{started_told, aborted_told, committed_told, enters}
 
--- the same journal and jobs
-told_as : (s : Setting) (journal journal' : List Entry) (jobs jobs' : List JobView) → journal' ≡ journal → jobs' ≡ jobs → StoriesHoldBut s journal jobs
-    → StoriesHoldBut s journal' jobs'
-told_as s journal journal' jobs jobs' entries same told =
-    subst (λ es. StoriesHoldBut s es jobs') (sym entries) (subst (StoriesHoldBut s journal) (sym same) told)
+-- the same asks, journal and jobs
+told_as : (s : Setting) (lasts lasts' : List Ask) (journal journal' : List Entry) (jobs jobs' : List JobView) → lasts' ≡ lasts → journal' ≡ journal
+    → jobs' ≡ jobs → StoriesHoldBut s lasts journal jobs → StoriesHoldBut s lasts' journal' jobs'
+told_as s lasts lasts' journal journal' jobs jobs' asked entries same told =
+    subst (λ xs. StoriesHoldBut s xs journal' jobs') (sym asked)
+    (subst (λ es. StoriesHoldBut s lasts es jobs') (sym entries) (subst (StoriesHoldBut s lasts journal) (sym same) told))
 
 -- the started jobs have the blocks that the journal tells of
 told_blocks : (told : List Following) (jobs : List JobView) → length told ≡ length jobs
@@ -93,46 +94,58 @@ told_blocks (f ∷ told) (job ∷ jobs) count each =
 pub record Before (s : Setting) (at : ℕ) (old : Moment) (job : JobView) : Type 0 where
   pub there : slice_get old.jobs at ≡ Some job
   pub spoken : WordsAgree (progress_of s.script old.journal).words old.words old.jobs
-  pub played : IsTrue s.tells → (tx : TxView) → IsActiveAt old.jobs at tx
-      → IsPlayedSoFar s (length old.words) (progress_of s.script old.journal) at tx
+  pub played : IsTrue s.tells → (tx : TxView) → (is : IsActiveAt old.jobs at tx)
+      → IsPlayedSoFar (asked_at s is.0.place) (length old.words) (progress_of s.script old.journal) at tx
   pub started : AreStarted s.script old
-  pub told : StoriesHoldBut s old.journal old.jobs
+  pub lasts : List Ask
+  pub told : StoriesHoldBut s lasts old.journal old.jobs
 
 module _ (s : Setting) (at : ℕ) (old new : Moment) (job : JobView) (b : Before s at old job) where
   -- the new moment's stories
   abbrev After : Type 0
-  After = StoriesHoldBut s new.journal new.jobs
+  After = StoriesHoldBut s (lasts_behind (asked_at s job.place) old.journal new.journal b.lasts) new.journal new.jobs
+
+  -- where none enters
+  stays_as : (jobs : List JobView) → new.journal ≡ old.journal → new.jobs ≡ jobs → StoriesHoldBut s b.lasts old.journal jobs → After
+  stays_as jobs journal same told = told_as s b.lasts _ old.journal new.journal jobs new.jobs (lasts_stay _ _ _ b.lasts journal) journal same told
+
+  -- where this one does
+  enters_as : (e : Entry) (jobs : List JobView) → new.journal ≡ old.journal ++ e ∷ [] → new.jobs ≡ jobs
+      → StoriesHoldBut s (b.lasts ++ asked_at s job.place ∷ []) (old.journal ++ e ∷ []) jobs → After
+  enters_as e jobs journal same told =
+      told_as s (b.lasts ++ asked_at s job.place ∷ []) _ (old.journal ++ e ∷ []) new.journal jobs new.jobs (lasts_grow _ _ _ b.lasts e journal) journal
+      same told
 
   -- ---- an idle job
   ended_row : (end : JobEnd) → job.doing ≡ Idle → IsEnding s old job end → new.journal ≡ old.journal
       → new.jobs ≡ slice_set old.jobs at (record job { doing = Ended end }) → After
   ended_row end idle ending journal jobs =
-      told_as s old.journal new.journal (slice_set old.jobs at (record job { doing = Ended end })) new.jobs journal jobs
-      (story_goes_on s old.journal old.jobs at job (record job { doing = Ended end }) b.there (ap (option_map active_begin) (sym (ap active_in idle)))
+      stays_as (slice_set old.jobs at (record job { doing = Ended end })) journal jobs
+      (story_goes_on s b.lasts old.journal old.jobs at job (record job { doing = Ended end }) b.there (ap (option_map active_begin) (sym (ap active_in idle)))
       (λ f told. ended_told s old (length old.journal) f job end idle ending told) b.told)
 
   begun_row : job.doing ≡ Idle → MayBegin s old job → new.journal ≡ old.journal → new.jobs ≡ slice_set old.jobs at (beginning_job old job) → After
   begun_row idle ready journal jobs =
       let tx = new_tx (begun_count old + 1) (rank_of job.attempts (begun_count old + 1)) (length old.journal) job.me in
-      told_as s old.journal new.journal (slice_set old.jobs at (beginning_job old job)) new.jobs journal jobs
-      (begins_in s old.journal old.jobs at job (beginning_job old job) tx b.there (ap active_in idle) refl refl refl ready.room
+      stays_as (slice_set old.jobs at (beginning_job old job)) journal jobs
+      (begins_in s b.lasts old.journal old.jobs at job (beginning_job old job) tx b.there (ap active_in idle) refl refl refl ready.room
       (λ f told. begun_told s old f job idle ready told) b.told)
 
   idle_row : (answer : Turn) → job.doing ≡ Idle → IdleTurn (mover s at old job) answer new → After
   idle_row (turn.Ended end) idle row = ended_row end idle row.0 (ap (λ (n : Moment). n.journal) row.1) (ap (λ (n : Moment). n.jobs) row.1)
   idle_row turn.Went idle row = begun_row idle row.0 (ap (λ (n : Moment). n.journal) row.1) (ap (λ (n : Moment). n.jobs) row.1)
   idle_row (turn.Busy object number) idle row =
-      told_as s old.journal new.journal (slice_set old.jobs at (asked_to_wait job)) new.jobs (ap (λ (n : Moment). n.journal) row.1)
+      stays_as (slice_set old.jobs at (asked_to_wait job)) (ap (λ (n : Moment). n.journal) row.1)
       (ap (λ (n : Moment). n.jobs) row.1)
-      (story_goes_on s old.journal old.jobs at job (asked_to_wait job) b.there refl
+      (story_goes_on s b.lasts old.journal old.jobs at job (asked_to_wait job) b.there refl
       (λ f told. waiting_told s (begun_count old) (length old.journal) f job told) b.told)
   idle_row turn.NoMemory idle row = absurd row
 
   starved_row : (answer : Turn) → job.doing ≡ Starved → StarvedTurn (mover s at old job) answer new → After
   starved_row (turn.Ended job_end.NoMemory) starved row =
       let next : JobView = record job { doing = Ended job_end.NoMemory } in
-      told_as s old.journal new.journal (slice_set old.jobs at next) new.jobs (ap (λ (n : Moment). n.journal) row) (ap (λ (n : Moment). n.jobs) row)
-      (story_goes_on s old.journal old.jobs at job next b.there (ap (option_map active_begin) (sym (ap active_in starved)))
+      stays_as (slice_set old.jobs at next) (ap (λ (n : Moment). n.journal) row) (ap (λ (n : Moment). n.jobs) row)
+      (story_goes_on s b.lasts old.journal old.jobs at job next b.there (ap (option_map active_begin) (sym (ap active_in starved)))
       (λ f told. starved_told s (begun_count old) (length old.journal) f job starved told) b.told)
   starved_row (turn.Ended job_end.Done) starved row = absurd row
   starved_row (turn.Ended (job_end.GaveUp c)) starved row = absurd row
@@ -146,8 +159,8 @@ module _ (s : Setting) (at : ℕ) (old new : Moment) (job : JobView) (b : Before
       → ((f : Following) → IsUnderway s f job.place tx → IsUnderway s f place next)
       → new.journal ≡ old.journal → new.jobs ≡ slice_set old.jobs at (with_tx job place next) → After
   active_row place tx next active same moves journal jobs =
-      told_as s old.journal new.journal (slice_set old.jobs at (with_tx job place next)) new.jobs journal jobs
-      (story_goes_on s old.journal old.jobs at job (with_tx job place next) b.there
+      stays_as (slice_set old.jobs at (with_tx job place next)) journal jobs
+      (story_goes_on s b.lasts old.journal old.jobs at job (with_tx job place next) b.there
       (ap Some same ∙ ap (option_map active_begin) (sym (ap active_in active)))
       (λ f told. active_told s (begun_count old) (length old.journal) f job place tx next active (moves f) told) b.told)
 
@@ -163,7 +176,7 @@ module _ (s : Setting) (at : ℕ) (old new : Moment) (job : JobView) (b : Before
   conflict_row tx call active runs asked row =
       let c = cause.Conflict row.object row.holder (length old.journal) in
       active_row row.place tx (record tx { phase = Undoing c }) active refl
-      (λ f under. back_underway s f job.place row.place tx c tx.undo tx.held refl runs row.same (λ next. ap is_call_asked (next ∙ asked)) (λ are. are) tt under)
+      (λ f under. back_underway s f job.place row.place tx c tx.undo tx.held refl runs row.same (ap is_call_asked asked) (λ are. are) tt under)
       (ap (λ (n : Moment). n.journal) row.behind) (ap (λ (n : Moment). n.jobs) row.behind)
 
   -- it is told to wait
@@ -171,9 +184,9 @@ module _ (s : Setting) (at : ℕ) (old new : Moment) (job : JobView) (b : Before
       → After
   waits_row tx object holder active runs row =
       let next : JobView = with_tx job row.place tx in
-      told_as s old.journal new.journal (slice_set old.jobs at (asked_to_wait next)) new.jobs (ap (λ (n : Moment). n.journal) row.behind)
+      stays_as (slice_set old.jobs at (asked_to_wait next)) (ap (λ (n : Moment). n.journal) row.behind)
       (ap (λ (n : Moment). n.jobs) row.behind)
-      (story_goes_on s old.journal old.jobs at job (asked_to_wait next) b.there (ap (option_map active_begin) (sym (ap active_in active)))
+      (story_goes_on s b.lasts old.journal old.jobs at job (asked_to_wait next) b.there (ap (option_map active_begin) (sym (ap active_in active)))
       (λ f told. waiting_told s (begun_count old) (length old.journal) f next
       (active_told s (begun_count old) (length old.journal) f job row.place tx tx active (same_underway s f job.place row.place tx runs row.same) told)) b.told)
 
@@ -183,7 +196,7 @@ module _ (s : Setting) (at : ℕ) (old new : Moment) (job : JobView) (b : Before
       active_row job.place tx (record tx { phase = Undoing (revoked m) }) active refl
       (λ f under. back_underway s f job.place job.place tx (revoked m) tx.undo tx.held refl runs
       (record { begin = record { block = refl; next = refl; begun = refl }; walk = refl; saved = refl; at = omega arith })
-      (λ next. tt) (λ are. are) tt under)
+      tt (λ are. are) tt under)
       (ap (λ (n : Moment). n.journal) row) (ap (λ (n : Moment). n.jobs) row)
 
   commits_row : (tx : TxView) → job.doing ≡ Active tx → tx.phase ≡ Running → asked_at s job.place ≡ ask.Commit → Commits (mover s at old job) tx new → After
@@ -195,14 +208,14 @@ module _ (s : Setting) (at : ℕ) (old new : Moment) (job : JobView) (b : Before
   turned_row : (tx : TxView) → job.doing ≡ Active tx → tx.phase ≡ Running → asked_at s job.place ≡ ask.Abort → TurnsBack (mover s at old job) tx new → After
   turned_row tx active runs asked row =
       active_row row.place tx (record tx { phase = Undoing cause.Asked }) active refl
-      (λ f under. back_underway s f job.place row.place tx cause.Asked tx.undo tx.held refl runs row.same (λ next. next ∙ asked) (λ are. are) tt under)
+      (λ f under. back_underway s f job.place row.place tx cause.Asked tx.undo tx.held refl runs row.same asked (λ are. are) tt under)
       (ap (λ (n : Moment). n.journal) row.behind) (ap (λ (n : Moment). n.jobs) row.behind)
 
   wants_row : (tx : TxView) → job.doing ≡ Active tx → tx.phase ≡ Running → Wants (mover s at old job) tx new → After
   wants_row tx active runs row =
       let next = wanting tx row.left row.held in
       active_row row.place tx next active refl
-      (λ f under. back_underway s f job.place row.place tx cause.NoMemory next.undo row.held refl runs row.same (λ asked. tt)
+      (λ f under. back_underway s f job.place row.place tx cause.NoMemory next.undo row.held refl runs row.same tt
       (λ are. record { own = tx.undo.pending; more = row.left; are = are; one = row.one; parts = refl }) tt under)
       (ap (λ (n : Moment). n.journal) row.behind) (ap (λ (n : Moment). n.jobs) row.behind)
 
@@ -297,7 +310,7 @@ module _ (s : Setting) (at : ℕ) (old new : Moment) (job : JobView) (b : Before
 
   -- ---- a transaction that enters
   -- it is active
-  is_active : (tx : TxView) → job.doing ≡ Active tx → IsActiveAt old.jobs at tx
+  abbrev is_active : (tx : TxView) → job.doing ≡ Active tx → IsActiveAt old.jobs at tx
   is_active tx active = (job, b.there, ap active_in active)
 
   -- it began by now
@@ -334,9 +347,9 @@ module _ (s : Setting) (at : ℕ) (old new : Moment) (job : JobView) (b : Before
       let blocks = started_late tx.late tx.ends in
       let gone = committed_told s (begun_count old) (length old.journal) p.entered f job tx active commits (entered-all s.script old.journal) told in
       let variables : (behind_commit job tx).place.variables ≡ starter.variables = ap (λ (place : Position). place.variables) gone.doing.1 in
-      told_as s (old.journal ++ e ∷ []) new.journal (slice_set old.jobs at (behind_commit job tx) ++ started_jobs s.script job tx) new.jobs journal jobs
-      (enters s old.journal old.jobs (started_jobs s.script job tx) at job (behind_commit job tx) tx e f (gone_on s.script p.entered f tx)
-      (started_on s.script p.entered f tx) b.there
+      enters_as e (slice_set old.jobs at (behind_commit job tx) ++ started_jobs s.script job tx) journal jobs
+      (enters s b.lasts old.journal old.jobs (started_jobs s.script job tx) at job (behind_commit job tx) tx (asked_at s job.place) e f
+      (gone_on s.script p.entered f tx) (started_on s.script p.entered f tx) b.there
       (ap active_in active) refl refl got (commit_leads s.script p f at tx got under.kept.0)
       (length-map blocks (progress_started s.script starter (p.entered + 1)) ∙ sym (length-map blocks (started_job s.script (behind_commit job tx))))
       (started_idle s.script (behind_commit job tx) blocks)
@@ -360,8 +373,9 @@ module _ (s : Setting) (at : ℕ) (old new : Moment) (job : JobView) (b : Before
       let told = b.told.jobs_told at f job got b.there in
       let under : IsUnderway s f job.place tx = subst (IsDoing s (begun_count old) f job) active told.doing in
       let nil = append-nil (slice_set old.jobs at (behind_abort job tx c)) in
-      told_as s (old.journal ++ e ∷ []) new.journal (slice_set old.jobs at (behind_abort job tx c)) new.jobs journal jobs
-      (subst (λ js. StoriesHoldBut s (old.journal ++ e ∷ []) js) nil (enters s old.journal old.jobs [] at job (behind_abort job tx c) tx e f
+      enters_as e (slice_set old.jobs at (behind_abort job tx c)) journal jobs
+      (subst (λ js. StoriesHoldBut s (b.lasts ++ asked_at s job.place ∷ []) (old.journal ++ e ∷ []) js) nil
+      (enters s b.lasts old.journal old.jobs [] at job (behind_abort job tx c) tx (asked_at s job.place) e f
       (following_abort p.entered f e c) [] b.there
       (ap active_in active) (behind_abort_none job tx c) refl got
       (abort_leads s.script p f at tx c got ∙ sym (append-nil (slice_set p.jobs at (following_abort p.entered f e c)))) refl tt (λ j g other none. cc none)
@@ -396,21 +410,33 @@ module _ (s : Setting) (at : ℕ) (old new : Moment) (job : JobView) (b : Before
   doing_row (Ended end) answer is row = absurd row
 
 -- a turn goes on with all that is true of the stories but for the grounds of conflicts
-pub turn_told : (s : Setting) (at : ℕ) (old new : Moment) (answer : Turn) → IsTurn s at old answer new
+pub turn_told : (s : Setting) (at : ℕ) (old new : Moment) (answer : Turn) (lasts : List Ask) → (turned : IsTurn s at old answer new)
     → WordsAgree (progress_of s.script old.journal).words old.words old.jobs
-    → (IsTrue s.tells → (tx : TxView) → IsActiveAt old.jobs at tx → IsPlayedSoFar s (length old.words) (progress_of s.script old.journal) at tx)
-    → AreStarted s.script old → StoriesHoldBut s old.journal old.jobs → StoriesHoldBut s new.journal new.jobs
-turn_told s at old new answer turned spoken played started told =
-    let b : Before s at old turned.job = record { there = turned.there; spoken = spoken; played = played; started = started; told = told } in
+    → (IsTrue s.tells → (tx : TxView) → (is : IsActiveAt old.jobs at tx)
+    → IsPlayedSoFar (asked_at s is.0.place) (length old.words) (progress_of s.script old.journal) at tx)
+    → AreStarted s.script old → StoriesHoldBut s lasts old.journal old.jobs
+    → StoriesHoldBut s (lasts_behind (asked_at s turned.job.place) old.journal new.journal lasts) new.journal new.jobs
+turn_told s at old new answer lasts turned spoken played started told =
+    let b : Before s at old turned.job = record {
+      there = turned.there;
+      spoken = spoken;
+      played = played;
+      started = started;
+      lasts = lasts;
+      told = told;
+    } in
     doing_row s at old new turned.job b turned.job.doing answer refl turned.row
 
 -- a turn keeps the stories of all jobs, where it keeps the grounds of conflicts
-pub a_turn_keeps_the_stories_but : (s : Setting) (at : ℕ) (old new : Moment) (answer : Turn) → IsTurn s at old answer new
+pub a_turn_keeps_the_stories_but : (s : Setting) (at : ℕ) (old new : Moment) (answer : Turn) → (turned : IsTurn s at old answer new)
     → WordsAgree (progress_of s.script old.journal).words old.words old.jobs
-    → (IsTrue s.tells → (tx : TxView) → IsActiveAt old.jobs at tx → IsPlayedSoFar s (length old.words) (progress_of s.script old.journal) at tx)
-    → AreStarted s.script old → StoriesHold s (length old.words) old.marks old.journal old.jobs
-    → AreGrounded (scene_at (reading s (length new.words) new.marks) new.journal new.jobs)
-    → StoriesHold s (length new.words) new.marks new.journal new.jobs
+    → (IsTrue s.tells → (tx : TxView) → (is : IsActiveAt old.jobs at tx)
+    → IsPlayedSoFar (asked_at s is.0.place) (length old.words) (progress_of s.script old.journal) at tx)
+    → AreStarted s.script old → (told : StoriesHold s (length old.words) old.marks old.journal old.jobs)
+    → AreGrounded (scene_at (reading s (length new.words) new.marks) (lasts_behind (asked_at s turned.job.place) old.journal new.journal told.lasts)
+    new.journal new.jobs)
+    → (now : StoriesHold s (length new.words) new.marks new.journal new.jobs)
+    × (now.lasts ≡ lasts_behind (asked_at s turned.job.place) old.journal new.journal told.lasts)
 a_turn_keeps_the_stories_but s at old new answer turned spoken played started told grounded =
-    told_whole s (length new.words) new.marks new.journal new.jobs
-    (turn_told s at old new answer turned spoken played started (told_but s (length old.words) old.marks old.journal old.jobs told)) grounded
+    told_whole s (length new.words) new.marks (lasts_behind (asked_at s turned.job.place) old.journal new.journal told.lasts) new.journal new.jobs
+    (turn_told s at old new answer told.lasts turned spoken played started (told_but s (length old.words) old.marks old.journal old.jobs told)) grounded

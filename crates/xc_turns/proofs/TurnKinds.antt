@@ -17,6 +17,7 @@ use Rattle.xc_data.specs.declared.entry.Turn.TheVariants as turn
 use Rattle.xc_data.specs.declared.undo.Undo.{Undo}
 use Rattle.xc_script.specs.declared.ask.Ask.{Ask}
 use Rattle.xc_script.specs.declared.ask.Ask.TheVariants as ask
+use Rattle.xc_script.specs.Asking.{asks}
 use Rattle.xc_txmem.proofs.Laws.{overlay_count}
 use Rattle.xc_host.specs.Contents.{Contents}
 use Rattle.xc_data.specs.declared.entry.Mark.{Mark}
@@ -139,14 +140,13 @@ module _ (s : Setting) (at : ℕ) (old : Moment) (job : JobView) (new : Moment) 
           rank = refl;
           began = refl;
           held = inr (claims_at old tx call, row.free, refl);
-          wants = inr (inl (record { call = call; asked = asked; running = e; held = refl }));
+          wants = inr (inl (record { call = call; asked = asked; held = refl }));
           why = free (no_cause (old.marks tx.number) tx.phase free_of e);
           marks = ap (λ (n : Moment). n.marks) row.behind;
         })
 
-    conflict_kind : (call : Call) → asked_at s job.place ≡ ask.Call call → Conflicts (mover s at old job) tx call new → tx.phase ≡ Running
-        → Kind s at old job new
-    conflict_kind call asked row e =
+    conflict_kind : (call : Call) → asked_at s job.place ≡ ask.Call call → Conflicts (mover s at old job) tx call new → Kind s at old job new
+    conflict_kind call asked row =
         let undoing : TxView = record tx { phase = Undoing (cause.Conflict row.object row.holder (length old.journal)) } in
         moves (record {
           behind = with_tx job row.place undoing;
@@ -160,18 +160,17 @@ module _ (s : Setting) (at : ℕ) (old : Moment) (job : JobView) (new : Moment) 
           rank = refl;
           began = refl;
           held = inl refl;
-          wants = inl (refl, refl);
+          wants = inl (refl, ap asks row.same.walk);
           marks = ap (λ (n : Moment). n.marks) row.behind;
           why = meets (record {
             call = call;
             asked = asked;
-            running = e;
             object = row.object;
             holder = row.holder;
             met = row.met;
             phase = refl;
             me = refl;
-            replies = refl;
+            still = ap asks row.same.walk;
           });
         })
 
@@ -193,14 +192,14 @@ module _ (s : Setting) (at : ℕ) (old : Moment) (job : JobView) (new : Moment) 
           rank = refl;
           began = refl;
           held = inl refl;
-          wants = inl (refl, refl);
+          wants = inl (refl, ap asks row.same.walk);
           why = free (no_committing (old.marks tx.number));
           marks = ap (λ (n : Moment). n.marks) row.behind;
         })
 
     -- it is told to wait
-    waits_kind : (object : Object) (holder : ℕ) → Waits (mover s at old job) tx object holder new → tx.phase ≡ Running → Kind s at old job new
-    waits_kind object holder row e =
+    waits_kind : (object : Object) (holder : ℕ) → Waits (mover s at old job) tx object holder new → Kind s at old job new
+    waits_kind object holder row =
         stays (record {
           behind = asked_to_wait (with_tx job row.place tx);
           sets = record { jobs = ap (λ (n : Moment). n.jobs) row.behind; words = ap (λ (n : Moment). length n.words) row.behind };
@@ -208,7 +207,7 @@ module _ (s : Setting) (at : ℕ) (old : Moment) (job : JobView) (new : Moment) 
           tx = tx;
           before = active;
           after = refl;
-          running = e;
+          still = ap asks row.same.walk;
           object = object;
           holder = holder;
           waits = row;
@@ -235,7 +234,7 @@ module _ (s : Setting) (at : ℕ) (old : Moment) (job : JobView) (new : Moment) 
             cause = undoing_is (old.marks tx.number) (revoked m)
                 ∙ sym (ap (λ n. cause_of_phase n tx.phase) has ∙ ap (cause_of_phase (Some m)) e);
             me = refl;
-            replies = refl;
+            still = refl;
           });
           marks = ap (λ (n : Moment). n.marks) row;
         })
@@ -259,7 +258,7 @@ module _ (s : Setting) (at : ℕ) (old : Moment) (job : JobView) (new : Moment) 
           rank = refl;
           began = refl;
           held = inl refl;
-          wants = inl (refl, refl);
+          wants = inl (refl, ap asks row.same.walk);
           why = free (unclashed Backing none tt);
           marks = ap (λ (n : Moment). n.marks) row.behind;
         })
@@ -290,8 +289,8 @@ module _ (s : Setting) (at : ℕ) (old : Moment) (job : JobView) (new : Moment) 
           marks = ap (λ (n : Moment). n.marks) row.behind;
         })
 
-    ends_back_kind : (kept : SavedView) → EndsBack (mover s at old job) tx kept new → old.marks tx.number ≡ None → tx.phase ≡ Backing → Kind s at old job new
-    ends_back_kind kept row none e =
+    ends_back_kind : (kept : SavedView) → EndsBack (mover s at old job) tx kept new → old.marks tx.number ≡ None → Kind s at old job new
+    ends_back_kind kept row none =
         moves (record {
           behind = with_tx job row.place (backed tx kept);
           sets = record { jobs = ap (λ (n : Moment). n.jobs) row.behind; words = ap (λ (n : Moment). length n.words) row.behind };
@@ -304,19 +303,18 @@ module _ (s : Setting) (at : ℕ) (old : Moment) (job : JobView) (new : Moment) 
           rank = refl;
           began = refl;
           held = inl refl;
-          wants = inr (inr e);
+          wants = inr (inr row.asked);
           why = free (unclashed Running none tt);
           marks = ap (λ (n : Moment). n.marks) row.behind;
         })
 
-    one_back_kind : (kept : SavedView) (b : Bool) → BackingRow (mover s at old job) tx kept b new → old.marks tx.number ≡ None → tx.phase ≡ Backing
-        → Kind s at old job new
-    one_back_kind kept true row none e = backs_one_kind kept row none
-    one_back_kind kept false row none e = ends_back_kind kept row none e
+    one_back_kind : (kept : SavedView) (b : Bool) → BackingRow (mover s at old job) tx kept b new → old.marks tx.number ≡ None → Kind s at old job new
+    one_back_kind kept true row none = backs_one_kind kept row none
+    one_back_kind kept false row none = ends_back_kind kept row none
 
-    open_kind : (k : Option SavedView) → OpenRow (mover s at old job) tx k new → old.marks tx.number ≡ None → tx.phase ≡ Backing → Kind s at old job new
-    open_kind None row none e = absurd row
-    open_kind (Some kept) row none e = one_back_kind kept (nat_lt (length kept.trail) (length tx.undo.pending)) row none e
+    open_kind : (k : Option SavedView) → OpenRow (mover s at old job) tx k new → old.marks tx.number ≡ None → Kind s at old job new
+    open_kind None row none = absurd row
+    open_kind (Some kept) row none = one_back_kind kept (nat_lt (length kept.trail) (length tx.undo.pending)) row none
 
     cut_kind : (m : Mark) → Revokes (mover s at old job) tx m new → tx.phase ≡ Backing → old.marks tx.number ≡ Some m → Kind s at old job new
     cut_kind m row e has =
@@ -338,14 +336,14 @@ module _ (s : Setting) (at : ℕ) (old : Moment) (job : JobView) (new : Moment) 
             cause = undoing_is (old.marks tx.number) (revoked m)
                 ∙ sym (ap (λ n. cause_of_phase n tx.phase) has ∙ ap (cause_of_phase (Some m)) e);
             me = refl;
-            replies = refl;
+            still = refl;
           });
           marks = ap (λ (n : Moment). n.marks) row;
         })
 
     marked_back_kind : (m : Option Mark) → old.marks tx.number ≡ m → (answer : Turn) → MarkedBack (mover s at old job) tx m answer new → tx.phase ≡ Backing
         → Kind s at old job new
-    marked_back_kind None has turn.Went row e = open_kind tx.saved row has e
+    marked_back_kind None has turn.Went row e = open_kind tx.saved row has
     marked_back_kind None has _ row e = absurd row
     marked_back_kind (Some m) has turn.Went row e = cut_kind m row e has
     marked_back_kind (Some m) has _ row e = absurd row
@@ -364,7 +362,7 @@ module _ (s : Setting) (at : ℕ) (old : Moment) (job : JobView) (new : Moment) 
           rank = refl;
           began = refl;
           held = inl refl;
-          wants = inl (refl, refl);
+          wants = inl (refl, ap asks row.same.walk);
           why = free (subst IsNoConflict (sym (undoing_is (old.marks tx.number) cause.Asked)) tt);
           marks = ap (λ (n : Moment). n.marks) row.behind;
         })
@@ -390,7 +388,7 @@ module _ (s : Setting) (at : ℕ) (old : Moment) (job : JobView) (new : Moment) 
           rank = refl;
           began = refl;
           held = wanting_held (asked_at s job.place) row.left row.held row.holds;
-          wants = inl (refl, refl);
+          wants = inl (refl, ap asks row.same.walk);
           why = free (subst IsNoConflict (sym (undoing_is (old.marks tx.number) cause.NoMemory)) tt);
           marks = ap (λ (n : Moment). n.marks) row.behind;
         })
@@ -399,7 +397,7 @@ module _ (s : Setting) (at : ℕ) (old : Moment) (job : JobView) (new : Moment) 
         → old.marks tx.number ≡ None → Kind s at old job new
     called_kind call.Back asked row e free_of = begins_kind row free_of
     called_kind c asked (inl row) e free_of = calls_kind c asked row e free_of
-    called_kind c asked (inr row) e free_of = conflict_kind c asked row e
+    called_kind c asked (inr row) e free_of = conflict_kind c asked row
 
     asked_kind : (a : Ask) → asked_at s job.place ≡ a → AskedTurn (mover s at old job) tx a new → tx.phase ≡ Running
         → old.marks tx.number ≡ None → Kind s at old job new
@@ -411,7 +409,7 @@ module _ (s : Setting) (at : ℕ) (old : Moment) (job : JobView) (new : Moment) 
     running_kind : (answer : Turn) → RunningTurn (mover s at old job) tx answer new → tx.phase ≡ Running → old.marks tx.number ≡ None
         → Kind s at old job new
     running_kind turn.Went row e free_of = asked_kind (asked_at s job.place) refl row e free_of
-    running_kind (turn.Busy object holder) row e free_of = waits_kind object holder row e
+    running_kind (turn.Busy object holder) row e free_of = waits_kind object holder row
     running_kind turn.NoMemory row e free_of = wants_kind row
     running_kind _ row e free_of = absurd row
 
@@ -437,7 +435,7 @@ module _ (s : Setting) (at : ℕ) (old : Moment) (job : JobView) (new : Moment) 
           began = refl;
           held = inl refl;
           wants = inl (refl, refl);
-          why = same (record { cause = refl; me = refl; replies = refl });
+          why = same (record { cause = refl; me = refl; still = refl });
           marks = ap (λ (n : Moment). n.marks) row.behind;
         })
 
@@ -477,7 +475,7 @@ module _ (s : Setting) (at : ℕ) (old : Moment) (job : JobView) (new : Moment) 
           began = refl;
           held = inl refl;
           wants = inl (refl, refl);
-          why = same (record { cause = refl; me = refl; replies = refl });
+          why = same (record { cause = refl; me = refl; still = refl });
           marks = row.marks;
         })
 

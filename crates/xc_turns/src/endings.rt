@@ -1,7 +1,6 @@
 ghost use Rattle.std.specs.Prelude.{◌≡◌, ℕ, List, length, true};
 ghost use Rattle.xc_data.specs.declared.entry.Entry.{Entry};
 ghost use Rattle.xc_data.specs.declared.entry.JobLine.{JobLine};
-ghost use Rattle.xc_text.specs.declared.script.Script.{Script};
 ghost use Rattle.xc_model.specs.Setting.{Setting};
 ghost use Rattle.xc_model.specs.Progress.{progress_of};
 ghost use Rattle.xc_model.specs.Moment.{JobView, Moment};
@@ -17,14 +16,16 @@ ghost use Rattle.xc_model.specs.Accounted.{AreAccounted};
 /// Where each job has ended the journal is true, the words are its words, each job has the end that its story has, and the host was
 /// called by the entries, and by nothing else.
 pub fn where_all_have_ended_the_journal_is_true()
-    ensures journal { (s : Setting) (words : ℕ) (now : Moment) (lines : List JobLine) → StoriesHold s words now.marks now.journal now.jobs
-        → HandlesAgree s.script now.journal now.jobs now.calls → AreLinesOf now.jobs lines → IsTrueJournal s now.journal }
+    ensures journal { (s : Setting) (words : ℕ) (now : Moment) (lines : List JobLine)
+        → (told : StoriesHold s words now.marks now.journal now.jobs)
+        → HandlesAgree s told.lasts now.journal now.jobs now.calls → AreLinesOf now.jobs lines → IsTrueJournal s now.journal }
     ensures ends { (s : Setting) (words : ℕ) (now : Moment) (lines : List JobLine) → StoriesHold s words now.marks now.journal now.jobs
         → AreLinesOf now.jobs lines → AreEnds s (length now.journal) (progress_of s.script now.journal).jobs lines }
     ensures words { (before words : List ℕ) (jobs : List JobView) (lines : List JobLine) → WordsAgree before words jobs
         → AreLinesOf jobs lines → words ≡ before }
-    ensures calls { (script : Script) (now : Moment) (lines : List JobLine) → HandlesAgree script now.journal now.jobs now.calls
-        → AreLinesOf now.jobs lines → AreCalled script now.journal now.calls }
+    ensures calls { (s : Setting) (words : ℕ) (now : Moment) (lines : List JobLine)
+        → (told : StoriesHold s words now.marks now.journal now.jobs)
+        → HandlesAgree s told.lasts now.journal now.jobs now.calls → AreLinesOf now.jobs lines → AreCalled s.script now.journal now.calls }
 {}
 
 /// Each entry of a true journal is accounted for.

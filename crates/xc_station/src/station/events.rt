@@ -36,32 +36,8 @@ impl<H: Host> Station<H> {
         });
     }
 
-    /// One event of the job of this number.
-    ///
-    /// | The job | What the turn does | Answer |
-    /// |---|---|---|
-    /// | idle, no transaction left | it ends | Ended(Done) |
-    /// | idle, as many attempts met a holder or were revoked as the rules allow | it ends | Ended(GaveUp(the last cause)) |
-    /// | idle, who made its last attempt abort is still active, and patience is left | it waits | Busy(the object, that transaction) |
-    /// | idle, 10,000 transactions have begun | it ends | Ended(JournalFull) |
-    /// | idle, no memory for a begin | it ends | Ended(NoMemory) |
-    /// | idle otherwise | its next transaction begins | Went |
-    /// | running, marked | it undoes, with Revoked | Went |
-    /// | running, a call is asked, and nobody holds anything against it | the call is done and noted | Went |
-    /// | running, a call meets a younger holder, patience is left | it waits, and may mark the holder | Busy(the object, the holder) |
-    /// | running, a call is asked, and another holds something against it otherwise | it undoes, with Conflict | Went |
-    /// | running, a back is asked | its block goes back from the next turn on | Went |
-    /// | running, the commit is asked | its stores are written | Went |
-    /// | running, an abort is asked | it undoes | Went |
-    /// | running, no memory | nothing is noted, but what a call had done at the host is recorded; it undoes | NoMemory |
-    /// | a block goes back, marked | it undoes, with Revoked | Went |
-    /// | a block goes back, a record of it has no end | the newest such record is tried; where that fails, it undoes, with Stuck | Went |
-    /// | a block goes back, all have one | all is as at its save, the back is noted, and the script goes on behind its keep | Went |
-    /// | committing, a late call has no end | the first such call is done at the host, or it starts a job | Went |
-    /// | committing, all have one | the Committed entry, with its slots set; its claims end, and the jobs that it started are live | Went |
-    /// | undoing, a record has no end | the newest such record is tried | Went |
-    /// | undoing, all have one | what it took is in front again, the Aborted entry; its claims end | Went |
-    /// | starved by lack of memory | it ends | Ended(NoMemory) |
+    /// One event of the job of this number. docs/ARCHITECTURE.md ("The station") has the states of a job with what is true in each, and
+    /// the table of turns with their answers.
     pub fn turn(&mut self, job: u32) -> Turn
         requires { live_at self.old.jobs job ≡ true }
         ensures same { KeepsOpening self.old self.new }

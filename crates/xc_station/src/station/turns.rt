@@ -129,6 +129,7 @@ impl<H: Host> Station<H> {
         ensures quiet { KeepsEvents self.old self.new }
         ensures row { IsTurn (setting_of H.model self.old) at (now_of H.model self.old) result (now_of H.model self.new) }
     {
+        // One call a turn, the oldest first: what it names is still held, so nobody else sees it half done.
         match self.jobs[at].tx.late.next_thread() {
             Some(block) => self.late_start(at, block),
             None => self.late_call(at),
@@ -136,8 +137,7 @@ impl<H: Host> Station<H> {
         Turn::Went
     }
 
-    // The entry of a committed transaction, into the room that was made at its begin. Its claims end, and the jobs that it started are
-    // live.
+    // The entry of a committed transaction. Its claims end, and the jobs that it started are live.
     #[inline(never)]
     fn committed(&mut self, at: usize) -> Turn
         requires { IsStage self.old.jobs at PlainStage.Committed }
@@ -151,8 +151,10 @@ impl<H: Host> Station<H> {
             &mut self.jobs[at],
             &mut self.shared,
         );
+        // Into the room that was made when it began. From here on it doesn't count among those that need room.
         self.journal.enter(entry);
         self.active -= 1;
+        // Last: a started job is live from the entry on, and begins with what the commit left.
         join(self.alloc, &mut self.jobs, &mut self.ahead, children);
         Turn::Went
     }
@@ -173,8 +175,8 @@ impl<H: Host> Station<H> {
         Turn::Went
     }
 
-    // The entry of a transaction whose records have their ends, into the room that was made at its begin. Its
-    // stores were never written; what it took is in front again, and its claims end.
+    // The entry of a transaction whose records have their ends. Its stores were never written; what it took is in front again, and
+    // its claims end.
     #[inline(never)]
     fn undone(&mut self, at: usize) -> Turn
         requires { IsStage self.old.jobs at PlainStage.Undone }
@@ -191,6 +193,7 @@ impl<H: Host> Station<H> {
             &mut self.jobs[at],
             &mut self.shared,
         );
+        // Into the room that was made when it began.
         self.journal.enter(entry);
         self.active -= 1;
         Turn::Went

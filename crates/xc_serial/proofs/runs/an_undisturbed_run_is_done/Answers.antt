@@ -9,4 +9,5 @@ returns-clause-done c = all_are_done
 
 pub returns-clause-nothing : goal.returns-clause-nothing
 returns-clause-nothing c =
-    λ s entries final some whole. nothing_remains s (opening_progress s.script) entries some (joint_of_parts s entries whole.journal).entries
+    λ s entries final some whole. let joint = joint_of_parts s entries whole.journal in
+    nothing_remains s (opening_progress s.script) joint.lasts entries some joint.entries

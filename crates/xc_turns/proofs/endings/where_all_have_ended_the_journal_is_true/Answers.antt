@@ -11,4 +11,4 @@ pub returns-clause-words : goal.returns-clause-words
 returns-clause-words c = words_are_left
 
 pub returns-clause-calls : goal.returns-clause-calls
-returns-clause-calls c = λ script now lines. calls_true script now.journal now.jobs now.calls lines
+returns-clause-calls c = λ s words now lines. calls_true s words now.marks now.journal now.jobs now.calls lines
