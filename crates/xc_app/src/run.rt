@@ -98,7 +98,7 @@ pub fn xcalls_run<
         IsChosenRun H.model (map string_bytes words.now) (record { old = S.told source.old; new = S.told source.new }) host) }
 
     // Where no attempt met another, no fault is recorded and no job found the journal full, each transaction is done with: it
-    // committed, unless it aborted itself. Only memory or the sink can have been wanting.
+    // committed, unless it aborted itself. Only memory or the sink can have failed.
     ensures complete { IfSome result.end (λ end. IsUndisturbed end → IsFullRun result.status end) }
 
     // The turns are those that the words choose: a schedule's in their order, and then rounds; with a seed and no schedule rounds alone.

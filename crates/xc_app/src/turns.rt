@@ -65,7 +65,7 @@ pub fn take_turns<H: Host>(station: Station<H>, chosen: &Chosen) -> Station<H>
     }
 }
 
-/// So many workers take the turns, each in a thread of its own; what they leave is taken in rounds.
+/// `workers` workers take the turns, each in a thread of its own; what they leave is taken in rounds.
 pub fn take_together<H: Host + Send, P: Pace + Sync, R: AllocGlobal + Threads + Wait + Sync>(
     rt: &R,
     station: Station<H>,

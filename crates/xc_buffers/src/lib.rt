@@ -3,7 +3,6 @@
 #![tactic(auto)]
 
 mod kept;
-pub mod law;
 mod rows;
 mod source;
 mod taken;

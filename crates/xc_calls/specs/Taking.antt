@@ -10,8 +10,8 @@ use Rattle.xc_data.specs.declared.private.Place.TheVariants.{Pipe}
 use Rattle.xc_data.specs.declared.private.Private.{Private}
 use Rattle.xc_world.specs.Run.{bytes_taken, taken_by}
 use Rattle.std.specs.Prelude.{◌⊎◌, ◌<◌, ◌≤◌, [], ◌∷◌, length}
+use Rattle.xc_data.specs.Calls.{CallTaking, TakingBytes, TakingMessage, TakingNothing, traits}
 use Rattle.xc_data.specs.Private.{place_of}
-use Rattle.xc_data.specs.declared.call.Call.TheVariants as call
 use Rattle.xc_data.specs.declared.call.Reply.TheVariants.{Got, Empty, End, Fault}
 use Rattle.xc_data.specs.declared.entry.KeptItem.TheVariants.{Message}
 use Rattle.xc_data.specs.declared.private.Place.{Place}
@@ -107,32 +107,15 @@ ReceivesAt (Pipe num) kept result = kept.new ≡ kept.old
 ReceivesAt (File num at) kept result = kept.new ≡ kept.old
 ReceivesAt Vacant kept result = kept.new ≡ kept.old
 
+-- ---- by what is taken
+abbrev pub HasTakenBy : CallTaking → Private → Step (List KeptItem) → Result Reply NoMemory → Type 0
+HasTakenBy TakingNothing me kept result = kept.new ≡ kept.old
+HasTakenBy (TakingBytes h n) me kept result = ReadsAt (place_of me.places h) n kept result
+HasTakenBy (TakingMessage h) me kept result = ReceivesAt (place_of me.places h) kept result
+
 -- ---- any call: what becomes of kept data with its reply, or where memory ran out
 abbrev pub HasTaken : Call → Private → Step (List KeptItem) → Result Reply NoMemory → Type 0
-HasTaken (call.XReadPipe h n) me kept result = ReadsAt (place_of me.places h) n kept result
-HasTaken (call.XRecvmsg h) me kept result = ReceivesAt (place_of me.places h) kept result
-HasTaken (call.Load at) me kept result = kept.new ≡ kept.old
-HasTaken (call.Store at value) me kept result = kept.new ≡ kept.old
-HasTaken (call.XOpen name) me kept result = kept.new ≡ kept.old
-HasTaken (call.XCreate name) me kept result = kept.new ≡ kept.old
-HasTaken (call.XRead h n) me kept result = kept.new ≡ kept.old
-HasTaken (call.XWriteOvr h bytes) me kept result = kept.new ≡ kept.old
-HasTaken (call.XWriteSeq h bytes) me kept result = kept.new ≡ kept.old
-HasTaken (call.XSeek h to) me kept result = kept.new ≡ kept.old
-HasTaken (call.XLen h) me kept result = kept.new ≡ kept.old
-HasTaken (call.XRename from to) me kept result = kept.new ≡ kept.old
-HasTaken (call.XClose h) me kept result = kept.new ≡ kept.old
-HasTaken call.XPipe me kept result = kept.new ≡ kept.old
-HasTaken call.XPair me kept result = kept.new ≡ kept.old
-HasTaken (call.XUnlink name slot) me kept result = kept.new ≡ kept.old
-HasTaken (call.XSync h slot) me kept result = kept.new ≡ kept.old
-HasTaken (call.XWritePipe h bytes slot) me kept result = kept.new ≡ kept.old
-HasTaken (call.XShutdown h slot) me kept result = kept.new ≡ kept.old
-HasTaken (call.XSendmsg h bytes slot) me kept result = kept.new ≡ kept.old
-HasTaken (call.XThreadCreate body slot) me kept result = kept.new ≡ kept.old
-HasTaken call.Save me kept result = kept.new ≡ kept.old
-HasTaken call.Keep me kept result = kept.new ≡ kept.old
-HasTaken call.Back me kept result = kept.new ≡ kept.old
+HasTaken call me kept result = HasTakenBy (traits call).taking me kept result
 
 -- a call notes what the plain machine's takes with its reply, and nothing where memory ran out
 abbrev pub Notes : Call → Private → Step (List KeptItem) → Result Reply NoMemory → Type 0

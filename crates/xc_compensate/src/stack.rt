@@ -84,7 +84,7 @@ fn faults_of(end: &UndoEnd) -> u32
     }
 }
 
-// The records with an end among which one may stand in the way: none, where none failed or was blocked.
+// The records with an end that may block another: none, where none failed or was blocked.
 fn hindering(hindered: bool, ended: &[(Undo, UndoEnd)]) -> &[(Undo, UndoEnd)]
     requires { hindered ≡ list_any hinders ended.now }
     ensures few { length result.now ≤ length ended.now }
@@ -204,7 +204,7 @@ impl Stack {
         faults
     }
 
-    /// Tries the newest record that has no end yet, as `undo_next` does, but none of the first so many. It takes no memory.
+    /// Tries the newest record that has no end yet, as `undo_next` does, but none of the first `mark`. It takes no memory.
     pub fn undo_to<H: Host>(&mut self, host: &mut H, tries: u32, mark: u32) -> UndoTurn
         requires tries { 1 ≤ tries }
         requires covered { IsTrue H.model.tells → NextIsCovered (H.model.contents host.old) self.old }
@@ -219,7 +219,7 @@ impl Stack {
         self.undo_next(host, tries)
     }
 
-    /// Drops the records after the first so many, each of which is undone. It takes no memory.
+    /// Drops the records behind the first `mark`, each of which is undone. It takes no memory.
     pub fn forget(&mut self, mark: u32)
         requires above { length self.old.pending ≡ mark }
         requires undone { All (λ e. is_undone e.1 ≡ true) self.old.ended }

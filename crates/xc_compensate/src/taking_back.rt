@@ -31,7 +31,7 @@ fn call_back<H: Host>(host: &mut H, undo: &Undo) -> Result<(), Fault>
     }
 }
 
-/// Makes the one call that undoes a record until it is done or so many tries failed.
+/// Makes the one call that undoes a record until it is done or `tries` tries failed.
 pub(crate) fn take_back<H: Host>(host: &mut H, undo: &Undo, tries: u32) -> UndoEnd
     requires tries { 1 ≤ tries }
     requires record { IsRecord undo.now }

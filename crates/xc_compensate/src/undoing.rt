@@ -19,7 +19,7 @@ use std::alloc::Global;
 use xc_data::{Num, Object, Undo, UndoEnd};
 use xc_host::{Host, a_front_grows, a_write_keeps_the_length};
 
-// ---- what stands in the way
+// ---- what blocks a record
 
 fn is_among(object: &Object, objects: &[Object]) -> bool
     ensures { result ≡ list_any (is_object object.now) objects.now }
@@ -51,7 +51,7 @@ fn blocks(alloc: Global, older: &Undo, newer: &(Undo, UndoEnd)) -> bool
     !is_undone(newer.1) && share_object(alloc, older, &newer.0)
 }
 
-// How many records lie between an older one and the first that stands in its way.
+// How many records lie between an older one and the first that blocks it.
 fn way(alloc: Global, older: &Undo, newer: &[(Undo, UndoEnd)]) -> Option<usize>
     ensures { result ≡ position (stands_in_way older.now) newer.now }
 {
@@ -71,7 +71,7 @@ fn blocker(alloc: Global, number: u32, older: &Undo, newer: &[(Undo, UndoEnd)]) 
 
 // ---- putting old bytes back
 
-/// How far an overwrite is undone: so many bytes are restored, and so many tries failed.
+/// How far an overwrite is undone: `done` bytes are restored, and `faults` tries failed.
 #[derive(Clone, Copy)]
 struct RestoreProgress {
     done: u32,
@@ -113,7 +113,7 @@ fn restore_more<H: Host>(
     }
 }
 
-// Puts the bytes back until all are restored or so many tries failed. A fault loses nothing of what
+// Puts the bytes back until all are restored or `tries` tries failed. A fault loses nothing of what
 // was restored before it.
 fn restore_whole<H: Host>(host: &mut H, file: Num, at: u32, bytes: &[u8], tries: u32) -> UndoEnd
     requires tries { 1 ≤ tries }
@@ -142,7 +142,7 @@ fn restore_whole<H: Host>(host: &mut H, file: Num, at: u32, bytes: &[u8], tries:
     }
 }
 
-// Undoes one record that nothing stands in the way of.
+// Undoes one record that nothing blocks.
 fn undo_one<H: Host>(host: &mut H, undo: &Undo, tries: u32) -> UndoEnd
     requires tries { 1 ≤ tries }
     requires record { IsRecord undo.now }
@@ -163,7 +163,7 @@ fn undo_one<H: Host>(host: &mut H, undo: &Undo, tries: u32) -> UndoEnd
     }
 }
 
-/// Tries one record of this number, after which only the given ones stand. It takes no memory.
+/// Tries one record of this number, after which only the given ones remain. It takes no memory.
 pub(crate) fn try_one<H: Host>(
     alloc: Global,
     host: &mut H,

@@ -48,7 +48,7 @@ pub fn coop_run<R: AllocGlobal + Wait + RandomSource, S: Source, K: Sink, H: Hos
         (record { old = S.told source.old; new = S.told source.new }) host) }
 
     // Where no attempt met another, no fault is recorded and no job found the journal full, each transaction is done with: it
-    // committed, unless it aborted itself. Only memory or the sink can have been wanting.
+    // committed, unless it aborted itself. Only memory or the sink can have failed.
     ensures complete { IfSome result.end (λ end. IsUndisturbed end → IsFullRun result.status end) }
 
     // Without a run the host is given back as it was handed in.

@@ -1,9 +1,11 @@
 -- What is asked of a call, of a late call and of a reply.
-use Rattle.std.specs.Prelude.{ℕ, Bool, true, false, List, [], ◌∷◌, Option}
+use Rattle.std.specs.Prelude.{ℕ, Bool, true, false, List, [], ◌∷◌, Option, length, nat_le}
 use Rattle.std.specs.declared.option.Option.TheVariants.{None, Some}
 use Rattle.xc_data.specs.declared.object.Object.TheVariants as object
 use Rattle.xc_data.specs.declared.call.Call.{Call}
 use Rattle.xc_data.specs.declared.call.Call.TheVariants as call
+use Rattle.xc_data.specs.declared.call.HandleUse.{HandleUse}
+use Rattle.xc_data.specs.declared.call.HandleUse.TheVariants as handles
 use Rattle.xc_data.specs.declared.call.Reply.{Reply}
 use Rattle.xc_data.specs.declared.call.Reply.TheVariants as reply
 use Rattle.xc_data.specs.declared.call.LateCall.{LateCall}
@@ -12,144 +14,6 @@ use Rattle.xc_data.specs.declared.private.Place.{Place}
 use Rattle.xc_data.specs.declared.private.Place.TheVariants as place
 use Rattle.xc_data.specs.declared.private.Private.{Private}
 use Rattle.xc_data.specs.Private.{place_of}
-
--- the bytes that a call carries
-abbrev pub bytes_of : Call → List ℕ
-bytes_of (call.XWriteOvr h bytes) = bytes
-bytes_of (call.XWriteSeq h bytes) = bytes
-bytes_of (call.XWritePipe h bytes slot) = bytes
-bytes_of (call.XSendmsg h bytes slot) = bytes
-bytes_of (call.Load at) = []
-bytes_of (call.Store at value) = []
-bytes_of (call.XOpen name) = []
-bytes_of (call.XCreate name) = []
-bytes_of (call.XRead h n) = []
-bytes_of (call.XSeek h to) = []
-bytes_of (call.XLen h) = []
-bytes_of (call.XRename from to) = []
-bytes_of (call.XClose h) = []
-bytes_of call.XPipe = []
-bytes_of (call.XReadPipe h n) = []
-bytes_of call.XPair = []
-bytes_of (call.XRecvmsg h) = []
-bytes_of (call.XUnlink name slot) = []
-bytes_of (call.XSync h slot) = []
-bytes_of (call.XShutdown h slot) = []
-bytes_of (call.XThreadCreate body slot) = []
-bytes_of call.Save = []
-bytes_of call.Keep = []
-bytes_of call.Back = []
-
--- ---- calls that are kept for the commit
--- whether a call is kept for the commit: it touches no host before its transaction has committed
-abbrev pub is_kept : Call → Bool
-is_kept (call.XUnlink name slot) = true
-is_kept (call.XSync h slot) = true
-is_kept (call.XWritePipe h bytes slot) = true
-is_kept (call.XShutdown h slot) = true
-is_kept (call.XSendmsg h bytes slot) = true
-is_kept (call.XThreadCreate body slot) = true
-is_kept call.Save = false
-is_kept call.Keep = false
-is_kept call.Back = false
-is_kept (call.Load at) = false
-is_kept (call.Store at value) = false
-is_kept (call.XOpen name) = false
-is_kept (call.XCreate name) = false
-is_kept (call.XRead h n) = false
-is_kept (call.XWriteOvr h bytes) = false
-is_kept (call.XWriteSeq h bytes) = false
-is_kept (call.XSeek h to) = false
-is_kept (call.XLen h) = false
-is_kept (call.XRename from to) = false
-is_kept (call.XClose h) = false
-is_kept call.XPipe = false
-is_kept (call.XReadPipe h n) = false
-is_kept call.XPair = false
-is_kept (call.XRecvmsg h) = false
-
--- the slot that takes how a call ends, where it names one
-abbrev pub slot_of : Call → Option (List ℕ)
-slot_of (call.XUnlink name slot) = slot
-slot_of (call.XSync h slot) = slot
-slot_of (call.XWritePipe h bytes slot) = slot
-slot_of (call.XShutdown h slot) = slot
-slot_of (call.XSendmsg h bytes slot) = slot
-slot_of (call.XThreadCreate body slot) = slot
-slot_of call.Save = None
-slot_of call.Keep = None
-slot_of call.Back = None
-slot_of (call.Load at) = None
-slot_of (call.Store at value) = None
-slot_of (call.XOpen name) = None
-slot_of (call.XCreate name) = None
-slot_of (call.XRead h n) = None
-slot_of (call.XWriteOvr h bytes) = None
-slot_of (call.XWriteSeq h bytes) = None
-slot_of (call.XSeek h to) = None
-slot_of (call.XLen h) = None
-slot_of (call.XRename from to) = None
-slot_of (call.XClose h) = None
-slot_of call.XPipe = None
-slot_of (call.XReadPipe h n) = None
-slot_of call.XPair = None
-slot_of (call.XRecvmsg h) = None
-
--- the reply of a call that is kept for the commit
-abbrev pub is_late : Reply → Bool
-is_late reply.Late = true
-is_late (reply.Number n) = false
-is_late (reply.Got bytes) = false
-is_late (reply.Made h) = false
-is_late (reply.MadePair h g) = false
-is_late reply.Done = false
-is_late reply.End = false
-is_late reply.Empty = false
-is_late reply.NoName = false
-is_late reply.Exists = false
-is_late reply.BadHandle = false
-is_late reply.PastEnd = false
-is_late reply.TooBig = false
-is_late reply.TooMuch = false
-is_late reply.BadWord = false
-is_late (reply.Fault n) = false
-is_late (reply.Undone n) = false
-
--- ---- the block of the job that a call would start, where it would start one
-abbrev pub thread_asked : Call → Option (List ℕ)
-thread_asked (call.XThreadCreate block slot) = Some block
-thread_asked call.Save = None
-thread_asked call.Keep = None
-thread_asked call.Back = None
-thread_asked (call.Load at) = None
-thread_asked (call.Store at value) = None
-thread_asked (call.XOpen name) = None
-thread_asked (call.XCreate name) = None
-thread_asked (call.XRead h n) = None
-thread_asked (call.XWriteOvr h bytes) = None
-thread_asked (call.XWriteSeq h bytes) = None
-thread_asked (call.XSeek h to) = None
-thread_asked (call.XLen h) = None
-thread_asked (call.XRename from to) = None
-thread_asked (call.XClose h) = None
-thread_asked call.XPipe = None
-thread_asked (call.XReadPipe h n) = None
-thread_asked call.XPair = None
-thread_asked (call.XRecvmsg h) = None
-thread_asked (call.XUnlink name slot) = None
-thread_asked (call.XSync h slot) = None
-thread_asked (call.XWritePipe h bytes slot) = None
-thread_asked (call.XShutdown h slot) = None
-thread_asked (call.XSendmsg h bytes slot) = None
-
--- and the block of the job that a late call would start
-abbrev pub thread_in : LateCall → Option (List ℕ)
-thread_in (Thread block) = Some block
-thread_in (Unlink name) = None
-thread_in (Sync num) = None
-thread_in (WritePipe num bytes) = None
-thread_in (Shutdown object) = None
-thread_in (Send num side bytes) = None
 
 -- ---- the late call on a handle's object, none where it is of another kind
 -- a sync of the file at a handle, if one is there
@@ -180,29 +44,164 @@ send_of place.Vacant bytes = []
 send_of (place.File num at) bytes = []
 send_of (place.Pipe num) bytes = []
 
+-- ---- what a call is, in which most calls are alike
+-- what a call changes at the host at once
+pub data CallChange : Type 0 where
+  Unchanging : CallChange
+  Overwriting : ℕ → List ℕ → CallChange
+  Appending : ℕ → List ℕ → CallChange
+  Creating : List ℕ → CallChange
+  Renaming : List ℕ → List ℕ → CallChange
+  MakingPipe : CallChange
+  MakingPair : CallChange
+
+-- what a call takes out of a pipe or a pair: nothing, of the pipe at a handle so many bytes, or a message from the pair at one
+pub data CallTaking : Type 0 where
+  TakingNothing : CallTaking
+  TakingBytes : ℕ → ℕ → CallTaking
+  TakingMessage : ℕ → CallTaking
+
+-- the traits of a call
+pub record Traits : Type 0 where
+  -- the bytes that it carries, where it is one that carries some
+  pub bytes : Option (List ℕ)
+  -- the word that it is on, where it is on one
+  pub word : Option ℕ
+  -- whether it asks something of the host at once
+  pub is_asking : Bool
+  -- whether it is on pipes or on pairs
+  pub is_on_data : Bool
+  -- what it may change of its job's handles, of what is at the host, and of what is in pipes and pairs
+  pub handle : HandleUse
+  pub change : CallChange
+  pub taking : CallTaking
+  -- whether it is kept for the commit, its slot, the late call that it leaves, and the block of the job that this would start
+  pub is_kept : Bool
+  pub slot : Option (List ℕ)
+  pub late : Private → List LateCall
+  pub block : Option (List ℕ)
+
+-- those of a call that does nothing
+abbrev pub plain : Traits
+plain =
+    record {
+      bytes = None;
+      word = None;
+      is_asking = false;
+      is_on_data = false;
+      handle = handles.Unchanged;
+      change = Unchanging;
+      taking = TakingNothing;
+      is_kept = false;
+      slot = None;
+      late = λ me. [];
+      block = None;
+    }
+
+-- those of one on a word
+abbrev pub on_word : ℕ → Traits
+on_word at = record plain { word = Some at }
+
+-- those of one that asks the host and changes nothing there
+abbrev pub asking : Traits
+asking = record plain { is_asking = true }
+
+-- those of one on pipes or pairs
+abbrev pub on_data : Traits
+on_data = record plain { is_on_data = true }
+
+-- those of a write to the file at a handle
+abbrev pub writing : ℕ → List ℕ → CallChange → Traits
+writing h written made =
+    record plain { bytes = Some written; is_asking = nat_le 1 (length written); handle = handles.At h; change = made }
+
+-- those of one that is kept, with this slot and this late call
+abbrev pub kept : Option (List ℕ) → (Private → List LateCall) → Traits
+kept named left = record plain { is_kept = true; slot = named; late = left }
+
+-- those of one that is kept and is on pipes or pairs
+abbrev pub kept_on_data : Option (List ℕ) → (Private → List LateCall) → Traits
+kept_on_data named left = record (kept named left) { is_on_data = true }
+
+-- the traits of each call
+abbrev pub traits : Call → Traits
+traits (call.Load at) = on_word at
+traits (call.Store at value) = on_word at
+traits (call.XOpen name) = record asking { handle = handles.New }
+traits (call.XCreate name) = record asking { handle = handles.New; change = Creating name }
+traits (call.XRead h n) = record plain { is_asking = nat_le 1 n; handle = handles.At h }
+traits (call.XWriteOvr h bytes) = writing h bytes (Overwriting h bytes)
+traits (call.XWriteSeq h bytes) = writing h bytes (Appending h bytes)
+traits (call.XSeek h to) = record plain { handle = handles.At h }
+traits (call.XLen h) = asking
+traits (call.XRename from to) = record asking { change = Renaming from to }
+traits (call.XClose h) = record plain { handle = handles.At h }
+traits call.XPipe = record on_data { is_asking = true; handle = handles.New; change = MakingPipe }
+traits (call.XReadPipe h n) = record on_data { is_asking = nat_le 1 n; taking = TakingBytes h n }
+traits call.XPair = record on_data { is_asking = true; handle = handles.NewPair; change = MakingPair }
+traits (call.XRecvmsg h) = record on_data { is_asking = true; taking = TakingMessage h }
+traits (call.XUnlink name slot) = kept slot (λ me. Unlink name ∷ [])
+traits (call.XSync h slot) = kept slot (λ me. sync_of (place_of me.places h))
+traits (call.XWritePipe h sent slot) = record (kept_on_data slot (λ me. write_pipe_of (place_of me.places h) sent)) { bytes = Some sent }
+traits (call.XShutdown h slot) = kept_on_data slot (λ me. shutdown_of (place_of me.places h))
+traits (call.XSendmsg h sent slot) = record (kept_on_data slot (λ me. send_of (place_of me.places h) sent)) { bytes = Some sent }
+traits (call.XThreadCreate body slot) = record (kept slot (λ me. Thread body ∷ [])) { block = Some body }
+traits call.Save = plain
+traits call.Keep = plain
+traits call.Back = plain
+
+-- ---- read off them
+-- bytes, none where none are carried
+abbrev pub carried : Option (List ℕ) → List ℕ
+carried None = []
+carried (Some bytes) = bytes
+
+-- the bytes that a call carries
+abbrev pub bytes_of : Call → List ℕ
+bytes_of call = carried (traits call).bytes
+
+-- whether a call is kept for the commit: it touches no host before its transaction has committed
+abbrev pub is_kept : Call → Bool
+is_kept call = (traits call).is_kept
+
+-- the slot that takes how a call ends, where it names one
+abbrev pub slot_of : Call → Option (List ℕ)
+slot_of call = (traits call).slot
+
 -- the late call of a call, its object fixed by the handle as it is now
 abbrev pub late_call : Call → Private → List LateCall
-late_call (call.XUnlink name slot) me = Unlink name ∷ []
-late_call (call.XSync h slot) me = sync_of (place_of me.places h)
-late_call (call.XWritePipe h bytes slot) me = write_pipe_of (place_of me.places h) bytes
-late_call (call.XShutdown h slot) me = shutdown_of (place_of me.places h)
-late_call (call.XSendmsg h bytes slot) me = send_of (place_of me.places h) bytes
-late_call (call.XThreadCreate body slot) me = Thread body ∷ []
-late_call call.Save me = []
-late_call call.Keep me = []
-late_call call.Back me = []
-late_call (call.Load at) me = []
-late_call (call.Store at value) me = []
-late_call (call.XOpen name) me = []
-late_call (call.XCreate name) me = []
-late_call (call.XRead h n) me = []
-late_call (call.XWriteOvr h bytes) me = []
-late_call (call.XWriteSeq h bytes) me = []
-late_call (call.XSeek h to) me = []
-late_call (call.XLen h) me = []
-late_call (call.XRename from to) me = []
-late_call (call.XClose h) me = []
-late_call call.XPipe me = []
-late_call (call.XReadPipe h n) me = []
-late_call call.XPair me = []
-late_call (call.XRecvmsg h) me = []
+late_call call me = (traits call).late me
+
+-- the block of the job that a call would start, where it would start one
+abbrev pub thread_asked : Call → Option (List ℕ)
+thread_asked call = (traits call).block
+
+-- ---- late calls and replies
+-- the block of the job that a late call would start, where it would start one
+abbrev pub thread_in : LateCall → Option (List ℕ)
+thread_in (Thread block) = Some block
+thread_in (Unlink name) = None
+thread_in (Sync num) = None
+thread_in (WritePipe num bytes) = None
+thread_in (Shutdown object) = None
+thread_in (Send num side bytes) = None
+
+-- the reply of a call that is kept for the commit
+abbrev pub is_late : Reply → Bool
+is_late reply.Late = true
+is_late (reply.Number n) = false
+is_late (reply.Got bytes) = false
+is_late (reply.Made h) = false
+is_late (reply.MadePair h g) = false
+is_late reply.Done = false
+is_late reply.End = false
+is_late reply.Empty = false
+is_late reply.NoName = false
+is_late reply.Exists = false
+is_late reply.BadHandle = false
+is_late reply.PastEnd = false
+is_late reply.TooBig = false
+is_late reply.TooMuch = false
+is_late reply.BadWord = false
+is_late (reply.Fault n) = false
+is_late (reply.Undone n) = false

@@ -1,5 +1,5 @@
 ghost use Rattle.std.specs.Prelude.{◌≡◌};
-ghost use Rattle.xc_data.specs.Calls.{bytes_of, slot_of, is_late};
+ghost use Rattle.xc_data.specs.Calls.{traits, bytes_of, slot_of, is_late};
 
 use crate::{Boxed, Chunk, Ident, Num, Object, SharedName, SlotName};
 
@@ -92,7 +92,72 @@ pub enum Call {
 // A journal has many, one for each call that was made.
 const _: () = prove!(size_of::<Call>() == 24);
 
+/// What a call may change of its job's handles.
+#[derive(Clone, Copy)]
+pub enum HandleUse {
+    /// Nothing.
+    Unchanged,
+    /// What is at this one.
+    At(u16),
+    /// The lowest vacant one: its reply names it.
+    New,
+    /// The two lowest vacant ones: its reply names them.
+    NewPair,
+}
+
 impl Call {
+    /// What it may change of its job's handles.
+    pub fn handle_use(&self) -> HandleUse
+        ensures { result ≡ (traits self.now).handle }
+    {
+        match self {
+            Call::XRead { h, .. } | Call::XSeek { h, .. } => HandleUse::At(*h),
+            Call::XWriteOvr { h, .. } | Call::XWriteSeq { h, .. } => HandleUse::At(*h),
+            Call::XClose { h } => HandleUse::At(*h),
+            Call::XOpen { .. } | Call::XCreate { .. } | Call::XPipe => HandleUse::New,
+            Call::XPair => HandleUse::NewPair,
+            Call::Load { .. } | Call::Store { .. } | Call::XLen { .. } => HandleUse::Unchanged,
+            Call::XRename { .. } | Call::XReadPipe { .. } => HandleUse::Unchanged,
+            Call::XRecvmsg { .. } | Call::XUnlink { .. } => HandleUse::Unchanged,
+            Call::XSync { .. } | Call::XWritePipe { .. } => HandleUse::Unchanged,
+            Call::XShutdown { .. } | Call::XSendmsg { .. } => HandleUse::Unchanged,
+            Call::XThreadCreate { .. } => HandleUse::Unchanged,
+            Call::Save | Call::Keep | Call::Back => HandleUse::Unchanged,
+        }
+    }
+
+    /// The word that it is on, where it is on one.
+    pub fn word(&self) -> Option<u64>
+        ensures { result ≡ (traits self.now).word }
+    {
+        match self {
+            Call::Load { at } | Call::Store { at, .. } => Some(*at),
+            Call::XOpen { .. } | Call::XCreate { .. } | Call::XRead { .. } => None,
+            Call::XWriteOvr { .. } | Call::XWriteSeq { .. } | Call::XSeek { .. } => None,
+            Call::XLen { .. } | Call::XRename { .. } | Call::XClose { .. } | Call::XPipe => None,
+            Call::XReadPipe { .. } | Call::XPair | Call::XRecvmsg { .. } => None,
+            Call::XUnlink { .. } | Call::XSync { .. } | Call::XWritePipe { .. } => None,
+            Call::XShutdown { .. } | Call::XSendmsg { .. } | Call::XThreadCreate { .. } => None,
+            Call::Save | Call::Keep | Call::Back => None,
+        }
+    }
+
+    /// Whether it asks something of the host at once.
+    pub fn asks_host(&self) -> bool
+        ensures { result ≡ (traits self.now).is_asking }
+    {
+        match self {
+            Call::XOpen { .. } | Call::XCreate { .. } | Call::XLen { .. } => true,
+            Call::XRename { .. } | Call::XPipe | Call::XPair | Call::XRecvmsg { .. } => true,
+            Call::XRead { n, .. } | Call::XReadPipe { n, .. } => *n >= 1,
+            Call::XWriteOvr { bytes, .. } | Call::XWriteSeq { bytes, .. } => bytes.len() >= 1,
+            Call::Load { .. } | Call::Store { .. } | Call::XSeek { .. } => false,
+            Call::XClose { .. } | Call::XUnlink { .. } | Call::XSync { .. } => false,
+            Call::XWritePipe { .. } | Call::XShutdown { .. } | Call::XSendmsg { .. } => false,
+            Call::XThreadCreate { .. } | Call::Save | Call::Keep | Call::Back => false,
+        }
+    }
+
     /// The bytes that it carries.
     pub fn bytes(&self) -> &[u8]
         ensures { result.now ≡ bytes_of self.now }

@@ -28,7 +28,7 @@ mod slot_names;
 mod undo;
 
 pub use boxed::Boxed;
-pub use call::{Answer, Call, CallWithAnswer, LateAnswer, LateCall, LateEnd, Reply};
+pub use call::{Answer, Call, CallWithAnswer, HandleUse, LateAnswer, LateCall, LateEnd, Reply};
 pub use chunk::Chunk;
 pub use claim::{Claim, Mode};
 pub use entry::{

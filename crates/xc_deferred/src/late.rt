@@ -80,7 +80,7 @@ impl Late {
         self.calls.len().min(u32::MAX as usize) as u32
     }
 
-    /// Keeps the first so many calls, none of which is done. It takes no memory.
+    /// Keeps the first `n` calls, none of which is done. It takes no memory.
     pub fn cut(&mut self, n: u32)
         requires { self.old.ends ≡ [] }
         ensures { self.new ≡ record { calls = take n self.old.calls; ends = [] } }

@@ -9,7 +9,7 @@ use std::alloc::Global;
 use std::marker::Model;
 use xc_data::{CallNumbers, Chunk, NoMemory};
 
-// Copies a front, of at most so many bytes.
+// Copies a front of at most `most` bytes.
 fn copy_front(from: &[u8], into: &mut [u8], most: usize) -> usize
     ensures count { result ≡ min (min (length from.now) (length into.old)) most }
     ensures bytes { take result into.new ≡ take result from.now }
@@ -92,7 +92,7 @@ impl Source for MemSource {
     }
 }
 
-/// A sink in memory, with room for so many bytes. Its listed writes fail, counted from 1, and so
+/// A sink in memory, with room for `room` bytes. Its listed writes fail, counted from 1, and so
 /// does each write into the full room.
 #[derive(Drop)]
 pub struct MemSink {

@@ -202,7 +202,7 @@ fn append_next<H: Host>(
 }
 
 /// Appends bytes to an open file, whose position is then its end. The record is pushed before the
-/// host's append, and covers what was done; memory may be wanting after a front.
+/// host's append, and covers what was done; memory may run out after a front.
 pub fn x_write_seq<H: Host>(
     host: &mut H,
     me: &mut Private,

@@ -31,7 +31,7 @@ fn open_at<H: Host>(host: &mut H, me: &mut Private, name: &Name, h: u16) -> Resu
     Ok(Reply::Made(h))
 }
 
-/// Opens a name's file at its begin.
+/// Opens a name's file at position 0.
 pub fn x_open<H: Host>(host: &mut H, me: &mut Private, name: &Name) -> Result<Reply, NoMemory>
     ensures call { (number : ℕ) (undo : Records) → IsHostCall H.model (XOpen name.now)
         (record { host = host.old; number = number; me = me.old; undo = undo })

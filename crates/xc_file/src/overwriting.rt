@@ -27,7 +27,7 @@ use xc_compensate::Stack;
 use xc_data::{Chunk, NoMemory, Num, Place, Private, Reply, Undo};
 use xc_host::{Host, HostErr};
 
-// The n bytes from a place on, where so many are there.
+// The n bytes from a place on, where there are n.
 fn bytes_under<H: Host>(
     alloc: Global,
     host: &mut H,

@@ -130,8 +130,8 @@ pub fn a_turn_back_keeps_all()
         → InFlight (turned s job (Some (in_phase t Undoing)) s.now) }
 {}
 
-/// A compensation of the newest record without an end keeps all, where on S with what stands it
-/// leads to S with what stands then.
+/// A compensation of the newest record without an end keeps all, where on S with what remains it
+/// leads to S with what remains then.
 pub fn a_compensation_keeps_all()
     ensures { (s : FlightState) (job : ℕ) (t : Tx) (older : List Undo) (u : Undo) (end : UndoEnd) → Flies s job t Undoing
         → IsSoundFor s.state t → t.pending ≡ older ++ u ∷ []

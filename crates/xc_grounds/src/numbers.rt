@@ -22,7 +22,7 @@ fn enter_all(places: &mut Places, begins: &[(u32, u32)]) -> usize
 }
 
 impl Places {
-    // When the transaction of a number began, if it is one of the first so many.
+    // When the transaction of a number began, if it is one of the first `below`.
     fn began(&self, begins: &[(u32, u32)], number: usize, below: u32) -> Option<u32>
         requires { HasPlaces begins.now self.now.by_number.items }
         ensures { MatchOption result (IsNoNumber (take below begins.now) number) (IsBegin (take below begins.now) number) }
@@ -34,7 +34,7 @@ impl Places {
         None
     }
 
-    // Of the first so many none with a greater number began earlier.
+    // Of the first `below` none with a greater number began earlier.
     fn are_in_order(&self, begins: &[(u32, u32)], below: u32) -> bool
         requires { HasPlaces begins.now self.now.by_number.items }
         ensures { Decides result (AreInOrder (take below begins.now)) }

@@ -12,7 +12,7 @@ pub struct Part {
     pub job: u32,
     /// The number of its first attempt.
     pub rank: u32,
-    /// The length that the journal had at its begin.
+    /// The length that the journal had when it began.
     pub began: u32,
     pub held: HeldList,
     /// What the call claims that it was asked last and that has no reply, where there is one.
@@ -39,7 +39,7 @@ impl Model for Part {
 }
 
 impl Part {
-    /// Its number and the length that the journal had at its begin.
+    /// Its number and the length that the journal had when it began.
     pub fn begin(&self) -> (u32, u32)
         ensures { result ≡ part_begin self.now }
     {

@@ -12,7 +12,7 @@ pub(crate) struct Places {
 }
 
 impl Places {
-    /// No number has a place yet; there may be so many.
+    /// No number has a place yet; there may be `count` of them.
     pub(crate) fn none(alloc: Global, count: usize) -> Result<Places, NoMemory>
         requires { count < 2 ^ 32 }
         ensures has { IfOk result (λ places. HasPlaces [] places.by_number.items) }

@@ -1,4 +1,4 @@
-ghost use Rattle.std.specs.Prelude.{◌≡◌, ◌≤◌, ◌+◌, ℕ, List, true, length, take, drop};
+ghost use Rattle.std.specs.Prelude.{◌≡◌, ◌≤◌, ◌<◌, ◌+◌, ℕ, List, true, length, take, drop};
 ghost use Rattle.xc_data.specs.declared.object.Num.{Num};
 ghost use Rattle.xc_host.specs.Contents.{Contents, file_in, has_file, wrote, wrote_front};
 

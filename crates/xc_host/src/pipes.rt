@@ -1,6 +1,6 @@
 use xc_data::Chunk;
 
-/// How a pipe stands: how many bytes it holds, and whether it is shut.
+/// A pipe's state: how many bytes it holds, and whether it is shut.
 #[derive(Clone, Copy, Debug, PartialEq)]
 pub struct HostState {
     pub held: u32,

@@ -13,11 +13,11 @@ pub const LINE_BYTES: usize = 65;
 /// A line that was read into a buffer.
 #[derive(Debug, Drop, PartialEq)]
 pub enum WireLine {
-    /// So many bytes, and then its end.
+    /// This many bytes, and then its end.
     Whole(usize),
     /// 65 bytes without an end.
     TooLong,
-    /// So many bytes without an end, and no more come.
+    /// This many bytes without an end, and no more come.
     Rest(usize),
 }
 

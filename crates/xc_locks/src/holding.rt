@@ -36,7 +36,7 @@ impl Holding {
         }
     }
 
-    /// Makes room for so many more objects.
+    /// Makes room for `n` more objects.
     pub fn make_room(&mut self, n: u32) -> Result<(), NoMemory>
         ensures room { OnOk result (n ≤ self.new.spare) }
         ensures items { self.new.items ≡ self.old.items }
@@ -84,7 +84,7 @@ impl Holding {
     }
 }
 
-// Where a claim on an object stands in what is held.
+// The place of a claim on an object in what is held.
 fn place_of(held: &[KeptClaim], object: &Object) -> Option<usize>
     ensures { IsPlaceOf held.now object.now result }
 {

@@ -12,7 +12,7 @@ use std::marker::Model;
 use std::ops::Bound;
 use xc_data::{Mode, NoMemory};
 
-// How the holders of an object stand.
+// In what form the holders of an object lie.
 #[derive(Drop)]
 enum HoldersForm {
     Nobody,

@@ -15,7 +15,7 @@ use xc_serve::serve_one;
 use xc_station::Station;
 use xc_turnstile::{Pass, Turnstile};
 
-/// Accepts so many links, one after another, and serves each while a thread of its own awaits the next; where no thread can be had,
+/// Accepts `count` links, one after another, and serves each while a thread of its own awaits the next; where no thread can be had,
 /// each is served before the next is awaited. An accept that fails is the last. The sessions are entered backwards, the last one first.
 /// All passes are met. It may wait.
 pub fn serve_all<

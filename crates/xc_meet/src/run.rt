@@ -49,7 +49,7 @@ fn serve_boxed<
     }
 }
 
-/// Hands a station to the sessions of so many links, and takes it back when all have ended. Where there is no memory for the list of
+/// Hands a station to the sessions of some links, and takes it back when all have ended. Where there is no memory for the list of
 /// sessions, the station's box or a turnstile, no link is accepted and both come back as they were. It may wait.
 pub fn serve_sessions<
     L: Duplex + Send + Drop,

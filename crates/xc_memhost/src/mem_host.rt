@@ -81,7 +81,7 @@ impl MemHost {
         self.objects.find(name)
     }
 
-    /// How a pipe stands, where there is one. Looking at it is no call of the host.
+    /// How many bytes a pipe holds and whether it is shut, if there is one. Looking at it is no call of the host.
     pub fn pipe_of(&self, pipe: Num) -> Option<HostState>
         ensures there { is_some result ≡ has_pipe self.now.contents pipe }
         ensures value { IfSome result (λ state. state ≡ pipe_state (pipe_in self.now.contents pipe)) }

@@ -216,7 +216,7 @@ impl HostObjects {
         self.pipes.insert(num, PipeBody::empty(self.alloc))
     }
 
-    // How a pipe stands, where it is there.
+    // How many bytes a pipe holds and whether it is shut, if there is one.
     pub(crate) fn pipe_of(&self, pipe: Num) -> Option<HostState>
         ensures there { is_some result ≡ has_pipe self.now pipe }
         ensures value { IfSome result (λ state. state ≡ pipe_state (pipe_in self.now pipe)) }

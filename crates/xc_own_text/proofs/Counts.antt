@@ -34,30 +34,11 @@ gone_back n words (Some before) h k = k
 
 -- a call leaves as many
 step_counts : (n : ℕ) (s : WordState) (c : Call) → HaveCount n s → HaveCount n (word_step s c)
-step_counts n s (call.Load at) h = h
 step_counts n s (call.Store at value) h = (stored (nat_le (length s.words) at) s.words at value ∙ h.0, h.1)
-step_counts n s (call.XOpen name) h = h
-step_counts n s (call.XCreate name) h = h
-step_counts n s (call.XRead a b) h = h
-step_counts n s (call.XWriteOvr a bytes) h = h
-step_counts n s (call.XWriteSeq a bytes) h = h
-step_counts n s (call.XSeek a to) h = h
-step_counts n s (call.XLen a) h = h
-step_counts n s (call.XRename from to) h = h
-step_counts n s (call.XClose a) h = h
-step_counts n s call.XPipe h = h
-step_counts n s (call.XReadPipe a b) h = h
-step_counts n s call.XPair h = h
-step_counts n s (call.XRecvmsg a) h = h
-step_counts n s (call.XUnlink name slot) h = h
-step_counts n s (call.XSync a slot) h = h
-step_counts n s (call.XWritePipe a bytes slot) h = h
-step_counts n s (call.XShutdown a slot) h = h
-step_counts n s (call.XSendmsg a bytes slot) h = h
-step_counts n s (call.XThreadCreate body slot) h = h
 step_counts n s call.Save h = (h.0, h.0)
 step_counts n s call.Keep h = (h.0, tt)
 step_counts n s call.Back h = (gone_back n s.words s.saved h.0 h.1, tt)
+step_counts n s c h = h
 
 steps_count : (n : ℕ) (calls : List Call) (s : WordState) → HaveCount n s → HaveCount n (fold word_step s calls)
 steps_count n [] s h = h

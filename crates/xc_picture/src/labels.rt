@@ -49,7 +49,7 @@ fn push_lane(alloc: Global, out: &mut Page, lane: u32) -> Result<(), NoMemory>
     push_label(out, lane_point(8, lane), label.as_slice())
 }
 
-/// The labels of so many lanes.
+/// The labels of the lanes from 1 on.
 pub fn push_lanes(alloc: Global, out: &mut Page, lanes: u32) -> Result<(), NoMemory>
     ensures { OnOk result (out.new ≡ out.old ++ elements_text (lane_labels 1 lanes)) }
 {

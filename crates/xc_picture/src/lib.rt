@@ -1,6 +1,6 @@
 //! The picture of a printed journal, as an SVG text.
 //!
-//! A lane is a job, and a bar in it a transaction: it spans from the length that the journal had at its begin to the number of its
+//! A lane is a job, and a bar in it a transaction: it spans from the length that the journal had when it began to the number of its
 //! entry. `specs/Scenes` says what is shown of the lines, `specs/Drawn` and `specs/Arrows` where, and `specs/Elements` by which text.
 #![tactic(auto)]
 

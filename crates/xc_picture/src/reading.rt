@@ -140,7 +140,7 @@ fn is_commit(head: &Head) -> bool
     head.cause.is_none()
 }
 
-// The column of a begin, which is at most that of the end.
+// The column in which a bar begins, which is at most that of its end.
 fn begin(began: u32, number: u32) -> u32
     ensures { result ≡ min began number }
 {

@@ -1,11 +1,11 @@
 use xc_data::{Items, Text};
 
-/// An entry of the journal, as a bar from the column of its begin to the column of its number.
+/// An entry of the journal, as a bar from the column in which it began to that of its number.
 #[derive(Drop)]
 pub struct Bar {
     pub tx: u32,
     pub job: u32,
-    /// The length that the journal had at its begin; its number, if that is less.
+    /// The length that the journal had when it began; its number, if that is less.
     pub from: u32,
     /// The entry's number, from 1 to 2,000.
     pub to: u32,

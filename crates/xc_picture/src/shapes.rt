@@ -14,7 +14,7 @@ pub struct Area {
     pub height: u64,
 }
 
-/// What a rectangle stands for: a transaction, or a mark in it.
+/// What a rectangle shows: a transaction, or a mark in it.
 #[derive(Clone, Copy, Debug)]
 pub enum ShapeStyle {
     Committed,

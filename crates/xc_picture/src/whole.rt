@@ -78,7 +78,7 @@ pub fn picture(alloc: Global, sheet: &Sheet) -> Result<Text, NoMemory>
 pub enum Unpictured {
     /// The text has more than 67,108,864 bytes.
     TooLong,
-    /// No line of a journal stands in front.
+    /// The text doesn't begin with a line of a journal.
     Unread,
     NoMemory,
 }

@@ -99,7 +99,7 @@ module _ {H : Type 0} (model : HostModel H) (old new : ReadState H) where
       }) result
   read_passed h n pipe number undo (Ok r) at free some is me err reads uses cause = record {
     reply = passed_reply h n r some is;
-    uses = uses_both uses;
+    uses = uses_both model old new uses;
     after = subst (λ m. IsMePassed number (XReadPipe h n) old.me m r) (sym me) (me_passed h n number old.me r is);
     acts = λ t. subst (λ m. ActsAsPlain (XReadPipe h n) (call_view_at (logical (sides model old)) number old.me)
         (call_view_at (logical (sides model new)) number m) r) (sym me)
@@ -109,7 +109,7 @@ module _ {H : Type 0} (model : HostModel H) (old new : ReadState H) where
   }
   read_passed h n pipe number undo (Err e) at free some is me err reads uses cause = record {
     reply = tt;
-    uses = uses_both uses;
+    uses = uses_both model old new uses;
     after = tt;
     acts = λ t. tt;
     err = err;

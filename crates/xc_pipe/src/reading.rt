@@ -41,7 +41,7 @@ fn found(front: Chunk, none: Took) -> Took
 }
 
 // Takes from a pipe of the host, after kept bytes, until n bytes are there or a take gives none. Where a take fails or memory
-// is wanting, all is given back.
+// runs out, all is given back.
 fn take_rest<H: Host>(
     alloc: Global,
     host: &mut H,

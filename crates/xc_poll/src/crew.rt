@@ -17,7 +17,7 @@ use xc_host::Host;
 use xc_station::Station;
 use xc_turnstile::{Pass, Turnstile};
 
-// So many askings of a round, and one more.
+// After this many askings in a round comes one more, the last.
 const ASKINGS: u32 = 1000;
 
 /// The pass that asks for jobs, and the tasks of those that were taken in.

@@ -60,7 +60,7 @@ fn stop_of(answer: &Option<Turn>) -> Option<RoundStop>
     }
 }
 
-// Takes turns of the job, so many at most, up to the first that doesn't go on.
+// Takes turns of the job, at most `share`, up to the first that doesn't go on.
 pub(crate) fn take_turns<H: Host>(
     shop: &Turnstile<Box<Station<H>>>,
     pass: Pass<Box<Station<H>>>,

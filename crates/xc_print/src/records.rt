@@ -162,7 +162,7 @@ fn push_remaining(out: &mut Page, undo: &Undo, from: Option<u32>) -> Result<(), 
     }
 }
 
-/// A line for each record whose effect stands, the oldest first.
+/// A line for each record whose effect remains, the oldest first.
 pub fn push_remains(out: &mut Page, records: &[(Undo, UndoEnd)]) -> Result<(), NoMemory>
     ensures { OnOk result (out.new ≡ out.old ++ remains_lines records.now) }
 {

@@ -15,7 +15,7 @@ pub struct Totals {
     pub aborted: usize,
     /// Fault replies, late calls that ended in a fault, and faults of compensations, also of those on the way back of a block.
     pub faults: u128,
-    /// The effects of aborted transactions that stand.
+    /// How many effects of aborted transactions remain.
     pub remains: u128,
 }
 
@@ -131,7 +131,7 @@ fn entry_remains_of(entry: &Entry) -> usize
     }
 }
 
-/// How many effects of a journal's aborted transactions stand.
+/// How many effects of a journal's aborted transactions remain.
 pub fn remaining_effects(journal: &[Entry]) -> u128
     requires few { length journal.now ≤ 10000 }
     ensures { result ≡ sum_by entry_remains journal.now }

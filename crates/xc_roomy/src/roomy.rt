@@ -114,7 +114,7 @@ impl<T: Drop> Roomy<T> {
         self.items.push_reserved(item);
     }
 
-    /// Keeps the first so many items, and the room of the others. It takes no memory.
+    /// Keeps the first `n` items, and the room of the others. It takes no memory.
     pub fn cut(&mut self, n: usize)
         ensures items { self.new.items ≡ take n self.old.items }
         ensures spare { self.old.spare ≤ self.new.spare }

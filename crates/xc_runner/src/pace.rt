@@ -32,7 +32,7 @@ pub struct HoldPace {
 }
 
 impl HoldPace {
-    /// Two jobs are to meet so many times; each waits for the other for at most `limit` looks.
+    /// Two jobs are to meet `meets` times; each waits for the other for at most `limit` looks.
     pub fn new(meets: u64, limit: u64) -> HoldPace {
         HoldPace {
             meets,

@@ -144,7 +144,7 @@ pub fn refuses(reply: &Reply) -> bool
     }
 }
 
-// A call that carried so many bytes failed a private check.
+// A call that carried `carried` bytes failed a private check.
 fn fails_check(carried: usize, reply: &Reply) -> bool
     ensures { result ≡ fails_check carried reply.now }
 {
@@ -172,7 +172,7 @@ fn got(reply: &Reply) -> usize
     }
 }
 
-/// How many bytes are stored after the reply to a call that carried so many.
+/// How many bytes are stored behind the reply to a call that carried `carried` bytes.
 pub fn stored_after(stored: u128, carried: usize, reply: &Reply) -> u128
     requires carried { carried ≤ 1024 }
     requires room { stored + 2 ^ 64 < 2 ^ 128 }

@@ -29,7 +29,7 @@ pub enum Ask {
     End,
 }
 
-// The length of a write's data, where the transaction may store so many bytes more.
+// The length of a write's data; none where it is over what the transaction, which has stored `stored` bytes, may store.
 // It is counted before the bytes are joined, in 128 bits, so no sum of lengths wraps.
 fn room_for(variables: &Variables, stored: u128, items: &Data<NameIndex>) -> Option<usize>
     ensures { let n = length (joined_data variables.now items.now) in result ≡ (if is_over stored n then None else Some n) }
@@ -43,7 +43,7 @@ fn room_for(variables: &Variables, stored: u128, items: &Data<NameIndex>) -> Opt
     Some(len)
 }
 
-// The data of a write, where the transaction may store so many bytes more.
+// The data of a write, where the transaction, which has stored `stored` bytes, may store it.
 fn data_within(
     alloc: Global,
     variables: &Variables,
@@ -95,7 +95,7 @@ fn append(
     }
 }
 
-// The data and the slot of a late call, where the transaction may store so many bytes more.
+// The data and the slot of a late call, where the transaction, which has stored `stored` bytes, may store the data.
 fn late_data(
     alloc: Global,
     variables: &Variables,
@@ -153,7 +153,7 @@ fn send(
     }
 }
 
-// What a statement in this form asks that isn't silent, after so many stored bytes.
+// What a statement in this form asks that isn't silent, behind `stored` stored bytes.
 fn form_ask(
     alloc: Global,
     variables: &Variables,
@@ -204,7 +204,7 @@ fn form_ask(
     }
 }
 
-/// What a statement asks that isn't silent, after so many stored bytes. A `let` is always silent.
+/// What a statement asks that isn't silent, behind `stored` stored bytes. A `let` is always silent.
 pub fn ask_of(
     alloc: Global,
     variables: &Variables,
@@ -216,7 +216,7 @@ pub fn ask_of(
     form_ask(alloc, variables, stored, statement.form())
 }
 
-// How many bytes the data of a write has, where the transaction may store so many more.
+// How many bytes the data of a write has; 0 where the transaction, which has stored `stored` bytes, may not store them.
 fn data_carried(variables: &Variables, stored: u128, items: &Data<NameIndex>) -> usize
     ensures value { let n = length (joined_data variables.now items.now) in result ≡ (if is_over stored n then 0 else n) }
     ensures bound { result ≤ 1024 }

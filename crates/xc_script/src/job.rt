@@ -23,13 +23,13 @@ use std::mem;
 use xc_data::{Call, LateEnd, NoMemory, Reply};
 use xc_text::{KeptStatement, NameIndex, Script};
 
-/// A job's place in its block, and its variables. What each call reads stands after what only a begin and an end do.
+/// A job's place in its block, and its variables. What each call reads comes after what is read only when a transaction begins or ends.
 #[derive(Drop)]
 pub struct JobState {
     alloc: Global,
-    // What the variables held at the begin of the transaction. The slots change at its commit alone.
+    // What the variables held when the transaction began. The slots change at its commit alone.
     begun: Option<Values>,
-    // The list for the next begin.
+    // The list for the next transaction that begins.
     spare: Values,
     // What they held at the save that is open, where one is.
     saved: Option<Values>,
@@ -81,7 +81,7 @@ fn body_at(script: &Script, block: usize, next: usize) -> Option<&[KeptStatement
 }
 
 impl JobState {
-    /// A job at the begin of the block at this place in the script. Its variables hold the handles of the prologue, and nothing
+    /// A job at the start of the block at this place in the script. Its variables hold the handles of the prologue, and nothing
     /// else is set. Room for the ends of late calls is made here, for all of the script's slots.
     pub fn new(alloc: Global, script: &Script, block: usize) -> Result<JobState, NoMemory>
         requires { IsScript script.now }
@@ -104,7 +104,7 @@ impl JobState {
         })
     }
 
-    /// A job that this one starts, at the begin of the block at this place in the script: its variables are this one's, and its
+    /// A job that this one starts, at the start of the block at this place in the script: its variables are this one's, and its
     /// slots are unset. Room for the ends of late calls is made here, for all of the script's slots.
     pub fn child(&self, script: &Script, block: usize) -> Result<JobState, NoMemory>
         ensures { IfOk result (λ job. job ≡ at_begin (record {
@@ -236,7 +236,7 @@ impl JobState {
         pass_keep(&mut self.at, body);
     }
 
-    /// Goes back to the begin of the transaction, with its variables. It takes no memory.
+    /// Goes back to the start of the transaction, with its variables. It takes no memory.
     pub fn back(&mut self)
         ensures { self.new ≡ at_begin (record { block = self.old.block; next = self.old.next; variables = self.old.begun }) }
     {
@@ -305,7 +305,7 @@ impl JobState {
 }
 
 impl JobState {
-    /// How many statements the next transaction has; none, where no transaction is left. It has at most so many calls.
+    /// How many statements the next transaction has, which bounds its calls; none, where no transaction is left.
     pub fn statements(&self, script: &Script) -> usize
         ensures { MatchOption (next_body script.now (job_of self.now)) (result ≡ 0) (λ body. result ≡ length body) }
     {

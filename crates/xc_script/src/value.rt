@@ -43,7 +43,7 @@ impl Model for Variables {
 }
 
 impl Variables {
-    /// So many variables that hold nothing, and each of these slots unset.
+    /// `variables` variables that hold nothing, and each of these slots unset.
     pub fn unset(alloc: Global, variables: usize, slots: &SlotNames) -> Result<Variables, NoMemory>
         ensures { IfOk result (λ known. known ≡ record { values = replicate variables None; slots = unset slots.now }) }
     {

@@ -37,7 +37,7 @@ impl Values {
         }
     }
 
-    /// So many variables that hold nothing.
+    /// `n` variables that hold nothing.
     pub fn unset(alloc: Global, n: usize) -> Result<Values, NoMemory>
         ensures { IfOk result (λ values. values ≡ replicate n None) }
     {
@@ -85,7 +85,7 @@ impl Values {
         })
     }
 
-    /// These hold from now on what others do. Their bytes are shared. It takes memory only where there was never room for so many.
+    /// These hold from now on what others do. Their bytes are shared. It takes memory only where there was never room for as many.
     pub fn share(&mut self, others: &Values) -> Result<(), NoMemory>
         ensures { OnOk result (self.new ≡ others.now) }
     {

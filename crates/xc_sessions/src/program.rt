@@ -29,7 +29,7 @@ fn say_wordless<K: Sink>(sink: &mut K, error: io::Error) -> Status
     write_due(sink, Status::Usage, &usage())
 }
 
-/// The words with the port on which links are awaited: 7040 where they can't be had, are refused or name none. Where memory is wanting
+/// The words with the port on which links are awaited: 7040 where they can't be had, are refused or name none. Where memory runs out
 /// to read them, they are handed on as words that could not be had, so that no link is awaited on another port.
 pub fn with_port(alloc: Global, words: io::Result<Vec<String>>) -> (io::Result<Vec<String>>, u16)
     ensures words { IfOk result.0 (λ given. words ≡ Ok given) }

@@ -25,7 +25,7 @@ struct Worked<H: Host, M, L> {
     sessions: Option<Roomy<Session<M>>>,
 }
 
-// Hands a station to the sessions of so many links, and runs what is left of its jobs to the end. Where there is no memory for
+// Hands a station to the sessions of some links, and runs what is left of its jobs to the end. Where there is no memory for
 // sessions, no link is accepted.
 fn work<
     R: AllocGlobal + Threads + Wait + Sync,
@@ -62,7 +62,7 @@ fn work<
     }
 }
 
-// The status where a run was ended: a sink that failed comes first, then an accept that failed, then memory that was wanting for the
+// The status where a run was ended: a sink that failed comes first, then an accept that failed, then memory that ran out for the
 // sessions.
 fn status_of(ran: Status, has_sessions: bool, has_failed: bool) -> ServeStatus
     ensures { result ≡ status_of ran has_sessions has_failed }
@@ -103,7 +103,7 @@ pub fn serve_run<
     L: Links<Link = M> + Send + Drop,
 >(rt: &R, words: &[String], source: &mut S, sink: &mut K, host: H, links: L) -> Serve<H, M, L>
     // The headline, a status with its cause, completeness, and the host that is given back: all as without sessions. The status is
-    // another one only where an accept failed, or memory was wanting for the sessions.
+    // another one only where an accept failed, or memory ran out for the sessions.
     ensures served { IsServedRun H.model (map string_bytes words.now) (record {
       edges = record {
         source = record { old = S.told source.old; new = S.told source.new };

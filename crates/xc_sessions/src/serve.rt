@@ -9,7 +9,7 @@ use xc_station::End;
 /// How a run with sessions ended.
 #[derive(Clone, Copy, Debug, PartialEq, Eq)]
 pub enum ServeStatus {
-    /// As a run without sessions does. `NoMemory` also where memory was wanting for the sessions: then no link was accepted, and the
+    /// As a run without sessions does. `NoMemory` also where there was no memory for the sessions: then no link was accepted, and the
     /// text was written all the same.
     Ran(Status),
     /// An accept failed: the links behind it are left out, and the text was written all the same.

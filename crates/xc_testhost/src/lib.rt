@@ -1,4 +1,4 @@
-//! A host for the tests of what stands above hosts.
+//! A host for the tests of the crates above hosts.
 #![tactic(auto)]
 
 mod pairs;

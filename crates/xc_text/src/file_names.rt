@@ -30,7 +30,7 @@ impl FileNames {
         }
     }
 
-    /// What stands in the place of a file's name.
+    /// What is read where a file's name is due.
     #[inline(always)]
     pub fn name(
         &mut self,

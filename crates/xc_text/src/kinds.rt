@@ -44,7 +44,7 @@ fn kind_word(word: &[u8]) -> Result<HostCallKind, Why>
     }
 }
 
-/// What stands in the place of a kind of host calls.
+/// What is read where a kind of host calls is due.
 pub fn kind(token: &Token) -> Result<HostCallKind, Why>
     ensures { result ≡ kind_of_token (lexeme token.now) }
 {

@@ -61,7 +61,7 @@ fn check_items(tokens: &[Token]) -> Result<(), Why>
     }
 }
 
-// No item yet, and room for so many.
+// No item yet, and room for `n`.
 fn room_for(alloc: Global, n: usize) -> Result<Data<NameIndex>, NoMemory>
     ensures { IfOk result (λ items. items ≡ []) }
 {

@@ -146,7 +146,7 @@ pub enum CallForm<N> {
         data: Data<N>,
         slot: Option<N>,
     },
-    /// Starts a job at the begin of a block, at the commit. No block needs to have the name.
+    /// Starts a job at the start of a block, at the commit. No block needs to have the name.
     Start {
         block: Boxed<Ident>,
         slot: Option<N>,

@@ -42,7 +42,7 @@ impl SharedText {
         Ok(Some(self.text.part(alloc, start, end)?))
     }
 
-    /// The bytes of a literal so many times.
+    /// The bytes of a literal, `times` times.
     pub fn literal(&self, alloc: Global, bytes: &[u8], times: u32) -> Result<Chunk, NoMemory>
         ensures { IfOk result (λ chunk. chunk ≡ repeat_of_list times bytes.now) }
     {

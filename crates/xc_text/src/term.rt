@@ -20,7 +20,7 @@ pub fn term_word<'a>(word: &'a [u8]) -> Result<Term<IdentWord<'a>>, Why>
     }
 }
 
-/// What stands in the place of a term.
+/// What is read where a term is due.
 #[inline(always)]
 pub fn term<'a>(token: &Token<'a>) -> Result<Term<IdentWord<'a>>, Why>
     ensures { result ≡ term_of_token (lexeme token.now) }
@@ -51,7 +51,7 @@ fn test_word(word: &[u8]) -> Result<Test, Why>
     }
 }
 
-/// What stands in the place of a test.
+/// What is read where a test is due.
 pub fn test(token: &Token) -> Result<Test, Why>
     ensures { result ≡ test_of_token (lexeme token.now) }
 {

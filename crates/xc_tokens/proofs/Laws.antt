@@ -6,3 +6,5 @@ pub use Rattle.xc_tokens.proofs.Quotes.{behind_bytes}
 pub use Rattle.xc_tokens.proofs.Quotes.{first_and_rest}
 -- a piece more of a literal
 pub use Rattle.xc_tokens.proofs.Quotes.{read_on}
+-- bytes that mean themselves up to a quote are a literal
+pub use Rattle.xc_tokens.proofs.Quotes.{quote_closes}

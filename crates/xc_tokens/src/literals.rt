@@ -42,7 +42,7 @@ fn size(token: &Token) -> u128
     }
 }
 
-/// The literals among the tokens give at most so many bytes. It makes none of them.
+/// The literals among the tokens give at most `most` bytes. It makes none of them.
 pub fn is_within(most: u32, tokens: &[Token]) -> bool
     ensures { result ≡ is_within_bound most (map lexeme tokens.now) }
 {
@@ -56,7 +56,7 @@ pub fn is_within(most: u32, tokens: &[Token]) -> bool
     true
 }
 
-// Adds a byte so many times.
+// Adds a byte `times` times.
 fn add_byte(bytes: &mut Vec<u8>, byte: u8, times: u32) -> Result<(), NoMemory>
     ensures { OnOk result (bytes.new.items ≡ bytes.old.items ++ repeat_of_list times (byte ∷ [])) }
 {
@@ -64,7 +64,7 @@ fn add_byte(bytes: &mut Vec<u8>, byte: u8, times: u32) -> Result<(), NoMemory>
     Ok(())
 }
 
-// Adds a piece so many times.
+// Adds a piece `times` times.
 fn add_repeated(bytes: &mut Vec<u8>, piece: &[u8], times: u32) -> Result<(), NoMemory>
     ensures { OnOk result (bytes.new.items ≡ bytes.old.items ++ repeat_of_list times piece.now) }
 {
@@ -80,7 +80,7 @@ fn add_repeated(bytes: &mut Vec<u8>, piece: &[u8], times: u32) -> Result<(), NoM
     Ok(())
 }
 
-/// A piece so many times. Most stand there once, and there is just the room for one.
+/// A piece `times` times. Most are there once, and there is just the room for one.
 pub fn repeated(alloc: Global, piece: &[u8], times: u32) -> Result<Chunk, NoMemory>
     ensures { IfOk result (λ chunk. chunk ≡ repeat_of_list times piece.now) }
 {
@@ -115,7 +115,7 @@ fn joined(alloc: Global, tokens: &[Token]) -> Result<Chunk, NoMemory>
     Chunk::from_vec(bytes)
 }
 
-/// The bytes of all literals, none where there are more than so many.
+/// The bytes of all literals, none where there are more than `most`.
 pub fn contents(alloc: Global, most: u32, tokens: &[Token]) -> Result<Option<Chunk>, NoMemory>
     ensures { IfOk result (λ bytes. bytes ≡ contents_said most (map lexeme tokens.now)) }
 {

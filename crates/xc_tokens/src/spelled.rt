@@ -6,7 +6,7 @@ ghost use Rattle.xc_data.specs.Spelling.{is_ident, is_ident_first, is_ident_byte
 use std::marker::Model;
 use xc_data::Ident;
 
-/// A word that is an identifier, as it stands in its line.
+/// A word that is an identifier, as its line has it.
 ///
 /// It stays in its line until its name has a place, so a name that has one already isn't copied.
 #[derive(Drop)]
@@ -71,7 +71,7 @@ impl<'a> IdentWord<'a> {
         Some(IdentWord { bytes: word })
     }
 
-    /// Its bytes as they stand in the line.
+    /// Its bytes as the line has them.
     pub fn bytes(&self) -> &'a [u8]
         ensures value { result.now ≡ self.now }
         ensures ident { IsTrue (is_ident self.now) }

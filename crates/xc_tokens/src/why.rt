@@ -1,12 +1,12 @@
 use std::alloc::AllocFailed;
 use xc_data::NoMemory;
 
-/// Why a line is refused. Of several reasons the one that stands first here decides.
+/// Why a line is refused. Of several reasons the first one here decides.
 #[derive(Clone, Copy, Debug, PartialEq, Eq)]
 pub enum Why {
     /// The script has more than 1,048,576 bytes.
     TooLong,
-    /// A byte that may not stand in a line.
+    /// A byte that no line may have.
     BadByte,
     /// A literal that isn't one, or a quote within a word.
     BadLiteral,
@@ -18,7 +18,7 @@ pub enum Why {
     BadNumber,
     /// A name that breaks its limit.
     BadName,
-    /// A line that may stand once stands again.
+    /// A line that may come once comes again.
     Twice,
     /// The line passes a limit.
     TooMany,

@@ -68,7 +68,7 @@ fn name_word(word: &[u8]) -> Result<Name, Why>
     }
 }
 
-/// What stands in the place of a number.
+/// What is read where a number is due.
 pub fn number(token: &Token) -> Result<u64, Why>
     ensures { result ≡ number_of_token (lexeme token.now) }
 {
@@ -78,7 +78,7 @@ pub fn number(token: &Token) -> Result<u64, Why>
     }
 }
 
-/// What stands in the place of an identifier, as it stands there.
+/// What is read where an identifier is due, as it was written.
 pub fn ident_token<'a>(token: &Token<'a>) -> Result<IdentWord<'a>, Why>
     ensures { result ≡ ident_of_token (lexeme token.now) }
 {
@@ -88,7 +88,7 @@ pub fn ident_token<'a>(token: &Token<'a>) -> Result<IdentWord<'a>, Why>
     }
 }
 
-/// What stands in the place of an identifier.
+/// What is read where an identifier is due.
 pub fn ident(token: &Token) -> Result<Ident, Why>
     ensures { result ≡ ident_of_token (lexeme token.now) }
 {
@@ -96,7 +96,7 @@ pub fn ident(token: &Token) -> Result<Ident, Why>
     Ok(word.ident())
 }
 
-/// What stands in the place of a file's name.
+/// What is read where a file's name is due.
 pub fn name(token: &Token) -> Result<Name, Why>
     ensures { result ≡ name_of_token (lexeme token.now) }
 {

@@ -1,4 +1,4 @@
-//! Tests of what stands around a station: claims of active transactions, the turnstile with a journal behind it, and the
+//! Tests of what is around a station: claims of active transactions, the turnstile with a journal behind it, and the
 //! reads and writes of a program.
 #![tactic(auto)]
 

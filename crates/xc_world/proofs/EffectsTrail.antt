@@ -118,28 +118,7 @@ act-room w me tx (call.XReadPipe h n) a =
     let same = room_itself w in act-cases w me tx (call.XReadPipe h n) a (LeavesIts w) same same same same (read_pipe-room w me tx h n a)
 act-room w me tx (call.XRecvmsg h) a =
     let same = room_itself w in act-cases w me tx (call.XRecvmsg h) a (LeavesIts w) same same same same (recvmsg-room w me tx h a)
-act-room w me tx (call.Load at) a = led-room w me tx (call.Load at) a refl
-act-room w me tx (call.Store at value) a = led-room w me tx (call.Store at value) a refl
-act-room w me tx (call.XOpen name) a = led-room w me tx (call.XOpen name) a refl
-act-room w me tx (call.XCreate name) a = led-room w me tx (call.XCreate name) a refl
-act-room w me tx (call.XRead h n) a = led-room w me tx (call.XRead h n) a refl
-act-room w me tx (call.XWriteOvr h bytes) a = led-room w me tx (call.XWriteOvr h bytes) a refl
-act-room w me tx (call.XWriteSeq h bytes) a = led-room w me tx (call.XWriteSeq h bytes) a refl
-act-room w me tx (call.XSeek h to) a = led-room w me tx (call.XSeek h to) a refl
-act-room w me tx (call.XLen h) a = led-room w me tx (call.XLen h) a refl
-act-room w me tx (call.XRename from to) a = led-room w me tx (call.XRename from to) a refl
-act-room w me tx (call.XClose h) a = led-room w me tx (call.XClose h) a refl
-act-room w me tx call.XPipe a = led-room w me tx call.XPipe a refl
-act-room w me tx call.XPair a = led-room w me tx call.XPair a refl
-act-room w me tx (call.XUnlink name slot) a = led-room w me tx (call.XUnlink name slot) a refl
-act-room w me tx (call.XSync h slot) a = led-room w me tx (call.XSync h slot) a refl
-act-room w me tx (call.XWritePipe h bytes slot) a = led-room w me tx (call.XWritePipe h bytes slot) a refl
-act-room w me tx (call.XShutdown h slot) a = led-room w me tx (call.XShutdown h slot) a refl
-act-room w me tx (call.XSendmsg h bytes slot) a = led-room w me tx (call.XSendmsg h bytes slot) a refl
-act-room w me tx (call.XThreadCreate body slot) a = led-room w me tx (call.XThreadCreate body slot) a refl
-act-room w me tx call.Save a = led-room w me tx call.Save a refl
-act-room w me tx call.Keep a = led-room w me tx call.Keep a refl
-act-room w me tx call.Back a = led-room w me tx call.Back a refl
+act-room w me tx c a = led-room w me tx c a refl
 
 -- ---- all calls of a body
 moved-room : (v w : World) (from to : List ℕ) (o : Option Num) → HasNoNewPipes v w → HasNoNewPipes (move_name v from to o) (move_name w from to o)

@@ -99,24 +99,7 @@ recorded_where w me number (call.XCreate name) r bad = create_of me number name 
 recorded_where w me number (call.XRename from to) r bad = rename_of from to r
 recorded_where w me number call.XPipe r bad = pipe_of me number r
 recorded_where w me number call.XPair r bad = pair_of me number r
-recorded_where w me number (call.Load at) r bad = refl
-recorded_where w me number (call.Store at value) r bad = refl
-recorded_where w me number (call.XOpen name) r bad = refl
-recorded_where w me number (call.XRead h n) r bad = refl
-recorded_where w me number (call.XSeek h to) r bad = refl
-recorded_where w me number (call.XLen h) r bad = refl
-recorded_where w me number (call.XClose h) r bad = refl
-recorded_where w me number (call.XReadPipe h n) r bad = refl
-recorded_where w me number (call.XRecvmsg h) r bad = refl
-recorded_where w me number (call.XUnlink name slot) r bad = refl
-recorded_where w me number (call.XSync h slot) r bad = refl
-recorded_where w me number (call.XWritePipe h bytes slot) r bad = refl
-recorded_where w me number (call.XShutdown h slot) r bad = refl
-recorded_where w me number (call.XSendmsg h bytes slot) r bad = refl
-recorded_where w me number (call.XThreadCreate body slot) r bad = refl
-recorded_where w me number call.Save r bad = refl
-recorded_where w me number call.Keep r bad = refl
-recorded_where w me number call.Back r bad = refl
+recorded_where w me number c r bad = refl
 
 -- so where a check refuses the call, with its reply
 pub recorded_of : (w : World) (me : Private) (number : ℕ) (c : Call) (r : Reply) → IsChecked (refusal_of c me) c r

@@ -12,6 +12,7 @@ use Rattle.xc_data.specs.declared.call.Answer.TheVariants as answer
 use Rattle.xc_data.specs.declared.call.Reply.TheVariants as reply
 use Rattle.xc_data.specs.declared.private.Place.TheVariants.{Vacant}
 use Rattle.xc_data.specs.declared.private.Private.{Private}
+use Rattle.xc_data.specs.Calls.{Appending, CallChange, Creating, MakingPair, MakingPipe, Overwriting, Renaming, Unchanging, traits}
 use Rattle.xc_data.specs.Private.{place_of, with_place, lowest_vacant}
 use Rattle.xc_world.specs.World.{World}
 use Rattle.xc_world.specs.Checks.{is_bad_handle, is_too_big, is_too_much, is_bad_word}
@@ -47,32 +48,19 @@ fine w me tx call.Save = step_to w me reply.Done
 fine w me tx call.Keep = step_to w me reply.Done
 fine w me tx call.Back = step_to w me (reply.Undone 0)
 
+-- such a change, where the host fails after n bytes
+abbrev pub faulty_as : World → Private → CallChange → ℕ → Stepped
+faulty_as w me (Overwriting h bytes) n = overwrite_short w me (h, place_of me.places h) bytes n
+faulty_as w me (Appending h bytes) n = append_short w me (h, place_of me.places h) bytes n
+faulty_as w me Unchanging n = step_to w me (reply.Fault n)
+faulty_as w me (Creating name) n = step_to w me (reply.Fault n)
+faulty_as w me (Renaming from to) n = step_to w me (reply.Fault n)
+faulty_as w me MakingPipe n = step_to w me (reply.Fault n)
+faulty_as w me MakingPair n = step_to w me (reply.Fault n)
+
 -- a call that passed the checks, where the host fails after n bytes
 abbrev pub faulty : World → Private → Call → ℕ → Stepped
-faulty w me (call.XWriteOvr h bytes) n = overwrite_short w me (h, place_of me.places h) bytes n
-faulty w me (call.XWriteSeq h bytes) n = append_short w me (h, place_of me.places h) bytes n
-faulty w me (call.Load at) n = step_to w me (reply.Fault n)
-faulty w me (call.Store at value) n = step_to w me (reply.Fault n)
-faulty w me (call.XOpen name) n = step_to w me (reply.Fault n)
-faulty w me (call.XCreate name) n = step_to w me (reply.Fault n)
-faulty w me (call.XRead h count) n = step_to w me (reply.Fault n)
-faulty w me (call.XSeek h to) n = step_to w me (reply.Fault n)
-faulty w me (call.XLen h) n = step_to w me (reply.Fault n)
-faulty w me (call.XRename from to) n = step_to w me (reply.Fault n)
-faulty w me (call.XClose h) n = step_to w me (reply.Fault n)
-faulty w me call.XPipe n = step_to w me (reply.Fault n)
-faulty w me (call.XReadPipe h count) n = step_to w me (reply.Fault n)
-faulty w me call.XPair n = step_to w me (reply.Fault n)
-faulty w me (call.XRecvmsg h) n = step_to w me (reply.Fault n)
-faulty w me (call.XUnlink name slot) n = step_to w me (reply.Fault n)
-faulty w me (call.XSync h slot) n = step_to w me (reply.Fault n)
-faulty w me (call.XWritePipe h bytes slot) n = step_to w me (reply.Fault n)
-faulty w me (call.XShutdown h slot) n = step_to w me (reply.Fault n)
-faulty w me (call.XSendmsg h bytes slot) n = step_to w me (reply.Fault n)
-faulty w me (call.XThreadCreate body slot) n = step_to w me (reply.Fault n)
-faulty w me call.Save n = step_to w me (reply.Fault n)
-faulty w me call.Keep n = step_to w me (reply.Fault n)
-faulty w me call.Back n = step_to w me (reply.Fault n)
+faulty w me call n = faulty_as w me (traits call).change n
 
 -- what a call does that its private checks pass, as the host answers it
 abbrev pub done : World → Private → ℕ → Call → Answer → Stepped

@@ -1,8 +1,8 @@
 -- What stands beside a step: data that is given back to objects which it doesn't speak of.
-use Rattle.std.specs.Prelude.{ℕ, ◌++◌, Bool, true, false, List, All, Contains}
+use Rattle.std.specs.Prelude.{ℕ, ◌++◌, Bool, List, All, Contains}
 use Rattle.xc_data.specs.declared.object.Object.{Object}
 use Rattle.xc_data.specs.declared.call.Call.{Call}
-use Rattle.xc_data.specs.declared.call.Call.TheVariants as call
+use Rattle.xc_data.specs.Calls.{traits}
 use Rattle.xc_data.specs.declared.private.Private.{Private}
 use Rattle.xc_data.specs.declared.entry.KeptItem.{KeptItem}
 use Rattle.xc_world.specs.Act.Step.{Stepped, step_to}
@@ -28,27 +28,4 @@ end_with_given e items = ends (given_back e.world items) e.end
 
 -- a call on pipes or on pairs
 abbrev pub is_on_data : Call → Bool
-is_on_data call.XPipe = true
-is_on_data (call.XReadPipe h n) = true
-is_on_data call.XPair = true
-is_on_data (call.XRecvmsg h) = true
-is_on_data (call.XWritePipe h bytes slot) = true
-is_on_data (call.XShutdown h slot) = true
-is_on_data (call.XSendmsg h bytes slot) = true
-is_on_data (call.Load at) = false
-is_on_data (call.Store at value) = false
-is_on_data (call.XOpen name) = false
-is_on_data (call.XCreate name) = false
-is_on_data (call.XRead h n) = false
-is_on_data (call.XWriteOvr h bytes) = false
-is_on_data (call.XWriteSeq h bytes) = false
-is_on_data (call.XSeek h to) = false
-is_on_data (call.XLen h) = false
-is_on_data (call.XRename from to) = false
-is_on_data (call.XClose h) = false
-is_on_data (call.XUnlink name slot) = false
-is_on_data (call.XSync h slot) = false
-is_on_data (call.XThreadCreate body slot) = false
-is_on_data call.Save = false
-is_on_data call.Keep = false
-is_on_data call.Back = false
+is_on_data call = (traits call).is_on_data

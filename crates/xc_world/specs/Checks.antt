@@ -9,7 +9,7 @@ use Rattle.xc_data.specs.declared.call.Reply.TheVariants as reply
 use Rattle.xc_data.specs.declared.private.Place.{Place}
 use Rattle.xc_data.specs.declared.private.Place.TheVariants as place
 use Rattle.xc_data.specs.declared.private.Private.{Private}
-use Rattle.xc_data.specs.Calls.{bytes_of}
+use Rattle.xc_data.specs.Calls.{bytes_of, traits}
 use Rattle.xc_data.specs.Private.{place_of, is_vacant, lowest_vacant}
 use Rattle.xc_world.specs.Replies.{may_reply}
 
@@ -97,32 +97,14 @@ is_too_much call.Save me = false
 is_too_much call.Keep me = false
 is_too_much call.Back me = false
 
+-- a word is named that isn't one of so many
+abbrev pub is_absent : Option ℕ → ℕ → Bool
+is_absent None words = false
+is_absent (Some at) words = nat_le words at
+
 -- there is no such word
 abbrev pub is_bad_word : Call → ℕ → Bool
-is_bad_word (call.Load at) words = nat_le words at
-is_bad_word (call.Store at value) words = nat_le words at
-is_bad_word (call.XOpen name) words = false
-is_bad_word (call.XCreate name) words = false
-is_bad_word (call.XRead h n) words = false
-is_bad_word (call.XWriteOvr h bytes) words = false
-is_bad_word (call.XWriteSeq h bytes) words = false
-is_bad_word (call.XSeek h to) words = false
-is_bad_word (call.XLen h) words = false
-is_bad_word (call.XRename from to) words = false
-is_bad_word (call.XClose h) words = false
-is_bad_word call.XPipe words = false
-is_bad_word (call.XReadPipe h n) words = false
-is_bad_word call.XPair words = false
-is_bad_word (call.XRecvmsg h) words = false
-is_bad_word (call.XUnlink name slot) words = false
-is_bad_word (call.XSync h slot) words = false
-is_bad_word (call.XWritePipe h bytes slot) words = false
-is_bad_word (call.XShutdown h slot) words = false
-is_bad_word (call.XSendmsg h bytes slot) words = false
-is_bad_word (call.XThreadCreate body slot) words = false
-is_bad_word call.Save words = false
-is_bad_word call.Keep words = false
-is_bad_word call.Back words = false
+is_bad_word call words = is_absent (traits call).word words
 
 -- one of the checks refuses the call
 abbrev pub is_refused : Call → Private → ℕ → Bool

@@ -5,7 +5,7 @@ use Rattle.std.specs.declared.option.Option.TheVariants.{None, Some}
 use Rattle.std.specs.FinMap as finite
 use Rattle.xc_data.specs.declared.object.Num.{Num}
 use Rattle.xc_data.specs.declared.call.Call.{Call}
-use Rattle.xc_data.specs.declared.call.Call.TheVariants as call
+use Rattle.xc_data.specs.Calls.{CallTaking, TakingBytes, TakingMessage, TakingNothing, traits}
 use Rattle.xc_data.specs.declared.undo.Undo.{Undo}
 use Rattle.xc_data.specs.declared.undo.Undo.TheVariants.{Bytes, Tail, Made, Moved, NewPipe, NewPair}
 use Rattle.xc_data.specs.declared.undo.UndoEnd.{UndoEnd}
@@ -19,32 +19,15 @@ use Rattle.xc_world.specs.Trail.{with_effect, undone}
 abbrev pub whole : List Undo → List (Undo × ℕ)
 whole us = map (λ u. (u, 0)) us
 
+-- bytes or a message are taken
+abbrev pub is_taking : CallTaking → Bool
+is_taking TakingNothing = false
+is_taking (TakingBytes h n) = true
+is_taking (TakingMessage h) = true
+
 -- a call that takes bytes or a message, which no record tells
 abbrev pub takes_data : Call → Bool
-takes_data (call.XReadPipe h n) = true
-takes_data (call.XRecvmsg h) = true
-takes_data (call.Load at) = false
-takes_data (call.Store at value) = false
-takes_data (call.XOpen name) = false
-takes_data (call.XCreate name) = false
-takes_data (call.XRead h n) = false
-takes_data (call.XWriteOvr h bytes) = false
-takes_data (call.XWriteSeq h bytes) = false
-takes_data (call.XSeek h to) = false
-takes_data (call.XLen h) = false
-takes_data (call.XRename from to) = false
-takes_data (call.XClose h) = false
-takes_data call.XPipe = false
-takes_data call.XPair = false
-takes_data (call.XUnlink name slot) = false
-takes_data (call.XSync h slot) = false
-takes_data (call.XWritePipe h bytes slot) = false
-takes_data (call.XShutdown h slot) = false
-takes_data (call.XSendmsg h bytes slot) = false
-takes_data (call.XThreadCreate body slot) = false
-takes_data call.Save = false
-takes_data call.Keep = false
-takes_data call.Back = false
+takes_data call = is_taking (traits call).taking
 
 -- ---- records that were made one after another, each in the world that the ones before it left
 module _ (w : World) where

@@ -15,64 +15,29 @@ use Rattle.xc_data.specs.declared.call.LateEnd.TheVariants as end
 use Rattle.xc_data.specs.declared.private.Private.{Private}
 use Rattle.xc_world.specs.World.{World, pipe_of}
 use Rattle.xc_world.specs.Checks.{is_refused}
-use Rattle.xc_data.specs.Calls.{bytes_of}
+use Rattle.xc_data.specs.Calls.{Appending, CallChange, Creating, MakingPair, MakingPipe, Overwriting, Renaming, Unchanging}
+use Rattle.xc_data.specs.Calls.{bytes_of, traits}
 use Rattle.xc_world.specs.Act.{fine}
 use Rattle.xc_world.specs.Late.{room}
 use Rattle.xc_world.specs.Sound.{late_bytes_of}
 
 -- the call asks something of the host
 abbrev pub asks_host : Call → Bool
-asks_host (call.XOpen name) = true
-asks_host (call.XCreate name) = true
-asks_host (call.XRead h n) = nat_le 1 n
-asks_host (call.XWriteOvr h bytes) = nat_le 1 (length bytes)
-asks_host (call.XWriteSeq h bytes) = nat_le 1 (length bytes)
-asks_host (call.XLen h) = true
-asks_host (call.XRename from to) = true
-asks_host call.XPipe = true
-asks_host (call.XReadPipe h n) = nat_le 1 n
-asks_host call.XPair = true
-asks_host (call.XRecvmsg h) = true
-asks_host (call.Load at) = false
-asks_host (call.Store at value) = false
-asks_host (call.XSeek h to) = false
-asks_host (call.XClose h) = false
-asks_host (call.XUnlink name slot) = false
-asks_host (call.XSync h slot) = false
-asks_host (call.XWritePipe h bytes slot) = false
-asks_host (call.XShutdown h slot) = false
-asks_host (call.XSendmsg h bytes slot) = false
-asks_host (call.XThreadCreate body slot) = false
-asks_host call.Save = false
-asks_host call.Keep = false
-asks_host call.Back = false
+asks_host call = (traits call).is_asking
+
+-- whether it is a write to a file
+abbrev pub is_writing : CallChange → Bool
+is_writing (Overwriting h bytes) = true
+is_writing (Appending h bytes) = true
+is_writing Unchanging = false
+is_writing (Creating name) = false
+is_writing (Renaming from to) = false
+is_writing MakingPipe = false
+is_writing MakingPair = false
 
 -- whether a call writes to a file
 abbrev pub is_write : Call → Bool
-is_write (call.XWriteOvr h bytes) = true
-is_write (call.XWriteSeq h bytes) = true
-is_write (call.Load at) = false
-is_write (call.Store at value) = false
-is_write (call.XOpen name) = false
-is_write (call.XCreate name) = false
-is_write (call.XRead h n) = false
-is_write (call.XSeek h to) = false
-is_write (call.XLen h) = false
-is_write (call.XRename from to) = false
-is_write (call.XClose h) = false
-is_write call.XPipe = false
-is_write (call.XReadPipe h n) = false
-is_write call.XPair = false
-is_write (call.XRecvmsg h) = false
-is_write (call.XUnlink name slot) = false
-is_write (call.XSync h slot) = false
-is_write (call.XWritePipe h bytes slot) = false
-is_write (call.XShutdown h slot) = false
-is_write (call.XSendmsg h bytes slot) = false
-is_write (call.XThreadCreate body slot) = false
-is_write call.Save = false
-is_write call.Keep = false
-is_write call.Back = false
+is_write call = is_writing (traits call).change
 
 -- whether a reply is `Done`
 abbrev pub is_done : Reply → Bool

@@ -3,6 +3,7 @@
 use Rattle.std.specs.Prelude.{◌≡◌, ℕ, ◌==◌, not, Bool, true, false, List, [], ◌∷◌, length, if◌then◌else◌}
 use Rattle.xc_data.specs.declared.call.Call.{Call}
 use Rattle.xc_data.specs.declared.call.Call.TheVariants as call
+use Rattle.xc_data.specs.Calls.{Appending, CallChange, Creating, MakingPair, MakingPipe, Overwriting, Renaming, Unchanging, traits}
 use Rattle.xc_data.specs.declared.call.Reply.{Reply}
 use Rattle.xc_data.specs.declared.call.Reply.TheVariants as reply
 use Rattle.xc_data.specs.declared.undo.Undo.{Undo}
@@ -32,32 +33,19 @@ gave_name reply.Done = true
 -- with any other reply none did
 gave_name _ = false
 
+-- whether such a change with this reply leaves a record
+abbrev pub leaves_as : CallChange → Reply → Bool
+leaves_as Unchanging r = false
+leaves_as (Overwriting h bytes) r = wrote_some bytes r
+leaves_as (Appending h bytes) r = wrote_some bytes r
+leaves_as (Creating name) r = made_one r
+leaves_as (Renaming from to) r = gave_name r
+leaves_as MakingPipe r = made_one r
+leaves_as MakingPair r = made_pair r
+
 -- whether a call with this reply leaves a record
 abbrev pub leaves_record : Call → Reply → Bool
-leaves_record (call.XWriteOvr h bytes) r = wrote_some bytes r
-leaves_record (call.XWriteSeq h bytes) r = wrote_some bytes r
-leaves_record (call.XCreate name) r = made_one r
-leaves_record (call.XRename from to) r = gave_name r
-leaves_record call.XPipe r = made_one r
-leaves_record call.XPair r = made_pair r
-leaves_record (call.Load at) r = false
-leaves_record (call.Store at value) r = false
-leaves_record (call.XOpen name) r = false
-leaves_record (call.XRead h n) r = false
-leaves_record (call.XSeek h to) r = false
-leaves_record (call.XLen h) r = false
-leaves_record (call.XClose h) r = false
-leaves_record (call.XReadPipe h n) r = false
-leaves_record (call.XRecvmsg h) r = false
-leaves_record (call.XUnlink name slot) r = false
-leaves_record (call.XSync h slot) r = false
-leaves_record (call.XWritePipe h bytes slot) r = false
-leaves_record (call.XShutdown h slot) r = false
-leaves_record (call.XSendmsg h bytes slot) r = false
-leaves_record (call.XThreadCreate body slot) r = false
-leaves_record call.Save r = false
-leaves_record call.Keep r = false
-leaves_record call.Back r = false
+leaves_record call r = leaves_as (traits call).change r
 
 -- a record of this call with this reply: of the bytes that it wrote, and of so many of them; of its names; or of a new object
 abbrev pub IsRecordOf : Call → Reply → Undo → Type 0

@@ -18,6 +18,7 @@ use Rattle.xc_data.specs.declared.private.Place.{Place}
 use Rattle.xc_data.specs.declared.private.Place.TheVariants.{Pipe, Pair}
 use Rattle.xc_data.specs.declared.private.Private.{Private}
 use Rattle.xc_data.specs.Private.{place_of}
+use Rattle.xc_data.specs.Calls.{CallTaking, TakingBytes, TakingMessage, TakingNothing, traits}
 use Rattle.xc_world.specs.World.{World, pipe_of, pair_of, with_pipe, with_pair, waiting, with_waiting}
 use Rattle.xc_world.specs.Act.{act}
 use Rattle.xc_world.specs.Act.Step.{Stepped}
@@ -41,34 +42,18 @@ abbrev pub message_taken : Place → List ℕ → List KeptItem
 message_taken (Pair num side) bytes = Message num side bytes ∷ []
 message_taken _ bytes = []
 
+-- what is taken where the reply is this one
+abbrev pub taken_as : CallTaking → Private → Reply → List KeptItem
+taken_as TakingNothing me r = []
+taken_as (TakingBytes h n) me (Got bytes) = bytes_taken (place_of me.places h) bytes
+taken_as (TakingMessage h) me (Got bytes) = message_taken (place_of me.places h) bytes
+-- any other reply brings no bytes, also one yet to come
+taken_as (TakingBytes h n) me _ = []
+taken_as (TakingMessage h) me _ = []
+
 -- what a call with its reply takes: a reply without bytes takes nothing
 abbrev pub taken_by : Call → Private → Reply → List KeptItem
-taken_by (call.XReadPipe h n) me (Got bytes) = bytes_taken (place_of me.places h) bytes
-taken_by (call.XRecvmsg h) me (Got bytes) = message_taken (place_of me.places h) bytes
-taken_by (call.XReadPipe h n) me r = []
-taken_by (call.XRecvmsg h) me r = []
-taken_by (call.Load at) me r = []
-taken_by (call.Store at value) me r = []
-taken_by (call.XOpen name) me r = []
-taken_by (call.XCreate name) me r = []
-taken_by (call.XRead h n) me r = []
-taken_by (call.XWriteOvr h bytes) me r = []
-taken_by (call.XWriteSeq h bytes) me r = []
-taken_by (call.XSeek h to) me r = []
-taken_by (call.XLen h) me r = []
-taken_by (call.XRename from to) me r = []
-taken_by (call.XClose h) me r = []
-taken_by call.XPipe me r = []
-taken_by call.XPair me r = []
-taken_by (call.XUnlink name slot) me r = []
-taken_by (call.XSync h slot) me r = []
-taken_by (call.XWritePipe h bytes slot) me r = []
-taken_by (call.XShutdown h slot) me r = []
-taken_by (call.XSendmsg h bytes slot) me r = []
-taken_by (call.XThreadCreate body slot) me r = []
-taken_by call.Save me r = []
-taken_by call.Keep me r = []
-taken_by call.Back me r = []
+taken_by call me r = taken_as (traits call).taking me r
 
 -- ---- the same given back, in front of what is there now
 -- the object that it was taken from

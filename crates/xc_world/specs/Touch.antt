@@ -1,6 +1,7 @@
 -- The objects that a call touches, and those that it makes.
 use Rattle.std.specs.Prelude.{ℕ, List, [], ◌∷◌, nat_eq, if◌then◌else◌}
 use Rattle.std.specs.Cmp.Lexicographic.{pointwise}
+use Rattle.xc_data.specs.declared.object.Num.{Num}
 use Rattle.xc_data.specs.declared.object.Object.{Object}
 use Rattle.xc_data.specs.declared.object.Object.TheVariants as object
 use Rattle.xc_data.specs.declared.call.Call.{Call}
@@ -8,6 +9,7 @@ use Rattle.xc_data.specs.declared.call.Call.TheVariants as call
 use Rattle.xc_data.specs.declared.private.Place.{Place}
 use Rattle.xc_data.specs.declared.private.Place.TheVariants as place
 use Rattle.xc_data.specs.declared.private.Private.{Private}
+use Rattle.xc_data.specs.Calls.{Appending, CallChange, Creating, MakingPair, MakingPipe, Overwriting, Renaming, Unchanging, traits}
 use Rattle.xc_data.specs.Private.{place_of}
 use Rattle.xc_world.specs.Checks.{is_refused}
 use Rattle.xc_world.specs.Act.Names.{next_num}
@@ -51,29 +53,16 @@ objects_of_call call.Back me = []
 abbrev pub touch : Call → Private → ℕ → List Object
 touch call me words = if is_refused call me words then [] else objects_of_call call me
 
+-- the object of this number that such a change makes, where it makes one
+abbrev pub made_as : CallChange → Num → List Object
+made_as (Creating name) num = object.File num ∷ []
+made_as MakingPipe num = object.Pipe num ∷ []
+made_as MakingPair num = object.Pair num ∷ []
+made_as Unchanging num = []
+made_as (Overwriting h bytes) num = []
+made_as (Appending h bytes) num = []
+made_as (Renaming from to) num = []
+
 -- the object that a call makes, where it makes one
 abbrev pub made_by : Call → Private → ℕ → List Object
-made_by (call.XCreate name) me tx = object.File (next_num me tx) ∷ []
-made_by call.XPipe me tx = object.Pipe (next_num me tx) ∷ []
-made_by call.XPair me tx = object.Pair (next_num me tx) ∷ []
-made_by (call.Load at) me tx = []
-made_by (call.Store at value) me tx = []
-made_by (call.XOpen name) me tx = []
-made_by (call.XRead h n) me tx = []
-made_by (call.XWriteOvr h bytes) me tx = []
-made_by (call.XWriteSeq h bytes) me tx = []
-made_by (call.XSeek h to) me tx = []
-made_by (call.XLen h) me tx = []
-made_by (call.XRename from to) me tx = []
-made_by (call.XClose h) me tx = []
-made_by (call.XReadPipe h n) me tx = []
-made_by (call.XRecvmsg h) me tx = []
-made_by (call.XUnlink name slot) me tx = []
-made_by (call.XSync h slot) me tx = []
-made_by (call.XWritePipe h bytes slot) me tx = []
-made_by (call.XShutdown h slot) me tx = []
-made_by (call.XSendmsg h bytes slot) me tx = []
-made_by (call.XThreadCreate body slot) me tx = []
-made_by call.Save me tx = []
-made_by call.Keep me tx = []
-made_by call.Back me tx = []
+made_by call me tx = made_as (traits call).change (next_num me tx)

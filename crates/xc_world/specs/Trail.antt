@@ -5,7 +5,7 @@ use Rattle.std.specs.declared.option.Option.TheVariants.{None, Some}
 use Rattle.std.specs.FinMap as map
 use Rattle.xc_data.specs.declared.object.Num.{Num}
 use Rattle.xc_data.specs.declared.call.Call.{Call}
-use Rattle.xc_data.specs.declared.call.Call.TheVariants as call
+use Rattle.xc_data.specs.Calls.{Appending, CallChange, Creating, MakingPair, MakingPipe, Overwriting, Renaming, Unchanging, traits}
 use Rattle.xc_data.specs.declared.call.Reply.{Reply}
 use Rattle.xc_data.specs.declared.call.Reply.TheVariants as reply
 use Rattle.xc_data.specs.declared.undo.Undo.{Undo}
@@ -60,32 +60,19 @@ pair_record me tx (reply.MadePair h g) = NewPair (next_num me tx) ∷ []
 -- with any other reply no pair was made
 pair_record me tx _ = []
 
+-- the record of such a change with this reply, in the world before it
+abbrev pub recorded_as : World → Private → ℕ → CallChange → Reply → List Undo
+recorded_as w me tx Unchanging r = []
+recorded_as w me tx (Overwriting h bytes) r = overwrite_record w bytes (done_of (length bytes) r) (place_of me.places h)
+recorded_as w me tx (Appending h bytes) r = append_record w bytes (done_of (length bytes) r) (place_of me.places h)
+recorded_as w me tx (Creating name) r = create_record me tx name r
+recorded_as w me tx (Renaming from to) r = rename_record from to r
+recorded_as w me tx MakingPipe r = pipe_record me tx r
+recorded_as w me tx MakingPair r = pair_record me tx r
+
 -- the record of a call with its reply, in the world before it
 abbrev pub recorded : World → Private → ℕ → Call → Reply → List Undo
-recorded w me tx (call.XWriteOvr h bytes) reply = overwrite_record w bytes (done_of (length bytes) reply) (place_of me.places h)
-recorded w me tx (call.XWriteSeq h bytes) reply = append_record w bytes (done_of (length bytes) reply) (place_of me.places h)
-recorded w me tx (call.XCreate name) reply = create_record me tx name reply
-recorded w me tx (call.XRename from to) reply = rename_record from to reply
-recorded w me tx call.XPipe reply = pipe_record me tx reply
-recorded w me tx call.XPair reply = pair_record me tx reply
-recorded w me tx (call.Load at) reply = []
-recorded w me tx (call.Store at value) reply = []
-recorded w me tx (call.XOpen name) reply = []
-recorded w me tx (call.XRead h n) reply = []
-recorded w me tx (call.XSeek h to) reply = []
-recorded w me tx (call.XLen h) reply = []
-recorded w me tx (call.XClose h) reply = []
-recorded w me tx (call.XReadPipe h n) reply = []
-recorded w me tx (call.XRecvmsg h) reply = []
-recorded w me tx (call.XUnlink name slot) reply = []
-recorded w me tx (call.XSync h slot) reply = []
-recorded w me tx (call.XWritePipe h bytes slot) reply = []
-recorded w me tx (call.XShutdown h slot) reply = []
-recorded w me tx (call.XSendmsg h bytes slot) reply = []
-recorded w me tx (call.XThreadCreate body slot) reply = []
-recorded w me tx call.Save reply = []
-recorded w me tx call.Keep reply = []
-recorded w me tx call.Back reply = []
+recorded w me tx call r = recorded_as w me tx (traits call).change r
 
 -- ---- what stands of a record: its effect, of its covered bytes from the k-th on
 abbrev pub move_name : World → List ℕ → List ℕ → Option Num → World

@@ -97,15 +97,9 @@ pub fn is_too_much(call: &Call, me: &Private) -> bool
 pub fn is_bad_word(call: &Call, words: u64) -> bool
     ensures { result ≡ check.is_bad_word call.now words }
 {
-    match call {
-        Call::Load { at } | Call::Store { at, .. } => *at >= words,
-        Call::XOpen { .. } | Call::XCreate { .. } | Call::XRead { .. } => false,
-        Call::XWriteOvr { .. } | Call::XWriteSeq { .. } | Call::XSeek { .. } => false,
-        Call::XLen { .. } | Call::XRename { .. } | Call::XClose { .. } | Call::XPipe => false,
-        Call::XReadPipe { .. } | Call::XPair | Call::XRecvmsg { .. } => false,
-        Call::XUnlink { .. } | Call::XSync { .. } | Call::XWritePipe { .. } => false,
-        Call::XShutdown { .. } | Call::XSendmsg { .. } | Call::XThreadCreate { .. } => false,
-        Call::Save | Call::Keep | Call::Back => false,
+    match call.word() {
+        Some(at) => at >= words,
+        None => false,
     }
 }
 

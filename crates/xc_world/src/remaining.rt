@@ -6,7 +6,7 @@ ghost use Rattle.xc_world.specs.Remains.{effect_remains};
 
 use xc_data::{Undo, UndoEnd};
 
-/// The byte of a record from which on its effect stands: none exactly where it is undone, the number of restored bytes for an
+/// The byte of a record from which on its effect remains: none exactly where it is undone, the number of restored bytes for an
 /// overwrite that was restored in part, and 0 for every other record. It takes no memory.
 pub fn remaining_from(undo: &Undo, end: &UndoEnd) -> Option<u32>
     ensures { result ≡ remains_from undo.now end.now }

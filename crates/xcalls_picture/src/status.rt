@@ -5,7 +5,7 @@ ghost use Rattle.xcalls_picture.specs.Statuses.{picture_status_number};
 #[derive(Clone, Copy, Debug)]
 pub enum PictureStatus {
     Drawn,
-    /// The text is too long, or no line of a journal stands in front of it.
+    /// The text is too long, or doesn't begin with a line of a journal.
     Refused,
     /// The command line has a word.
     Usage,

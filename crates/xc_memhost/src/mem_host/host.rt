@@ -106,7 +106,7 @@ impl Host for MemHost {
         ensures value { IfOk result (λ front. IsFront (file_in self.old.contents file) at n front) }
         ensures answered { Answers mem_host_model HostCallKind.ReadAt (record { old = self.old; new = self.new }) result (λ front c. c) }
 
-        // Exactly the listed calls fail, and a read gives exactly so many bytes.
+        // Exactly the listed calls fail, and the grain says how many bytes a read gives.
         ensures fault { is_fault result ≡ is_listed HostCallKind.ReadAt self.old }
         ensures front { IfOk result (λ front. front ≡ read_front self.old file at n) }
         ensures state { self.new ≡ call_begun HostCallKind.ReadAt self.old }
@@ -126,7 +126,7 @@ impl Host for MemHost {
         ensures answered { Answers mem_host_model HostCallKind.WriteAt (record { old = self.old; new = self.new }) (without_memory result)
             (λ n c. wrote c file at (take n bytes.now)) }
 
-        // Exactly the listed calls fail, and a write does exactly so many bytes.
+        // Exactly the listed calls fail, and the grain says how many bytes a write does.
         ensures fault { is_err result ≡ is_listed HostCallKind.WriteAt self.old }
         ensures size { IfOk result (λ n. n ≡ written_count self.old bytes.now) }
         ensures state { OnOk result
@@ -147,7 +147,7 @@ impl Host for MemHost {
         ensures answered { Answers mem_host_model HostCallKind.Append (record { old = self.old; new = self.new }) result
             (λ n c. appended c file (take n bytes.now)) }
 
-        // Exactly the listed calls fail, and one does exactly so many bytes. Without memory a call was
+        // Exactly the listed calls fail, and the grain says how many bytes one does. Without memory a call was
         // counted, and nothing else.
         ensures fault { is_fault result ≡ is_listed HostCallKind.Append self.old }
         ensures size { IfOk result (λ n. n ≡ written_count self.old bytes.now) }
@@ -253,7 +253,7 @@ impl Host for MemHost {
         ensures value { IfOk result (IsTakenOf (pipe_in self.old.contents pipe)) }
         ensures answered { Answers mem_host_model HostCallKind.Take (record { old = self.old; new = self.new }) result (after_take pipe) }
 
-        // Exactly the listed calls fail, and a take gives exactly so many bytes. Without memory a call
+        // Exactly the listed calls fail, and the grain says how many bytes a take gives. Without memory a call
         // was counted, and nothing else.
         ensures fault { is_fault result ≡ is_listed HostCallKind.Take self.old }
         ensures front { IfOk result (λ took. took ≡ pipe_take self.old pipe n) }
@@ -278,7 +278,7 @@ impl Host for MemHost {
         ensures answered { Answers mem_host_model HostCallKind.Put (record { old = self.old; new = self.new }) result
             (λ n c. put_into c pipe (take n bytes.now)) }
 
-        // Exactly the listed calls fail, and one puts exactly so many bytes. Without memory a call was
+        // Exactly the listed calls fail, and the grain says how many bytes one puts. Without memory a call was
         // counted, and nothing else.
         ensures fault { is_fault result ≡ is_listed HostCallKind.Put self.old }
         ensures size { IfOk result (λ n. n ≡ written_count self.old bytes.now) }

@@ -9,7 +9,7 @@ use xc_data::{Chunk, HostCallKind, NoMemory, Place, Private, Reply};
 use xc_file::{x_read, x_write_ovr, x_write_seq};
 use xc_testhost::{AskedCall, TestHost};
 
-// The file is open at handle 0, with so many bytes stored.
+// The file is open at handle 0, and `stored` bytes are stored.
 fn opened(stored: u32) -> Private
     requires { stored ≤ 16384 }
     ensures { result.stored ≡ stored }

@@ -1,7 +1,8 @@
 -- What a step gives.
-use Rattle.std.specs.Prelude.{ℕ, ◌+◌, ◌≤◌, length}
+use Rattle.std.specs.Prelude.{ℕ, ◌+◌, ◌≤◌, length, List, Option}
+use Rattle.std.specs.declared.option.Option.TheVariants.{None, Some}
+use Rattle.xc_data.specs.Calls.{traits}
 use Rattle.xc_data.specs.declared.call.Call.{Call}
-use Rattle.xc_data.specs.declared.call.Call.TheVariants as call
 use Rattle.xc_data.specs.declared.call.Reply.{Reply}
 use Rattle.xc_data.specs.declared.call.Reply.TheVariants.{Got}
 use Rattle.xc_data.specs.declared.private.Private.{Private}
@@ -21,32 +22,14 @@ step_to w me r = record { world = w; me = me; reply = r }
 abbrev pub storing : Private → ℕ → Private
 storing me n = record me { stored = me.stored + n }
 
+-- bytes are stored, where some are carried
+abbrev pub storing_carried : Option (List ℕ) → Private → Private
+storing_carried None me = me
+storing_carried (Some bytes) me = storing me (length bytes)
+
 -- the bytes of a call are stored
 abbrev pub storing_call : Call → Private → Private
-storing_call (call.XWriteOvr h bytes) me = storing me (length bytes)
-storing_call (call.XWriteSeq h bytes) me = storing me (length bytes)
-storing_call (call.XWritePipe h bytes slot) me = storing me (length bytes)
-storing_call (call.XSendmsg h bytes slot) me = storing me (length bytes)
-storing_call (call.Load at) me = me
-storing_call (call.Store at value) me = me
-storing_call (call.XOpen name) me = me
-storing_call (call.XCreate name) me = me
-storing_call (call.XRead h n) me = me
-storing_call (call.XSeek h to) me = me
-storing_call (call.XLen h) me = me
-storing_call (call.XRename from to) me = me
-storing_call (call.XClose h) me = me
-storing_call call.XPipe me = me
-storing_call (call.XReadPipe h n) me = me
-storing_call call.XPair me = me
-storing_call (call.XRecvmsg h) me = me
-storing_call (call.XUnlink name slot) me = me
-storing_call (call.XSync h slot) me = me
-storing_call (call.XShutdown h slot) me = me
-storing_call (call.XThreadCreate body slot) me = me
-storing_call call.Save me = me
-storing_call call.Keep me = me
-storing_call call.Back me = me
+storing_call call me = storing_carried (traits call).bytes me
 
 -- the bytes of a reply are stored
 abbrev pub storing_reply : Reply → Private → Private
