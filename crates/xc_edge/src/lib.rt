@@ -14,4 +14,4 @@ pub use command_line::words;
 pub use memory::{MemSink, MemSource};
 pub use standard::{StdSink, StdSource};
 pub use streams::{Failed, Sink, Source};
-pub use whole::{ReadErr, read_up_to, write_whole};
+pub use whole::{ReadErr, read_up_to, write_front, write_whole};

@@ -1,4 +1,5 @@
-ghost use Rattle.std.specs.Prelude.{◌≤◌, IfOk, OnOk, OnErr, IsErrOf};
+ghost use Rattle.std.specs.Prelude.{◌≤◌, ◌<◌, IfOk, OnOk, OnErr, IsErrOf, length, take};
+ghost use Rattle.std.specs.Io.KnownBytes.{Appends};
 ghost use Rattle.xc_edge.specs.Counts.{HasCause};
 ghost use Rattle.xc_edge.specs.Streams.{Came, ConsumesUpTo, AppendsPart, AppendsWhole};
 ghost use Rattle.xc_edge.specs.View.{HasFailed};
@@ -65,15 +66,31 @@ pub fn read_up_to<S: Source>(
     Ok(bytes)
 }
 
+/// Writes a front of a text: all of it, unless a write fails. It answers how many bytes were taken.
+pub fn write_front<K: Sink>(sink: &mut K, text: &[u8]) -> usize
+    ensures most { result ≤ length text.now }
+    ensures front { Appends (K.told sink.old).bytes (K.told sink.new).bytes (take result text.now) }
+    ensures later { (K.told sink.old).faults ≤ (K.told sink.new).faults }
+    ensures short { result < length text.now → HasFailed (K.told sink.old) (K.told sink.new) }
+{
+    let mut done = 0;
+    while done < text.len() {
+        match sink.write(&text[done..]) {
+            Ok(count) => done += count,
+            Err(_) => return done,
+        }
+    }
+    done
+}
+
 /// Writes a whole text, in as many writes as it takes.
 pub fn write_whole<K: Sink>(sink: &mut K, text: &[u8]) -> Result<(), Failed>
     ensures whole { OnOk result (AppendsWhole (K.told sink.old) (K.told sink.new) text.now) }
     ensures part { OnErr result (AppendsPart (K.told sink.old) (K.told sink.new) text.now) }
     ensures cause { HasCause (K.told sink.old) (K.told sink.new) result }
 {
-    let mut done = 0;
-    while done < text.len() {
-        done += sink.write(&text[done..])?;
+    if write_front(sink, text) < text.len() {
+        return Err(Failed);
     }
     Ok(())
 }

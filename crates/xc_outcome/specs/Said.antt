@@ -111,6 +111,11 @@ abbrev pub IsWritten : Status → Status → List ℕ → StreamView → StreamV
 IsWritten meant ends due old new =
     ((ends ≡ meant) × AppendsWhole old new due) ⊎ ((ends ≡ status.WriteFault) × AppendsPart old new due × HasFailed old new)
 
+-- what is due with an end was written with the status that was meant, or a front of it
+abbrev pub IsEndSaid : {H : Type 0} → Option ℕ → End H → Status → Step StreamView → Type 0
+IsEndSaid seed end ends sink =
+    (meant : Status) × (due : List ℕ) × IsDueWithEnd seed meant end due × IsWritten meant ends due sink.old sink.new
+
 -- what is due with this status was written, or a front of it
 abbrev pub IsDueSaid : {H : Type 0} → List ℕ → Option ℕ → Status → Finish H → Step StreamView → Type 0
 IsDueSaid usage seed meant finish sink =

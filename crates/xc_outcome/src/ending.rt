@@ -1,70 +1,72 @@
 //! From a station all of whose jobs have ended to what is written of them.
 
-ghost use Rattle.std.specs.Prelude.{◌≡◌, ◌≤◌, ℕ, IfOk, List, None, Some, length};
+ghost use Rattle.std.specs.Prelude.{◌≡◌, ◌≤◌, ℕ, List, None, Option, Some, length};
 ghost use Rattle.xc_station.specs.Stations.{NobodyLives};
 ghost use Rattle.xc_station.specs.declared.run_result.End.{End as PlainEnd};
 ghost use Rattle.xc_outcome.specs.Due.{due_bytes};
 ghost use Rattle.xc_outcome.specs.Outcomes.{IsEndOf, IsWrittenAs};
 ghost use Rattle.xc_outcome.specs.Runs.{written_of};
-ghost use Rattle.xc_outcome.specs.Said.{IsDueWithEnd};
+ghost use Rattle.xc_outcome.specs.Said.{IsDueWithEnd, IsEndSaid};
 ghost use Rattle.xc_outcome.specs.declared.finish.Status.{Status as PlainStatus};
 
 use crate::{Due, Finish, NotRun, Status, status_of, write_due};
 use std::alloc::Global;
-use xc_data::{NoMemory, Text};
 use xc_edge::Sink;
 use xc_generator::summary;
 use xc_host::Host;
-use xc_print::render;
+use xc_print::write_text;
 use xc_station::{End, Station};
 
-/// The end of a run, the status that is meant, and what is to be written of it.
-#[derive(Drop)]
-pub struct Ended<H> {
-    pub status: Status,
-    pub due: Due,
-    pub end: End<H>,
+// The status that a run with this end is meant to have where there is memory for what is due.
+fn meant_of<H>(end: &End<H>) -> Status
+    requires { length end.now.journal.items ≤ 10000 }
+    ensures { (seed : Option ℕ) → IsDueWithEnd seed result end.now (written_of seed end.now) }
+{
+    status_of(end)
 }
 
-// What is written of the end of a run: its text, or with a seed the line that sums it up.
-fn text_of<H>(alloc: Global, end: &End<H>, seed: Option<u64>) -> Result<Text, NoMemory>
+// The line that sums up a run is written, or that there is no memory for it.
+fn write_summary<K: Sink, H>(alloc: Global, sink: &mut K, end: &End<H>, seed: u64) -> Status
     requires { length end.now.journal.items ≤ 10000 }
-    ensures { IfOk result (λ text. text ≡ written_of seed end.now) }
+    ensures { IsEndSaid (Some seed) end.now result (record { old = K.told sink.old; new = K.told sink.new }) }
 {
-    let journal = end.journal.as_slice();
-    let words = end.words.as_slice();
+    let meant = meant_of(end);
+    match summary(alloc, end.journal.as_slice(), end.words.as_slice(), seed) {
+        Ok(line) => write_due(sink, meant, &Due::Whole(line)),
+        Err(_) => write_due(sink, Status::NoMemory, &Due::NoMemory),
+    }
+}
+
+// The text of a run is written, or that there is no memory for a piece of it.
+fn write_journal<K: Sink, H>(alloc: Global, sink: &mut K, end: &End<H>) -> Status
+    requires { length end.now.journal.items ≤ 10000 }
+    ensures { IsEndSaid None end.now result (record { old = K.told sink.old; new = K.told sink.new }) }
+{
+    let meant = meant_of(end);
+    let (jobs, kept) = (end.jobs.as_slice(), end.kept.as_slice());
+    match write_text(
+        alloc,
+        sink,
+        end.journal.as_slice(),
+        jobs,
+        end.words.as_slice(),
+        kept,
+    ) {
+        Ok(Ok(())) => meant,
+        Ok(Err(_)) => Status::WriteFault,
+        Err(_) => write_due(sink, Status::NoMemory, &Due::NoMemory),
+    }
+}
+
+// What is due with an end is written: its text, or with a seed the line that sums it up.
+fn write_end<K: Sink, H>(alloc: Global, sink: &mut K, end: &End<H>, seed: Option<u64>) -> Status
+    requires { length end.now.journal.items ≤ 10000 }
+    ensures { IsEndSaid seed end.now result (record { old = K.told sink.old; new = K.told sink.new }) }
+{
     match seed {
-        Some(seed) => summary(alloc, journal, words, seed),
-        None => render(
-            alloc,
-            journal,
-            end.jobs.as_slice(),
-            words,
-            end.kept.as_slice(),
-        ),
+        Some(seed) => write_summary(alloc, sink, end, seed),
+        None => write_journal(alloc, sink, end),
     }
-}
-
-// The status that a run with this end is meant to have, and what is due with it.
-fn meant_of<H>(alloc: Global, end: &End<H>, seed: Option<u64>) -> (Status, Due)
-    requires { length end.now.journal.items ≤ 10000 }
-    ensures { IsDueWithEnd seed result.0 end.now (due_bytes result.1) }
-{
-    match text_of(alloc, end, seed) {
-        Ok(text) => (status_of(end), Due::Whole(text)),
-        Err(_) => (Status::NoMemory, Due::NoMemory),
-    }
-}
-
-/// What comes of a station all of whose jobs have ended. Nothing is written yet.
-pub fn outcome_of<H: Host>(alloc: Global, station: Station<H>, seed: Option<u64>) -> Ended<H>
-    requires { NobodyLives station.jobs }
-    ensures end { IsEndOf H.model station result.end }
-    ensures due { IsDueWithEnd seed result.status result.end (due_bytes result.due) }
-{
-    let end = station.finish();
-    let (status, due) = meant_of(alloc, &end, seed);
-    Ended { status, due, end }
 }
 
 /// All jobs have ended: what is due with that end is written.
@@ -79,9 +81,10 @@ pub fn finish_run<K: Sink, H: Host>(
         × IsDueWithEnd seed meant end due × IsWrittenAs meant due result.status (record { old = K.told sink.old; new = K.told sink.new }) }
     ensures host { result.host ≡ None }
 {
-    let Ended { status, due, end } = outcome_of(alloc, station, seed);
+    let end = station.finish();
+    let status = write_end(alloc, sink, &end, seed);
     Finish {
-        status: write_due(sink, status, &due),
+        status,
         end: Some(end),
         host: None,
     }

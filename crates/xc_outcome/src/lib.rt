@@ -14,7 +14,7 @@ mod preparing;
 
 pub use choice::Choice;
 pub use due::{Due, write_due};
-pub use ending::{Ended, finish_run, finish_without, outcome_of};
+pub use ending::{finish_run, finish_without};
 pub use ends::status_of;
 pub use finish::{Finish, LIMIT, Status};
 pub use preparing::{NotRun, no_memory, prepare};

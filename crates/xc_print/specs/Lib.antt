@@ -5,5 +5,6 @@ pub mod Kept
 pub mod Objects
 pub mod Records
 pub mod Replies
+pub mod Sheets
 pub mod Text
 pub mod Totals

@@ -3,9 +3,8 @@ ghost use Rattle.std.specs.List.{prefix_len};
 ghost use Rattle.std.specs.Fmt.{digit_glyph};
 ghost use Rattle.xc_print.specs.Bytes.{is_plain, escaped_byte, escaped, bytes_text};
 
-use crate::page::Page;
+use crate::paper::Paper;
 use std::simd::prelude::*;
-use xc_data::NoMemory;
 use xc_lanes::{ByteKind, first_set, front_len};
 
 fn hex_digit(n: u8) -> u8
@@ -34,8 +33,8 @@ impl ByteKind for PlainBytes {
 }
 
 // A byte, or its escape.
-fn push_escape(out: &mut Page, b: u8) -> Result<(), NoMemory>
-    ensures { OnOk result (out.new ≡ out.old ++ escaped_byte b) }
+fn push_escape<P: Paper>(out: &mut P, b: u8) -> Result<(), P::Error>
+    ensures { OnOk result (P.said out.new ≡ P.said out.old ++ escaped_byte b) }
 {
     match b {
         b'"' => out.push(b"\\\""),
@@ -48,8 +47,8 @@ fn push_escape(out: &mut Page, b: u8) -> Result<(), NoMemory>
 
 /// Bytes between quotes.
 #[tactic(auto, using(crate::proofs::Runs::last_run, crate::proofs::Runs::next_run))]
-pub fn push_escaped(out: &mut Page, bytes: &[u8]) -> Result<(), NoMemory>
-    ensures { OnOk result (out.new ≡ out.old ++ escaped bytes.now) }
+pub fn push_escaped<P: Paper>(out: &mut P, bytes: &[u8]) -> Result<(), P::Error>
+    ensures { OnOk result (P.said out.new ≡ P.said out.old ++ escaped bytes.now) }
 {
     let mut left = bytes;
     'runs: loop {
@@ -66,8 +65,8 @@ pub fn push_escaped(out: &mut Page, bytes: &[u8]) -> Result<(), NoMemory>
 }
 
 /// The bytes in quotes.
-pub fn push_bytes(out: &mut Page, bytes: &[u8]) -> Result<(), NoMemory>
-    ensures { OnOk result (out.new ≡ out.old ++ bytes_text bytes.now) }
+pub fn push_bytes<P: Paper>(out: &mut P, bytes: &[u8]) -> Result<(), P::Error>
+    ensures { OnOk result (P.said out.new ≡ P.said out.old ++ bytes_text bytes.now) }
 {
     out.push(b"\"")?;
     push_escaped(out, bytes)?;

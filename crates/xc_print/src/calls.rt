@@ -6,40 +6,40 @@ ghost use Rattle.xc_print.specs.Calls.{slot_text, call_text};
 
 use crate::bytes::push_bytes;
 use crate::objects::push_handled;
-use crate::page::Page;
-use xc_data::{Call, Chunk, Ident, NoMemory, SharedName, SlotName};
+use crate::paper::Paper;
+use xc_data::{Call, Chunk, Ident, SharedName, SlotName};
 
-fn push_named(out: &mut Page, before: &str, name: &SharedName) -> Result<(), NoMemory>
-    ensures { OnOk result (out.new ≡ out.old ++ (before.now ++ name.now)) }
+fn push_named<P: Paper>(out: &mut P, before: &str, name: &SharedName) -> Result<(), P::Error>
+    ensures { OnOk result (P.said out.new ≡ P.said out.old ++ (before.now ++ name.now)) }
 {
     out.text(before)?;
     out.push(name.as_slice())
 }
 
-fn push_ident(out: &mut Page, before: &str, ident: &Ident) -> Result<(), NoMemory>
-    ensures { OnOk result (out.new ≡ out.old ++ (before.now ++ ident.now)) }
+fn push_ident<P: Paper>(out: &mut P, before: &str, ident: &Ident) -> Result<(), P::Error>
+    ensures { OnOk result (P.said out.new ≡ P.said out.old ++ (before.now ++ ident.now)) }
 {
     out.text(before)?;
     out.push(ident.as_slice())
 }
 
-fn push_numbered(out: &mut Page, before: &str, h: u16, n: u64) -> Result<(), NoMemory>
-    ensures { OnOk result (out.new ≡ out.old ++ (before.now ++ handle_text h ++ codes " " ++ decimal n)) }
+fn push_numbered<P: Paper>(out: &mut P, before: &str, h: u16, n: u64) -> Result<(), P::Error>
+    ensures { OnOk result (P.said out.new ≡ P.said out.old ++ (before.now ++ handle_text h ++ codes " " ++ decimal n)) }
 {
     push_handled(out, before, h)?;
     out.labelled(" ", n)
 }
 
-fn push_written(out: &mut Page, before: &str, h: u16, bytes: &Chunk) -> Result<(), NoMemory>
-    ensures { OnOk result (out.new ≡ out.old ++ (before.now ++ handle_text h ++ codes " " ++ bytes_text bytes.now)) }
+fn push_written<P: Paper>(out: &mut P, before: &str, h: u16, bytes: &Chunk) -> Result<(), P::Error>
+    ensures { OnOk result (P.said out.new ≡ P.said out.old ++ (before.now ++ handle_text h ++ codes " " ++ bytes_text bytes.now)) }
 {
     push_handled(out, before, h)?;
     out.text(" ")?;
     push_bytes(out, bytes.as_slice())
 }
 
-fn push_slot(out: &mut Page, slot: &SlotName) -> Result<(), NoMemory>
-    ensures { OnOk result (out.new ≡ out.old ++ slot_text slot.now) }
+fn push_slot<P: Paper>(out: &mut P, slot: &SlotName) -> Result<(), P::Error>
+    ensures { OnOk result (P.said out.new ≡ P.said out.old ++ slot_text slot.now) }
 {
     match slot.name() {
         None => Ok(()),
@@ -47,53 +47,59 @@ fn push_slot(out: &mut Page, slot: &SlotName) -> Result<(), NoMemory>
     }
 }
 
-fn push_named_late(
-    out: &mut Page,
+fn push_named_late<P: Paper>(
+    out: &mut P,
     before: &str,
     name: &SharedName,
     slot: &SlotName,
-) -> Result<(), NoMemory>
-    ensures { OnOk result (out.new ≡ out.old ++ (before.now ++ name.now ++ slot_text slot.now)) }
+) -> Result<(), P::Error>
+    ensures { OnOk result (P.said out.new ≡ P.said out.old ++ (before.now ++ name.now ++ slot_text slot.now)) }
 {
     push_named(out, before, name)?;
     push_slot(out, slot)
 }
 
-fn push_ident_late(
-    out: &mut Page,
+fn push_ident_late<P: Paper>(
+    out: &mut P,
     before: &str,
     ident: &Ident,
     slot: &SlotName,
-) -> Result<(), NoMemory>
-    ensures { OnOk result (out.new ≡ out.old ++ (before.now ++ ident.now ++ slot_text slot.now)) }
+) -> Result<(), P::Error>
+    ensures { OnOk result (P.said out.new ≡ P.said out.old ++ (before.now ++ ident.now ++ slot_text slot.now)) }
 {
     push_ident(out, before, ident)?;
     push_slot(out, slot)
 }
 
-fn push_handled_late(out: &mut Page, before: &str, h: u16, slot: &SlotName) -> Result<(), NoMemory>
-    ensures { OnOk result (out.new ≡ out.old ++ (before.now ++ handle_text h ++ slot_text slot.now)) }
+fn push_handled_late<P: Paper>(
+    out: &mut P,
+    before: &str,
+    h: u16,
+    slot: &SlotName,
+) -> Result<(), P::Error>
+    ensures { OnOk result (P.said out.new ≡ P.said out.old ++ (before.now ++ handle_text h ++ slot_text slot.now)) }
 {
     push_handled(out, before, h)?;
     push_slot(out, slot)
 }
 
-fn push_written_late(
-    out: &mut Page,
+fn push_written_late<P: Paper>(
+    out: &mut P,
     before: &str,
     h: u16,
     bytes: &Chunk,
     slot: &SlotName,
-) -> Result<(), NoMemory>
-    ensures { OnOk result (out.new ≡ out.old ++ (before.now ++ handle_text h ++ codes " " ++ bytes_text bytes.now ++ slot_text slot.now)) }
+) -> Result<(), P::Error>
+    ensures { OnOk result (P.said out.new
+        ≡ P.said out.old ++ (before.now ++ handle_text h ++ codes " " ++ bytes_text bytes.now ++ slot_text slot.now)) }
 {
     push_written(out, before, h, bytes)?;
     push_slot(out, slot)
 }
 
 /// A line's start: a call as its script word and its values, without the reply.
-pub fn push_call(out: &mut Page, call: &Call) -> Result<(), NoMemory>
-    ensures { OnOk result (out.new ≡ out.old ++ (codes "  " ++ call_text call.now)) }
+pub fn push_call<P: Paper>(out: &mut P, call: &Call) -> Result<(), P::Error>
+    ensures { OnOk result (P.said out.new ≡ P.said out.old ++ (codes "  " ++ call_text call.now)) }
 {
     match call {
         Call::Load { at } => out.labelled("  load ", *at as u64),

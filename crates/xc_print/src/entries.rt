@@ -4,14 +4,14 @@ ghost use Rattle.xc_print.specs.Entries.{call_line, call_lines, late_line, late_
 
 use crate::calls::push_call;
 use crate::objects::{push_held, push_object};
-use crate::page::Page;
+use crate::paper::Paper;
 use crate::records::{push_remains, push_undos};
 use crate::replies::{push_late_end, push_reply};
-use xc_data::{Call, Cause, Entry, LateEnd, NoMemory, Outcome, Reply};
+use xc_data::{Call, Cause, Entry, LateEnd, Outcome, Reply};
 
 /// Why a transaction was aborted.
-pub fn push_cause(out: &mut Page, cause: &Cause) -> Result<(), NoMemory>
-    ensures { OnOk result (out.new ≡ out.old ++ cause_text cause.now) }
+pub fn push_cause<P: Paper>(out: &mut P, cause: &Cause) -> Result<(), P::Error>
+    ensures { OnOk result (P.said out.new ≡ P.said out.old ++ cause_text cause.now) }
 {
     match cause {
         Cause::Asked => out.text("asked"),
@@ -32,8 +32,8 @@ pub fn push_cause(out: &mut Page, cause: &Cause) -> Result<(), NoMemory>
     }
 }
 
-fn push_attempt(out: &mut Page, entry: &Entry) -> Result<(), NoMemory>
-    ensures { OnOk result (out.new ≡ out.old ++ attempt_text entry.now) }
+fn push_attempt<P: Paper>(out: &mut P, entry: &Entry) -> Result<(), P::Error>
+    ensures { OnOk result (P.said out.new ≡ P.said out.old ++ attempt_text entry.now) }
 {
     let (tx, job) = (entry.tx, entry.job);
     let (rank, began) = (entry.rank, entry.began);
@@ -43,8 +43,8 @@ fn push_attempt(out: &mut Page, entry: &Entry) -> Result<(), NoMemory>
     out.labelled(" began ", began as u64)
 }
 
-fn push_word(out: &mut Page, outcome: &Outcome) -> Result<(), NoMemory>
-    ensures { OnOk result (out.new ≡ out.old ++ outcome_word outcome.now) }
+fn push_word<P: Paper>(out: &mut P, outcome: &Outcome) -> Result<(), P::Error>
+    ensures { OnOk result (P.said out.new ≡ P.said out.old ++ outcome_word outcome.now) }
 {
     match outcome {
         Outcome::Committed { .. } => out.text("commit"),
@@ -52,8 +52,8 @@ fn push_word(out: &mut Page, outcome: &Outcome) -> Result<(), NoMemory>
     }
 }
 
-fn push_outcome_cause(out: &mut Page, outcome: &Outcome) -> Result<(), NoMemory>
-    ensures { OnOk result (out.new ≡ out.old ++ outcome_cause outcome.now) }
+fn push_outcome_cause<P: Paper>(out: &mut P, outcome: &Outcome) -> Result<(), P::Error>
+    ensures { OnOk result (P.said out.new ≡ P.said out.old ++ outcome_cause outcome.now) }
 {
     match outcome {
         Outcome::Committed { .. } => Ok(()),
@@ -64,8 +64,8 @@ fn push_outcome_cause(out: &mut Page, outcome: &Outcome) -> Result<(), NoMemory>
     }
 }
 
-fn push_head(out: &mut Page, entry: &Entry) -> Result<(), NoMemory>
-    ensures { OnOk result (out.new ≡ out.old ++ head_line entry.now) }
+fn push_head<P: Paper>(out: &mut P, entry: &Entry) -> Result<(), P::Error>
+    ensures { OnOk result (P.said out.new ≡ P.said out.old ++ head_line entry.now) }
 {
     push_word(out, &entry.outcome)?;
     push_attempt(out, entry)?;
@@ -74,16 +74,16 @@ fn push_head(out: &mut Page, entry: &Entry) -> Result<(), NoMemory>
 }
 
 /// The line of a call and its reply.
-pub fn push_call_line(out: &mut Page, call: &Call, reply: &Reply) -> Result<(), NoMemory>
-    ensures { OnOk result (out.new ≡ out.old ++ call_line call.now reply.now) }
+pub fn push_call_line<P: Paper>(out: &mut P, call: &Call, reply: &Reply) -> Result<(), P::Error>
+    ensures { OnOk result (P.said out.new ≡ P.said out.old ++ call_line call.now reply.now) }
 {
     push_call(out, call)?;
     push_reply(out, reply)?;
     out.text("\n")
 }
 
-fn push_calls(out: &mut Page, calls: &[Call], replies: &[Reply]) -> Result<(), NoMemory>
-    ensures { OnOk result (out.new ≡ out.old ++ call_lines calls.now replies.now) }
+fn push_calls<P: Paper>(out: &mut P, calls: &[Call], replies: &[Reply]) -> Result<(), P::Error>
+    ensures { OnOk result (P.said out.new ≡ P.said out.old ++ call_lines calls.now replies.now) }
 {
     for (at, call) in calls.iter().enumerate() {
         let Some(reply) = replies.get(at) else {
@@ -94,8 +94,8 @@ fn push_calls(out: &mut Page, calls: &[Call], replies: &[Reply]) -> Result<(), N
     Ok(())
 }
 
-fn push_late(out: &mut Page, number: usize, end: LateEnd) -> Result<(), NoMemory>
-    ensures { OnOk result (out.new ≡ out.old ++ late_line number end) }
+fn push_late<P: Paper>(out: &mut P, number: usize, end: LateEnd) -> Result<(), P::Error>
+    ensures { OnOk result (P.said out.new ≡ P.said out.old ++ late_line number end) }
 {
     out.labelled("  late ", number as u64)?;
     out.text(" = ")?;
@@ -103,8 +103,8 @@ fn push_late(out: &mut Page, number: usize, end: LateEnd) -> Result<(), NoMemory
     out.text("\n")
 }
 
-fn push_lates(out: &mut Page, ends: &[LateEnd]) -> Result<(), NoMemory>
-    ensures { OnOk result (out.new ≡ out.old ++ late_lines 1 ends.now) }
+fn push_lates<P: Paper>(out: &mut P, ends: &[LateEnd]) -> Result<(), P::Error>
+    ensures { OnOk result (P.said out.new ≡ P.said out.old ++ late_lines 1 ends.now) }
 {
     for (at, end) in ends.iter().enumerate() {
         push_late(out, at + 1, *end)?;
@@ -112,8 +112,8 @@ fn push_lates(out: &mut Page, ends: &[LateEnd]) -> Result<(), NoMemory>
     Ok(())
 }
 
-fn push_outcome(out: &mut Page, outcome: &Outcome) -> Result<(), NoMemory>
-    ensures { OnOk result (out.new ≡ out.old ++ outcome_lines outcome.now) }
+fn push_outcome<P: Paper>(out: &mut P, outcome: &Outcome) -> Result<(), P::Error>
+    ensures { OnOk result (P.said out.new ≡ P.said out.old ++ outcome_lines outcome.now) }
 {
     match outcome {
         Outcome::Committed { late } => push_lates(out, late.as_slice()),
@@ -126,8 +126,8 @@ fn push_outcome(out: &mut Page, outcome: &Outcome) -> Result<(), NoMemory>
 
 /// An entry, with its lines.
 #[tactic(auto, using(crate::proofs::Pieces::four_pieces))]
-pub fn push_entry(out: &mut Page, entry: &Entry) -> Result<(), NoMemory>
-    ensures { OnOk result (out.new ≡ out.old ++ entry_text entry.now) }
+pub fn push_entry<P: Paper>(out: &mut P, entry: &Entry) -> Result<(), P::Error>
+    ensures { OnOk result (P.said out.new ≡ P.said out.old ++ entry_text entry.now) }
 {
     push_head(out, entry)?;
     push_calls(out, entry.calls.as_slice(), entry.replies.as_slice())?;
@@ -136,8 +136,8 @@ pub fn push_entry(out: &mut Page, entry: &Entry) -> Result<(), NoMemory>
 }
 
 /// All entries, each with its lines.
-pub fn push_journal(out: &mut Page, journal: &[Entry]) -> Result<(), NoMemory>
-    ensures { OnOk result (out.new ≡ out.old ++ journal_text journal.now) }
+pub fn push_journal<P: Paper>(out: &mut P, journal: &[Entry]) -> Result<(), P::Error>
+    ensures { OnOk result (P.said out.new ≡ P.said out.old ++ journal_text journal.now) }
 {
     for entry in journal {
         push_entry(out, entry)?;

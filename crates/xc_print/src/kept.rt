@@ -4,8 +4,8 @@ ghost use Rattle.xc_print.specs.Kept.{is_line_open, opening_text, closing_text, 
 
 use crate::bytes::{push_bytes, push_escaped};
 use crate::objects::push_labelled;
-use crate::page::Page;
-use xc_data::{Chunk, KeptItem, NoMemory, Num};
+use crate::paper::Paper;
+use xc_data::{Chunk, KeptItem, Num};
 
 // Whether the line of this pipe is open.
 fn is_open(opened: Option<Num>, pipe: Num) -> bool
@@ -17,16 +17,16 @@ fn is_open(opened: Option<Num>, pipe: Num) -> bool
     }
 }
 
-fn push_opening(out: &mut Page, pipe: Num) -> Result<(), NoMemory>
-    ensures { OnOk result (out.new ≡ out.old ++ opening_text pipe) }
+fn push_opening<P: Paper>(out: &mut P, pipe: Num) -> Result<(), P::Error>
+    ensures { OnOk result (P.said out.new ≡ P.said out.old ++ opening_text pipe) }
 {
     push_labelled(out, "kept pipe ", pipe)?;
     out.text(" \"")
 }
 
 // Ends the line that is open.
-fn push_closing(out: &mut Page, opened: Option<Num>) -> Result<(), NoMemory>
-    ensures { OnOk result (out.new ≡ out.old ++ closing_text opened) }
+fn push_closing<P: Paper>(out: &mut P, opened: Option<Num>) -> Result<(), P::Error>
+    ensures { OnOk result (P.said out.new ≡ P.said out.old ++ closing_text opened) }
 {
     match opened {
         Some(_) => out.text("\"\n"),
@@ -35,8 +35,8 @@ fn push_closing(out: &mut Page, opened: Option<Num>) -> Result<(), NoMemory>
 }
 
 // Ends the line that is open and opens this pipe's, but where it is open already.
-fn push_turn(out: &mut Page, opened: Option<Num>, pipe: Num) -> Result<(), NoMemory>
-    ensures { OnOk result (out.new ≡ out.old ++ turned_to opened pipe) }
+fn push_turn<P: Paper>(out: &mut P, opened: Option<Num>, pipe: Num) -> Result<(), P::Error>
+    ensures { OnOk result (P.said out.new ≡ P.said out.old ++ turned_to opened pipe) }
 {
     if is_open(opened, pipe) {
         return Ok(());
@@ -46,8 +46,13 @@ fn push_turn(out: &mut Page, opened: Option<Num>, pipe: Num) -> Result<(), NoMem
 }
 
 /// The line of a kept message.
-pub fn push_message(out: &mut Page, pair: Num, side: u8, bytes: &Chunk) -> Result<(), NoMemory>
-    ensures { OnOk result (out.new ≡ out.old ++ kept_line (Message pair side bytes.now)) }
+pub fn push_message<P: Paper>(
+    out: &mut P,
+    pair: Num,
+    side: u8,
+    bytes: &Chunk,
+) -> Result<(), P::Error>
+    ensures { OnOk result (P.said out.new ≡ P.said out.old ++ kept_line (Message pair side bytes.now)) }
 {
     push_labelled(out, "kept pair ", pair)?;
     out.labelled(" side ", side as u64)?;
@@ -56,8 +61,8 @@ pub fn push_message(out: &mut Page, pair: Num, side: u8, bytes: &Chunk) -> Resul
     out.text("\n")
 }
 
-fn push_item(out: &mut Page, opened: Option<Num>, item: &KeptItem) -> Result<(), NoMemory>
-    ensures { OnOk result (out.new ≡ out.old ++ item_text opened item.now) }
+fn push_item<P: Paper>(out: &mut P, opened: Option<Num>, item: &KeptItem) -> Result<(), P::Error>
+    ensures { OnOk result (P.said out.new ≡ P.said out.old ++ item_text opened item.now) }
 {
     match item {
         KeptItem::Bytes { pipe, bytes } => {
@@ -84,8 +89,8 @@ fn opened_by(item: &KeptItem) -> Option<Num>
 /// A line for each pipe, however many items its bytes are in, and one for each message. No bytes are copied but to the page.
 /// A pipe's line stays open until an item of another object comes, or none.
 #[tactic(auto, using(crate::proofs::Joins::none_left))]
-pub fn push_kept(out: &mut Page, items: &[KeptItem]) -> Result<(), NoMemory>
-    ensures { OnOk result (out.new ≡ out.old ++ kept_lines items.now) }
+pub fn push_kept<P: Paper>(out: &mut P, items: &[KeptItem]) -> Result<(), P::Error>
+    ensures { OnOk result (P.said out.new ≡ P.said out.old ++ kept_lines items.now) }
 {
     let mut opened = None;
     for item in items {

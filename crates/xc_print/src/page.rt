@@ -1,6 +1,7 @@
 ghost use Rattle.std.specs.Prelude.{◌≡◌, ◌<◌, ◌≤◌, ◌+◌, ◌/◌, ◌%◌, ◌++◌, ◌∷◌, [], OnOk, vec_len, vec_capacity};
 ghost use Rattle.std.specs.Fmt.{decimal};
 
+use crate::paper::Paper;
 use itoa::{Buffer, Integer};
 use std::alloc::Global;
 use std::marker::Model;
@@ -102,6 +103,27 @@ impl Page {
     }
 }
 
+impl Paper for Page {
+    type Error = NoMemory;
+
+    ghost said = { λ page. page };
+
+    #[inline(always)]
+    fn push(&mut self, bytes: &[u8]) -> Result<(), NoMemory> {
+        Page::push(self, bytes)
+    }
+
+    #[inline(always)]
+    fn push_byte(&mut self, byte: u8) -> Result<(), NoMemory> {
+        Page::push_byte(self, byte)
+    }
+
+    #[inline(always)]
+    fn number(&mut self, number: u64) -> Result<(), NoMemory> {
+        Page::number(self, number)
+    }
+}
+
 // A digit, where there is room for it.
 #[inline(always)]
 fn put_digit(bytes: &mut Vec<u8>, digit: u64)
@@ -128,9 +150,11 @@ fn put_pair(bytes: &mut Vec<u8>, pair: u64)
 // One to four digits, where there is room for four.
 #[inline(always)]
 #[tactic(auto, using(crate::proofs::Numbers::few_digits))]
-fn put_number(bytes: &mut Vec<u8>, number: u64)
+pub(crate) fn put_number(bytes: &mut Vec<u8>, number: u64)
     requires { (number < 10000) × (vec_len bytes.old + 4 ≤ vec_capacity bytes.old) }
-    ensures { bytes.new.items ≡ bytes.old.items ++ decimal number }
+    ensures items { bytes.new.items ≡ bytes.old.items ++ decimal number }
+    ensures len { vec_len bytes.new ≤ vec_len bytes.old + 4 }
+    ensures capacity { vec_capacity bytes.new ≡ vec_capacity bytes.old }
 {
     if number < 10 {
         return put_digit(bytes, number);

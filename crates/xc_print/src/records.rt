@@ -4,12 +4,12 @@ ghost use Rattle.xc_print.specs.Records.{overwrite_text, tail_text, made_text, m
 
 use crate::bytes::push_bytes;
 use crate::objects::push_labelled;
-use crate::page::Page;
-use xc_data::{Chunk, Name, NoMemory, Num, Undo, UndoEnd};
+use crate::paper::Paper;
+use xc_data::{Chunk, Name, Num, Undo, UndoEnd};
 use xc_world::remaining_from;
 
-fn push_kind(out: &mut Page, undo: &Undo) -> Result<(), NoMemory>
-    ensures { OnOk result (out.new ≡ out.old ++ kind_text undo.now) }
+fn push_kind<P: Paper>(out: &mut P, undo: &Undo) -> Result<(), P::Error>
+    ensures { OnOk result (P.said out.new ≡ P.said out.old ++ kind_text undo.now) }
 {
     match undo {
         Undo::Bytes { .. } => out.text("bytes"),
@@ -21,16 +21,16 @@ fn push_kind(out: &mut Page, undo: &Undo) -> Result<(), NoMemory>
     }
 }
 
-fn push_failed(out: &mut Page, done: u32, faults: u32) -> Result<(), NoMemory>
-    ensures { OnOk result (out.new ≡ out.old ++ undo_end_text (UndoEnd.Failed done faults)) }
+fn push_failed<P: Paper>(out: &mut P, done: u32, faults: u32) -> Result<(), P::Error>
+    ensures { OnOk result (P.said out.new ≡ P.said out.old ++ undo_end_text (UndoEnd.Failed done faults)) }
 {
     out.labelled("failed restored ", done as u64)?;
     out.labelled(" faults ", faults as u64)
 }
 
 /// How a compensation ended.
-pub fn push_undo_end(out: &mut Page, end: &UndoEnd) -> Result<(), NoMemory>
-    ensures { OnOk result (out.new ≡ out.old ++ undo_end_text end.now) }
+pub fn push_undo_end<P: Paper>(out: &mut P, end: &UndoEnd) -> Result<(), P::Error>
+    ensures { OnOk result (P.said out.new ≡ P.said out.old ++ undo_end_text end.now) }
 {
     match end {
         UndoEnd::Undone { faults } => out.labelled("done faults ", *faults as u64),
@@ -39,8 +39,13 @@ pub fn push_undo_end(out: &mut Page, end: &UndoEnd) -> Result<(), NoMemory>
     }
 }
 
-fn push_undo(out: &mut Page, number: usize, undo: &Undo, end: &UndoEnd) -> Result<(), NoMemory>
-    ensures { OnOk result (out.new ≡ out.old ++ undo_line number (undo.now, end.now)) }
+fn push_undo<P: Paper>(
+    out: &mut P,
+    number: usize,
+    undo: &Undo,
+    end: &UndoEnd,
+) -> Result<(), P::Error>
+    ensures { OnOk result (P.said out.new ≡ P.said out.old ++ undo_line number (undo.now, end.now)) }
 {
     out.labelled("  undo ", number as u64)?;
     out.text(" ")?;
@@ -51,8 +56,8 @@ fn push_undo(out: &mut Page, number: usize, undo: &Undo, end: &UndoEnd) -> Resul
 }
 
 /// A line for each record, the newest first.
-pub fn push_undos(out: &mut Page, records: &[(Undo, UndoEnd)]) -> Result<(), NoMemory>
-    ensures { OnOk result (out.new ≡ out.old ++ undo_lines 1 records.now) }
+pub fn push_undos<P: Paper>(out: &mut P, records: &[(Undo, UndoEnd)]) -> Result<(), P::Error>
+    ensures { OnOk result (P.said out.new ≡ P.said out.old ++ undo_lines 1 records.now) }
 {
     for at in (0..records.len()).rev() {
         let (undo, end) = &records[at];
@@ -84,8 +89,13 @@ fn remaining_bytes(after: &Chunk, n: u32, k: u32) -> &[u8]
 }
 
 /// Bytes of an overwrite from a place of a file on.
-pub fn push_overwrite(out: &mut Page, file: Num, at: u64, bytes: &[u8]) -> Result<(), NoMemory>
-    ensures { OnOk result (out.new ≡ out.old ++ overwrite_text file at bytes.now) }
+pub fn push_overwrite<P: Paper>(
+    out: &mut P,
+    file: Num,
+    at: u64,
+    bytes: &[u8],
+) -> Result<(), P::Error>
+    ensures { OnOk result (P.said out.new ≡ P.said out.old ++ overwrite_text file at bytes.now) }
 {
     push_labelled(out, "bytes file ", file)?;
     out.labelled(" at ", at)?;
@@ -94,8 +104,8 @@ pub fn push_overwrite(out: &mut Page, file: Num, at: u64, bytes: &[u8]) -> Resul
 }
 
 /// Appended bytes, which a file has from a place on.
-pub fn push_tail(out: &mut Page, file: Num, from: u32, bytes: &[u8]) -> Result<(), NoMemory>
-    ensures { OnOk result (out.new ≡ out.old ++ tail_text file from bytes.now) }
+pub fn push_tail<P: Paper>(out: &mut P, file: Num, from: u32, bytes: &[u8]) -> Result<(), P::Error>
+    ensures { OnOk result (P.said out.new ≡ P.said out.old ++ tail_text file from bytes.now) }
 {
     push_labelled(out, "tail file ", file)?;
     out.labelled(" from ", from as u64)?;
@@ -104,8 +114,8 @@ pub fn push_tail(out: &mut Page, file: Num, from: u32, bytes: &[u8]) -> Result<(
 }
 
 /// A new name and its file.
-pub fn push_made(out: &mut Page, name: &Name, num: Num) -> Result<(), NoMemory>
-    ensures { OnOk result (out.new ≡ out.old ++ made_text name.now num) }
+pub fn push_made<P: Paper>(out: &mut P, name: &Name, num: Num) -> Result<(), P::Error>
+    ensures { OnOk result (P.said out.new ≡ P.said out.old ++ made_text name.now num) }
 {
     out.text("made ")?;
     out.push(name.as_slice())?;
@@ -113,8 +123,8 @@ pub fn push_made(out: &mut Page, name: &Name, num: Num) -> Result<(), NoMemory>
 }
 
 /// A file's name before, and its name now.
-pub fn push_moved(out: &mut Page, from: &Name, to: &Name) -> Result<(), NoMemory>
-    ensures { OnOk result (out.new ≡ out.old ++ moved_text from.now to.now) }
+pub fn push_moved<P: Paper>(out: &mut P, from: &Name, to: &Name) -> Result<(), P::Error>
+    ensures { OnOk result (P.said out.new ≡ P.said out.old ++ moved_text from.now to.now) }
 {
     out.text("moved ")?;
     out.push(from.as_slice())?;
@@ -122,8 +132,8 @@ pub fn push_moved(out: &mut Page, from: &Name, to: &Name) -> Result<(), NoMemory
     out.push(to.as_slice())
 }
 
-fn push_effect(out: &mut Page, undo: &Undo, k: u32) -> Result<(), NoMemory>
-    ensures { OnOk result (out.new ≡ out.old ++ effect_text undo.now k) }
+fn push_effect<P: Paper>(out: &mut P, undo: &Undo, k: u32) -> Result<(), P::Error>
+    ensures { OnOk result (P.said out.new ≡ P.said out.old ++ effect_text undo.now k) }
 {
     match undo {
         Undo::Bytes {
@@ -149,8 +159,8 @@ fn push_effect(out: &mut Page, undo: &Undo, k: u32) -> Result<(), NoMemory>
     }
 }
 
-fn push_remaining(out: &mut Page, undo: &Undo, from: Option<u32>) -> Result<(), NoMemory>
-    ensures { OnOk result (out.new ≡ out.old ++ remaining_line undo.now from) }
+fn push_remaining<P: Paper>(out: &mut P, undo: &Undo, from: Option<u32>) -> Result<(), P::Error>
+    ensures { OnOk result (P.said out.new ≡ P.said out.old ++ remaining_line undo.now from) }
 {
     match from {
         None => Ok(()),
@@ -163,8 +173,8 @@ fn push_remaining(out: &mut Page, undo: &Undo, from: Option<u32>) -> Result<(), 
 }
 
 /// A line for each record whose effect remains, the oldest first.
-pub fn push_remains(out: &mut Page, records: &[(Undo, UndoEnd)]) -> Result<(), NoMemory>
-    ensures { OnOk result (out.new ≡ out.old ++ remains_lines records.now) }
+pub fn push_remains<P: Paper>(out: &mut P, records: &[(Undo, UndoEnd)]) -> Result<(), P::Error>
+    ensures { OnOk result (P.said out.new ≡ P.said out.old ++ remains_lines records.now) }
 {
     for (undo, end) in records {
         push_remaining(out, undo, remaining_from(undo, end))?;

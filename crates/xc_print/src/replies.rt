@@ -3,12 +3,12 @@ ghost use Rattle.xc_print.specs.Replies.{reply_text, late_end_text};
 
 use crate::bytes::push_bytes;
 use crate::objects::push_handled;
-use crate::page::Page;
-use xc_data::{LateEnd, NoMemory, Reply};
+use crate::paper::Paper;
+use xc_data::{LateEnd, Reply};
 
 /// A reply as a journal prints it, after ` = `.
-pub fn push_reply(out: &mut Page, reply: &Reply) -> Result<(), NoMemory>
-    ensures { OnOk result (out.new ≡ out.old ++ (codes " = " ++ reply_text reply.now)) }
+pub fn push_reply<P: Paper>(out: &mut P, reply: &Reply) -> Result<(), P::Error>
+    ensures { OnOk result (P.said out.new ≡ P.said out.old ++ (codes " = " ++ reply_text reply.now)) }
 {
     match reply {
         Reply::Number(n) => out.labelled(" = ", *n),
@@ -38,8 +38,8 @@ pub fn push_reply(out: &mut Page, reply: &Reply) -> Result<(), NoMemory>
 }
 
 /// The end of a late call as a journal prints it.
-pub fn push_late_end(out: &mut Page, end: LateEnd) -> Result<(), NoMemory>
-    ensures { OnOk result (out.new ≡ out.old ++ late_end_text end) }
+pub fn push_late_end<P: Paper>(out: &mut P, end: LateEnd) -> Result<(), P::Error>
+    ensures { OnOk result (P.said out.new ≡ P.said out.old ++ late_end_text end) }
 {
     match end {
         LateEnd::Done => out.text("done"),

@@ -4,4 +4,4 @@ use Rattle.xc_print.proofs.entries.push_journal.Given as goal
 
 -- what is printed and what is left are all
 abbrev pub invariant-loop-entry : goal.invariant-loop-entry
-invariant-loop-entry l = l.out ++ journal_text (drop l.entry-index l.journal) ≡ l.fn.out ++ journal_text l.journal
+invariant-loop-entry g l = g.P.Paper.said l.out ++ journal_text (drop l.entry-index l.journal) ≡ g.P.Paper.said l.fn.out ++ journal_text l.journal

@@ -4,4 +4,4 @@ use Rattle.xc_print.proofs.objects.push_further.Given as goal
 
 -- what is printed and what is left are all
 abbrev pub invariant-loop-claim : goal.invariant-loop-claim
-invariant-loop-claim l = l.out ++ further_claims (drop l.claim-index l.claims) ≡ l.fn.out ++ further_claims l.claims
+invariant-loop-claim g l = g.P.Paper.said l.out ++ further_claims (drop l.claim-index l.claims) ≡ g.P.Paper.said l.fn.out ++ further_claims l.claims

@@ -5,11 +5,11 @@ use Rattle.xc_print.proofs.Pieces.{two_labelled}
 use Rattle.xc_print.proofs.records.push_failed.Goals as goal
 
 pub returns : goal.returns
-returns c =
+returns g c =
     let restored = codes "failed restored " in
     let faults = codes " faults " in
     let first = c.in_ok-labelled.ensures in
-    subst (λ bs. OnOk c.labelled-2.result (c.labelled-2.new.self ≡ bs))
+    subst (λ bs. OnOk c.labelled-2.result (g.P.Paper.said c.labelled-2.new.self ≡ bs))
     (ap (λ bs. bs ++ (faults ++ decimal c.args.faults)) first
-    ∙ two_labelled c.args.out.now restored (decimal c.args.done) faults (decimal c.args.faults))
+    ∙ two_labelled (g.P.Paper.said c.args.out.now) restored (decimal c.args.done) faults (decimal c.args.faults))
     c.labelled-2.ensures

@@ -1,6 +1,6 @@
 use Rattle.std.proofs.Common.{◌-◌, ◌≤◌, length, take}
 use Rattle.std.specs.Io.KnownBytes.{Appends}
-use Rattle.xc_edge.proofs.whole.write_whole.Given as goal
+use Rattle.xc_edge.proofs.whole.write_front.Given as goal
 
 -- a front is written
 abbrev pub invariant-loop-done : goal.invariant-loop-done
