@@ -3,7 +3,7 @@ use Rattle.std.proofs.Common.{◌≡◌, ℕ, List, [], ◌∷◌, ◌++◌, ref
 use Rattle.std.specs.FinMap as map
 use Rattle.xc_data.specs.Remaining.{stopped_at}
 use Rattle.xc_data.specs.declared.undo.Undo.{Undo}
-use Rattle.xc_data.specs.declared.undo.Undo.TheVariants.{Bytes, Tail, Made, Moved, NewPipe, NewPair}
+use Rattle.xc_data.specs.declared.undo.Undo.TheVariants.{Overwrite, Append, Create, Rename, NewPipe, NewPair}
 use Rattle.xc_data.specs.declared.undo.UndoEnd.{UndoEnd}
 use Rattle.xc_data.specs.declared.undo.UndoEnd.TheVariants.{Undone, Failed, Blocked}
 use Rattle.xc_lines.specs.declared.shown.EffectShown.{EffectShown}
@@ -32,20 +32,20 @@ with_all_standing w (effect ∷ effects) = with_all_standing (with_standing w ef
 
 -- of a record that was blocked all stands
 blocked_stands : (w : World) (undo : Undo) → with_effect w undo 0 ≡ with_standing w (effect_shown undo 0)
-blocked_stands w (Bytes file at before after n) = refl
-blocked_stands w (Tail file from after n) = refl
-blocked_stands w (Made name num) = refl
-blocked_stands w (Moved from to) = refl
+blocked_stands w (Overwrite file at before after n) = refl
+blocked_stands w (Append file from after n) = refl
+blocked_stands w (Create name num) = refl
+blocked_stands w (Rename from to) = refl
 blocked_stands w (NewPipe num) = refl
 blocked_stands w (NewPair num) = refl
 
 -- of one that failed what stands from its place on
 failed_stands : (w : World) (undo : Undo) (done : ℕ)
     → with_effect w undo (stopped_at undo done) ≡ with_standing w (effect_shown undo (stopped_at undo done))
-failed_stands w (Bytes file at before after n) done = refl
-failed_stands w (Tail file from after n) done = refl
-failed_stands w (Made name num) done = refl
-failed_stands w (Moved from to) done = refl
+failed_stands w (Overwrite file at before after n) done = refl
+failed_stands w (Append file from after n) done = refl
+failed_stands w (Create name num) done = refl
+failed_stands w (Rename from to) done = refl
 failed_stands w (NewPipe num) done = refl
 failed_stands w (NewPair num) done = refl
 

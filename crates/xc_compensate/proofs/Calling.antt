@@ -4,7 +4,7 @@ use Rattle.xc_data.specs.Counts.{RisesBy}
 use Rattle.xc_data.specs.declared.script.HostCallKind.{HostCallKind}
 use Rattle.xc_data.specs.declared.script.HostCallKind.TheVariants.{Restore}
 use Rattle.xc_data.specs.declared.undo.Undo.{Undo}
-use Rattle.xc_data.specs.declared.undo.Undo.TheVariants.{Bytes, Tail, Made, Moved, NewPipe, NewPair}
+use Rattle.xc_data.specs.declared.undo.Undo.TheVariants.{Overwrite, Append, Create, Rename, NewPipe, NewPair}
 use Rattle.xc_data.specs.declared.undo.UndoEnd.TheVariants.{Undone}
 use Rattle.xc_host.specs.Cause.{without_memory}
 use Rattle.xc_host.specs.Contents.{Contents}
@@ -18,10 +18,10 @@ use Rattle.xc_compensate.specs.declared.undoing.RestoreProgress.{RestoreProgress
 
 -- one call does the one part of a record that isn't an overwrite's
 one_part : (u : Undo) (faults : ℕ) → is_overwrite u ≡ false → PartsOf u (restored_part u (Undone faults)) 1
-one_part (Bytes file at before after n) faults one = cc
-one_part (Tail file from after n) faults one = refl
-one_part (Made name num) faults one = refl
-one_part (Moved from to) faults one = refl
+one_part (Overwrite file at before after n) faults one = cc
+one_part (Append file from after n) faults one = refl
+one_part (Create name num) faults one = refl
+one_part (Rename from to) faults one = refl
 one_part (NewPipe num) faults one = refl
 one_part (NewPair num) faults one = refl
 

@@ -5,7 +5,7 @@ use Rattle.std.proofs.lemmas.List.{length-append, length-set, length-take-le, le
 use Rattle.std.proofs.lemmas.List.Elements.{All-pop, All-push}
 use Rattle.std.specs.List.{All, list_any}
 use Rattle.xc_data.specs.declared.undo.Undo.{Undo}
-use Rattle.xc_data.specs.declared.undo.Undo.TheVariants.{Bytes, Tail, Made, Moved, NewPipe, NewPair}
+use Rattle.xc_data.specs.declared.undo.Undo.TheVariants.{Overwrite, Append, Create, Rename, NewPipe, NewPair}
 use Rattle.xc_world.specs.Ends.{Ending}
 use Rattle.xc_compensate.specs.Hindered.{hinders}
 use Rattle.xc_compensate.specs.Records.{IsRecord, IsStack, split_records, covers, covered}
@@ -34,10 +34,10 @@ stack_keeps_more records now n m hindered r stack none is grown size few =
 
 -- a record that covers fewer bytes, but some, is one too
 record_covered : (u : Undo) (n : ℕ) → IsRecord u → 1 ≤ n → n ≤ covers u → IsRecord (covered u n)
-record_covered (Bytes file at before after m) n is some within = (some, omega (arith, within, is.1), is.2, is.3)
-record_covered (Tail file from after m) n is some within = (some, omega (arith, within, is.1), is.2)
-record_covered (Made name num) n is some within = is
-record_covered (Moved from to) n is some within = is
+record_covered (Overwrite file at before after m) n is some within = (some, omega (arith, within, is.1), is.2, is.3)
+record_covered (Append file from after m) n is some within = (some, omega (arith, within, is.1), is.2)
+record_covered (Create name num) n is some within = is
+record_covered (Rename from to) n is some within = is
 record_covered (NewPipe num) n is some within = is
 record_covered (NewPair num) n is some within = is
 

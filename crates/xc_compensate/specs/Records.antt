@@ -6,7 +6,7 @@ use Rattle.std.specs.declared.option.Option.TheVariants.{None}
 use Rattle.xc_data.specs.Counts.{RisesBy}
 use Rattle.xc_data.specs.Faults.{end_faults}
 use Rattle.xc_data.specs.declared.undo.Undo.{Undo}
-use Rattle.xc_data.specs.declared.undo.Undo.TheVariants.{Bytes, Tail, Made, Moved, NewPipe, NewPair}
+use Rattle.xc_data.specs.declared.undo.Undo.TheVariants.{Overwrite, Append, Create, Rename, NewPipe, NewPair}
 use Rattle.xc_data.specs.declared.undo.UndoEnd.{UndoEnd}
 use Rattle.xc_world.specs.Ends.{Ending, blocker, IsLegalEnd}
 use Rattle.xc_world.specs.Effects.{undone_to, IsCovered}
@@ -25,19 +25,19 @@ pub record Records : Type 0 where
 -- a record that is stored: it covers a front of the new bytes, whose places in the file are a u32's; an overwrite has as many
 -- old ones
 abbrev pub IsRecord : Undo → Type 0
-IsRecord (Bytes file at before after n) = (1 ≤ n) × (n ≤ length after) × (length before ≡ length after) × (at + length after < 2 ^ 32)
-IsRecord (Tail file from after n) = (1 ≤ n) × (n ≤ length after) × (from + length after < 2 ^ 32)
-IsRecord (Made name num) = Unit {0}
-IsRecord (Moved from to) = Unit {0}
+IsRecord (Overwrite file at before after n) = (1 ≤ n) × (n ≤ length after) × (length before ≡ length after) × (at + length after < 2 ^ 32)
+IsRecord (Append file from after n) = (1 ≤ n) × (n ≤ length after) × (from + length after < 2 ^ 32)
+IsRecord (Create name num) = Unit {0}
+IsRecord (Rename from to) = Unit {0}
 IsRecord (NewPipe num) = Unit {0}
 IsRecord (NewPair num) = Unit {0}
 
 -- whether the host puts a record's bytes back piece by piece; one call undoes each other kind
 abbrev pub is_overwrite : Undo → Bool
-is_overwrite (Bytes file at before after n) = true
-is_overwrite (Tail file from after n) = false
-is_overwrite (Made name num) = false
-is_overwrite (Moved from to) = false
+is_overwrite (Overwrite file at before after n) = true
+is_overwrite (Append file from after n) = false
+is_overwrite (Create name num) = false
+is_overwrite (Rename from to) = false
 is_overwrite (NewPipe num) = false
 is_overwrite (NewPair num) = false
 
@@ -54,17 +54,17 @@ pub record IsStack (records : List Ending) (pending : ℕ) (hindered : Bool) : T
 
 -- how many bytes a record covers
 abbrev pub covers : Undo → ℕ
-covers (Bytes file at before after n) = n
-covers (Tail file from after n) = n
-covers (Made name num) = 0
-covers (Moved from to) = 0
+covers (Overwrite file at before after n) = n
+covers (Append file from after n) = n
+covers (Create name num) = 0
+covers (Rename from to) = 0
 covers (NewPipe num) = 0
 covers (NewPair num) = 0
 
 -- the record, covering its first n bytes
 abbrev pub covered : Undo → ℕ → Undo
-covered (Bytes file at before after m) n = Bytes file at before after n
-covered (Tail file from after m) n = Tail file from after n
+covered (Overwrite file at before after m) n = Overwrite file at before after n
+covered (Append file from after m) n = Append file from after n
 covered u n = u
 
 -- what is left of a record that covers its first n bytes; none where n is 0

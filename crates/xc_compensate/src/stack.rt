@@ -57,9 +57,9 @@ fn cover(undo: &mut Undo, n: u32)
     ensures { undo.new ≡ covered undo.old n }
 {
     match undo {
-        Undo::Bytes { n: covers, .. } => *covers = n,
-        Undo::Tail { n: covers, .. } => *covers = n,
-        Undo::Made { .. } | Undo::Moved { .. } | Undo::NewPipe(_) | Undo::NewPair(_) => {}
+        Undo::Overwrite { n: covers, .. } => *covers = n,
+        Undo::Append { n: covers, .. } => *covers = n,
+        Undo::Create { .. } | Undo::Rename { .. } | Undo::NewPipe(_) | Undo::NewPair(_) => {}
     }
 }
 

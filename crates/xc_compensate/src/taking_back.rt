@@ -22,12 +22,12 @@ fn call_back<H: Host>(host: &mut H, undo: &Undo) -> Result<(), Fault>
         (λ _ c. contents_of (undone (world_of c) undo.now)) }
 {
     match undo {
-        Undo::Tail { file, from, .. } => host.cut(*file, *from),
-        Undo::Made { name, num } => host.uncreate(name.value(), *num),
-        Undo::Moved { from, to } => host.name_back(from.value(), to.value()),
+        Undo::Append { file, from, .. } => host.cut(*file, *from),
+        Undo::Create { name, num } => host.uncreate(name.value(), *num),
+        Undo::Rename { from, to } => host.name_back(from.value(), to.value()),
         Undo::NewPipe(num) => host.drop_pipe(*num),
         Undo::NewPair(num) => host.drop_pair(*num),
-        Undo::Bytes { .. } => unreachable!(),
+        Undo::Overwrite { .. } => unreachable!(),
     }
 }
 

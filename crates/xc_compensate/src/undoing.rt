@@ -151,14 +151,16 @@ fn undo_one<H: Host>(host: &mut H, undo: &Undo, tries: u32) -> UndoEnd
     ensures undoes { Undoes H.model undo.now (record { old = host.old; new = host.new }) result }
 {
     match undo {
-        Undo::Bytes {
+        Undo::Overwrite {
             file,
             at,
             before,
             n,
             ..
         } => restore_whole(host, *file, *at, &before.as_slice()[..*n as usize], tries),
-        Undo::Tail { .. } | Undo::Made { .. } | Undo::Moved { .. } => take_back(host, undo, tries),
+        Undo::Append { .. } | Undo::Create { .. } | Undo::Rename { .. } => take_back(
+            host, undo, tries,
+        ),
         Undo::NewPipe(_) | Undo::NewPair(_) => take_back(host, undo, tries),
     }
 }

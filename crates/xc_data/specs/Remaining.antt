@@ -4,25 +4,25 @@ use Rattle.std.specs.declared.option.Option.TheVariants.{None, Some}
 use Rattle.xc_data.specs.declared.object.Object.{Object}
 use Rattle.xc_data.specs.declared.object.Object.TheVariants as object
 use Rattle.xc_data.specs.declared.undo.Undo.{Undo}
-use Rattle.xc_data.specs.declared.undo.Undo.TheVariants.{Bytes, Tail, Made, Moved, NewPipe, NewPair}
+use Rattle.xc_data.specs.declared.undo.Undo.TheVariants.{Overwrite, Append, Create, Rename, NewPipe, NewPair}
 use Rattle.xc_data.specs.declared.undo.UndoEnd.{UndoEnd}
 use Rattle.xc_data.specs.declared.undo.UndoEnd.TheVariants.{Undone, Failed, Blocked}
 
 -- the objects that a record speaks of
 abbrev pub objects_of : Undo → List Object
-objects_of (Bytes file at before after n) = object.File file ∷ []
-objects_of (Tail file from after n) = object.File file ∷ []
-objects_of (Made name num) = object.Name name ∷ object.File num ∷ []
-objects_of (Moved from to) = object.Name from ∷ object.Name to ∷ []
+objects_of (Overwrite file at before after n) = object.File file ∷ []
+objects_of (Append file from after n) = object.File file ∷ []
+objects_of (Create name num) = object.Name name ∷ object.File num ∷ []
+objects_of (Rename from to) = object.Name from ∷ object.Name to ∷ []
 objects_of (NewPipe num) = object.Pipe num ∷ []
 objects_of (NewPair num) = object.Pair num ∷ []
 
 -- where a failed compensation stopped: after the restored bytes of an overwrite, else before all
 abbrev pub stopped_at : Undo → ℕ → ℕ
-stopped_at (Bytes file at before after n) done = done
-stopped_at (Tail file from after n) done = 0
-stopped_at (Made name num) done = 0
-stopped_at (Moved from to) done = 0
+stopped_at (Overwrite file at before after n) done = done
+stopped_at (Append file from after n) done = 0
+stopped_at (Create name num) done = 0
+stopped_at (Rename from to) done = 0
 stopped_at (NewPipe num) done = 0
 stopped_at (NewPair num) done = 0
 
@@ -34,10 +34,10 @@ remains_from undo (Blocked by) = Some 0
 
 -- whether a failed compensation left something: an overwrite that was restored whole left nothing
 abbrev pub failed_short : Undo → ℕ → Bool
-failed_short (Bytes file at before after n) done = nat_lt done n
-failed_short (Tail file from after n) done = true
-failed_short (Made name num) done = true
-failed_short (Moved from to) done = true
+failed_short (Overwrite file at before after n) done = nat_lt done n
+failed_short (Append file from after n) done = true
+failed_short (Create name num) done = true
+failed_short (Rename from to) done = true
 failed_short (NewPipe num) done = true
 failed_short (NewPair num) done = true
 

@@ -88,8 +88,8 @@ fn is_left(undo: &Undo, end: &UndoEnd) -> bool
         UndoEnd::Undone { .. } => false,
         UndoEnd::Blocked { .. } => true,
         UndoEnd::Failed { done, .. } => match undo {
-            Undo::Bytes { n, .. } => done < n,
-            Undo::Tail { .. } | Undo::Made { .. } | Undo::Moved { .. } => true,
+            Undo::Overwrite { n, .. } => done < n,
+            Undo::Append { .. } | Undo::Create { .. } | Undo::Rename { .. } => true,
             Undo::NewPipe(_) | Undo::NewPair(_) => true,
         },
     }

@@ -10,7 +10,7 @@ use std::alloc::Global;
 pub enum Undo {
     /// An overwrite at `at`. It covers the first `n` of the bytes `after`; `before` is what stood
     /// under all of them.
-    Bytes {
+    Overwrite {
         file: Num,
         at: u32,
         before: Chunk,
@@ -18,19 +18,19 @@ pub enum Undo {
         n: u32,
     },
     /// An append to a file that had `from` bytes. It covers the first `n` of the bytes `after`.
-    Tail {
+    Append {
         file: Num,
         from: u32,
         after: Chunk,
         n: u32,
     },
     /// A new file under a new name.
-    Made {
+    Create {
         name: SharedName,
         num: Num,
     },
     /// A file that went from one name to another.
-    Moved {
+    Rename {
         from: SharedName,
         to: SharedName,
     },
@@ -59,14 +59,14 @@ impl Undo {
     {
         let mut objects = SmallVec::new(alloc);
         match self {
-            Undo::Bytes { file, .. } | Undo::Tail { file, .. } => {
+            Undo::Overwrite { file, .. } | Undo::Append { file, .. } => {
                 objects.push_reserved(Object::File(*file));
             }
-            Undo::Made { name, num } => {
+            Undo::Create { name, num } => {
                 objects.push_reserved(Object::Name(name.again()));
                 objects.push_reserved(Object::File(*num));
             }
-            Undo::Moved { from, to } => {
+            Undo::Rename { from, to } => {
                 objects.push_reserved(Object::Name(from.again()));
                 objects.push_reserved(Object::Name(to.again()));
             }

@@ -13,7 +13,7 @@ use Rattle.xc_data.specs.declared.call.Answer.TheVariants as answer
 use Rattle.xc_data.specs.declared.private.Place.TheVariants.{File}
 use Rattle.xc_data.specs.declared.private.Private.{Private}
 use Rattle.xc_data.specs.declared.undo.Undo.{Undo}
-use Rattle.xc_data.specs.declared.undo.Undo.TheVariants.{Tail}
+use Rattle.xc_data.specs.declared.undo.Undo.TheVariants.{Append}
 use Rattle.xc_data.specs.Private.{place_of}
 use Rattle.xc_world.specs.World.{World}
 use Rattle.xc_world.specs.Act.{act}
@@ -25,7 +25,7 @@ use Rattle.xc_world.specs.Trail.{recorded, append_record}
 use Rattle.xc_host.specs.Contents.{Contents, file_in, with_contents}
 use Rattle.xc_host.specs.Model.{HostModel}
 use Rattle.xc_compensate.specs.Records.{Records}
-use Rattle.xc_file.specs.Appending.{Appends, StopsShort, tail}
+use Rattle.xc_file.specs.Appending.{Appends, StopsShort, appended_record}
 use Rattle.xc_calls.specs.Calls.{CallState, CallView, ActsAsPlain, AreRecorded, DidPart, IsHostCall}
 use Rattle.xc_calls.specs.Passing.{Passes}
 use Rattle.xc_file.specs.declared.checks.OpenFile.{OpenFile}
@@ -66,15 +66,16 @@ part_of call was is made r acts records = record {
 front_part : (was is : Contents) (number : ℕ) (me : Private) (h : ℕ) (num : Num) (at : ℕ) (bytes : List ℕ) (from n : ℕ)
     → (length bytes ≤ 1024) × (me.stored + length bytes ≤ 16384) → place_of me.places h ≡ File num at → 0 < length bytes
     → Appends was is num bytes (Fault n) → from ≡ length (file_in was num)
-    → DidPart (XWriteSeq h bytes) (call_view_at was number me) is (tail num from bytes n)
+    → DidPart (XWriteSeq h bytes) (call_view_at was number me) is (appended_record num from bytes n)
 front_part was is number me h num at bytes from n (big, much) there some did end =
-    part_of (XWriteSeq h bytes) (call_view_at was number me) (call_view_at is number (me_behind_append me (at_end was h num) bytes n)) (tail num from bytes n)
+    part_of (XWriteSeq h bytes) (call_view_at was number me) (call_view_at is number (me_behind_append me (at_end was h num) bytes n))
+    (appended_record num from bytes n)
     (Fault n)
     (record {
       step = λ w. front_step was is number me h num at bytes n w big much there some did;
       fits = λ w. front_fits was is number me h num at bytes n w big much there some did;
     })
-    (λ w. ap (λ k. tail num k bytes n) end ∙ ap (append_record (with_contents w was) bytes n) (sym there))
+    (λ w. ap (λ k. appended_record num k bytes n) end ∙ ap (append_record (with_contents w was) bytes n) (sym there))
 
 one_at_most : (b : Bool) (u : Undo) → length (if b then [] else u ∷ []) ≤ 1
 one_at_most true u = omega arith
@@ -91,14 +92,14 @@ pub append_call : {H : Type 0} (model : HostModel H) (h : ℕ) (bytes : List ℕ
 append_call model h bytes num at old new (Ok r) free few there none passes grows stops some =
     replied_call model (XWriteSeq h bytes) old new r free passes grows
 append_call model h bytes num at old new (Err e) free few there none passes grows stops some =
-    let made = tail num stops.from bytes stops.done in
+    let made = appended_record num stops.from bytes stops.done in
     record {
       checked = tt;
       unchanged = some_refusal (refusal_of (XWriteSeq h bytes) old.me) _ free;
       after = tt;
       uses = passes.uses;
       made = made;
-      one = one_at_most (stops.done == 0) (Tail num stops.from bytes stops.done);
+      one = one_at_most (stops.done == 0) (Append num stops.from bytes stops.done);
       kinds = tt;
       undo = stops.undo ∙ ap (λ (rs : List Ending). let u : Records = record { pending = old.undo.pending ++ made; ended = rs } in u) (sym none);
       acts = λ _. tt;

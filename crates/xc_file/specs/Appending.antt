@@ -9,7 +9,7 @@ use Rattle.xc_data.specs.declared.call.Reply.TheVariants.{Done, TooBig, Fault}
 use Rattle.xc_data.specs.declared.script.HostCallKind.{HostCallKind}
 use Rattle.xc_data.specs.declared.script.HostCallKind.TheVariants as kind
 use Rattle.xc_data.specs.declared.undo.Undo.{Undo}
-use Rattle.xc_data.specs.declared.undo.Undo.TheVariants.{Tail}
+use Rattle.xc_data.specs.declared.undo.Undo.TheVariants.{Append}
 use Rattle.xc_host.specs.Cause.{is_fault}
 use Rattle.xc_host.specs.Contents.{Contents, file_in, appended_front}
 use Rattle.xc_host.specs.Model.{HostModel}
@@ -33,8 +33,8 @@ Appends was is file bytes (Fault n) = (is ≡ appended_front was file (take n by
 Appends was is file bytes _ = ⊥
 
 -- the record of n bytes that were appended to a file of `from` bytes; none where n is 0
-abbrev pub tail : Num → ℕ → List ℕ → ℕ → List Undo
-tail file from bytes n = if n == 0 then [] else Tail file from bytes n ∷ []
+abbrev pub appended_record : Num → ℕ → List ℕ → ℕ → List Undo
+appended_record file from bytes n = if n == 0 then [] else Append file from bytes n ∷ []
 
 -- the calls of an append of n bytes that did so many, by what ended it
 abbrev pub AppendsUntil : ℕ → ℕ → Result (Unit {0}) HostErr → List HostCallKind → Type 0
@@ -56,6 +56,6 @@ pub record IsAppended {H : Type 0} (model : HostModel H) (file : Num) (bytes : L
 pub record StopsShort {H : Type 0} (model : HostModel H) (file : Num) (bytes : List ℕ) (old new : AtHost H) : Type 0 where
   pub from : ℕ
   pub done : ℕ
-  pub undo : new.undo ≡ record { pending = old.undo.pending ++ tail file from bytes done; ended = [] }
+  pub undo : new.undo ≡ record { pending = old.undo.pending ++ appended_record file from bytes done; ended = [] }
   pub end : IsTrue model.tells → from ≡ length (file_in (model.contents old.host) file)
   pub told : IsTrue model.tells → Appends (model.contents old.host) (model.contents new.host) file bytes (Fault done)

@@ -10,7 +10,7 @@ ghost use Rattle.xc_world.specs.Trail.{done_of};
 ghost use Rattle.xc_host.specs.Contents.{file_in};
 ghost use Rattle.xc_host.specs.Model.{IsUsed};
 ghost use Rattle.xc_host.specs.Uses.{Uses};
-ghost use Rattle.xc_file.specs.Appending.{Appends, HasFileRoom, IsAppended, tail};
+ghost use Rattle.xc_file.specs.Appending.{Appends, HasFileRoom, IsAppended, appended_record};
 ghost use Rattle.xc_calls.specs.Calls.{IsHostCall, IsPassedReply, PassedBy, replies_fault};
 ghost use Rattle.xc_world.specs.After.{IsAppendedAt, bytes_in};
 ghost use Rattle.xc_file.specs.Checks.{IsOpenAt, IsOpenIn};
@@ -72,17 +72,17 @@ fn append_whole<H: Host>(host: &mut H, file: Num, bytes: &[u8]) -> Appended
 }
 
 // Pushes the record of an append that does all the bytes.
-fn push_tail(undo: &mut Stack, file: Num, from: u32, bytes: &Chunk) -> Result<(), NoMemory>
+fn push_append(undo: &mut Stack, file: Num, from: u32, bytes: &Chunk) -> Result<(), NoMemory>
     requires some { 0 < length bytes.now }
     requires room { from + length bytes.now < 2 ^ 32 }
     requires none { undo.old.ended ≡ [] }
     ensures ok { OnOk result (undo.new
-        ≡ record { pending = undo.old.pending ++ tail file from bytes.now (length bytes.now); ended = [] }) }
+        ≡ record { pending = undo.old.pending ++ appended_record file from bytes.now (length bytes.now); ended = [] }) }
     ensures err { OnErr result (undo.new ≡ undo.old) }
 {
     let after = bytes.share()?;
     let n = bytes.len() as u32;
-    undo.push(Undo::Tail {
+    undo.push(Undo::Append {
         file,
         from,
         after,
@@ -106,9 +106,9 @@ fn append_recorded<H: Host>(
     requires none { undo.old.ended ≡ [] }
     ensures appended { IsAppended H.model file bytes.now (record { old = host.old; new = host.new }) result }
     ensures records { undo.new
-        ≡ record { pending = undo.old.pending ++ tail file from bytes.now result.done; ended = [] } }
+        ≡ record { pending = undo.old.pending ++ appended_record file from bytes.now result.done; ended = [] } }
 {
-    if push_tail(undo, file, from, bytes).is_err() {
+    if push_append(undo, file, from, bytes).is_err() {
         return Appended {
             done: 0,
             end: Err(HostErr::NoMemory),

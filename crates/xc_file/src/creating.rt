@@ -30,7 +30,7 @@ fn create_recorded<H: Host>(
     ensures uses { Uses H.model (record { old = host.old; new = host.new }) (CreatesOnce result) }
 {
     let num = Num { tx, k: me.made };
-    undo.push(Undo::Made {
+    undo.push(Undo::Create {
         name: name.again(),
         num,
     })?;

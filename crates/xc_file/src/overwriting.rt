@@ -7,7 +7,7 @@ ghost use Rattle.xc_data.specs.Private.{place_of};
 ghost use Rattle.xc_data.specs.declared.call.Call.TheVariants.{XWriteOvr};
 ghost use Rattle.xc_data.specs.declared.private.Place.TheVariants.{File};
 ghost use Rattle.xc_data.specs.declared.script.HostCallKind.TheVariants.{WriteAt};
-ghost use Rattle.xc_data.specs.declared.undo.Undo.TheVariants.{Bytes};
+ghost use Rattle.xc_data.specs.declared.undo.Undo.TheVariants.{Overwrite};
 ghost use Rattle.xc_world.specs.Trail.{done_of};
 ghost use Rattle.xc_host.specs.Cause.{is_fault};
 ghost use Rattle.xc_host.specs.Contents.{file_in, wrote_front};
@@ -80,7 +80,7 @@ fn write_recorded<H: Host>(
         → IfOk result (λ written. H.model.contents host.new
         ≡ wrote_front (H.model.contents host.old) file at (take written.done bytes.now)) }
     ensures records { IfOk result (λ written. undo.new ≡ record {
-      pending = undo.old.pending ++ (if written.done == 0 then [] else Bytes file at before.items bytes.now written.done ∷ []);
+      pending = undo.old.pending ++ (if written.done == 0 then [] else Overwrite file at before.items bytes.now written.done ∷ []);
       ended = [];
     }) }
     ensures err_undo { OnErr result (undo.new ≡ undo.old) }
@@ -90,7 +90,7 @@ fn write_recorded<H: Host>(
     let before = Chunk::from_vec(before)?;
     let after = bytes.share()?;
     let n = bytes.len() as u32;
-    let record = Undo::Bytes {
+    let record = Undo::Overwrite {
         file,
         at,
         before,

@@ -26,7 +26,7 @@ fn rename_recorded<H: Host>(
       new = record { host = host.new; undo = undo.new };
     }) result }
 {
-    let record = Undo::Moved {
+    let record = Undo::Rename {
         from: from.again(),
         to: to.again(),
     };

@@ -48,12 +48,12 @@ newest_undone s job t older u end f sound made newest tries legal =
 -- ---- its abort
 -- a record of one transaction makes nothing that another is still to make
 coined_spares : (me : Private) (m n : ℕ) (u : Undo) → n ≢ m → Coined n u → SparesNew me m u
-coined_spares me m n (undo.Made name num) ne coined = λ e. absurd (ne (sym coined ∙ e))
+coined_spares me m n (undo.Create name num) ne coined = λ e. absurd (ne (sym coined ∙ e))
 coined_spares me m n (undo.NewPipe num) ne coined = λ e. absurd (ne (sym coined ∙ e))
 coined_spares me m n (undo.NewPair num) ne coined = λ e. absurd (ne (sym coined ∙ e))
-coined_spares me m n (undo.Bytes file at before after k) ne coined = tt
-coined_spares me m n (undo.Tail file from after k) ne coined = tt
-coined_spares me m n (undo.Moved from to) ne coined = tt
+coined_spares me m n (undo.Overwrite file at before after k) ne coined = tt
+coined_spares me m n (undo.Append file from after k) ne coined = tt
+coined_spares me m n (undo.Rename from to) ne coined = tt
 
 module _ (s : FlightState) (job : ℕ) (t : Tx) (f : Flies s job t Undoing) where
   ended_spare : (me : Private) (m : ℕ) → t.number ≢ m → All (SparesNew me m) (map (λ r. r.0) t.ended)

@@ -152,7 +152,7 @@ moved_filled w from to (Some q) (Bytes num bytes) = refl
 moved_filled w from to (Some q) (Message num side bytes) = refl
 
 effect_empty : (w : World) (u : Undo) (j : ℕ) (k : KeptItem) → amount_in w k ≡ 0 → amount_in (with_effect w u j) k ≡ 0
-effect_empty w (undo.Moved from to) j k e = moved_filled w from to (finite.get w.names from) k ∙ e
+effect_empty w (undo.Rename from to) j k e = moved_filled w from to (finite.get w.names from) k ∙ e
 effect_empty w (undo.NewPipe n) j (Bytes num bytes) e = elim (get-insert_cases num_total num_exact w.pipes n num empty_pipe) [
   | inl same ↦ ap in_pipe same.1
   | inr other ↦ ap in_pipe other ∙ e
@@ -163,12 +163,12 @@ effect_empty w (undo.NewPair n) j (Message num side bytes) e = elim (get-insert_
 ]
 effect_empty w (undo.NewPipe n) j (Message num side bytes) e = e
 effect_empty w (undo.NewPair n) j (Bytes num bytes) e = e
-effect_empty w (undo.Bytes file at before after n) j (Bytes num bytes) e = e
-effect_empty w (undo.Bytes file at before after n) j (Message num side bytes) e = e
-effect_empty w (undo.Tail file from after n) j (Bytes num bytes) e = e
-effect_empty w (undo.Tail file from after n) j (Message num side bytes) e = e
-effect_empty w (undo.Made name file) j (Bytes num bytes) e = e
-effect_empty w (undo.Made name file) j (Message num side bytes) e = e
+effect_empty w (undo.Overwrite file at before after n) j (Bytes num bytes) e = e
+effect_empty w (undo.Overwrite file at before after n) j (Message num side bytes) e = e
+effect_empty w (undo.Append file from after n) j (Bytes num bytes) e = e
+effect_empty w (undo.Append file from after n) j (Message num side bytes) e = e
+effect_empty w (undo.Create name file) j (Bytes num bytes) e = e
+effect_empty w (undo.Create name file) j (Message num side bytes) e = e
 
 -- after several
 pub remains_empty : (w : World) (us : List (Undo × ℕ)) (k : KeptItem) → amount_in w k ≡ 0 → amount_in (with_remains w us) k ≡ 0
@@ -182,7 +182,7 @@ new_empty w n (Message q side bytes) free e = ap in_pair (subst (λ tx. finite.g
 
 -- ---- its records make nothing, and speak of no pipe or pair, but under its own number
 abbrev pub Coined : ℕ → Undo → Type 0
-Coined tx (undo.Made name n) = n.tx ≡ tx
+Coined tx (undo.Create name n) = n.tx ≡ tx
 Coined tx (undo.NewPipe n) = n.tx ≡ tx
 Coined tx (undo.NewPair n) = n.tx ≡ tx
 Coined tx _ = Unit {0}
@@ -192,23 +192,23 @@ one_or_none tx true u coined = All-nil (Coined tx)
 one_or_none tx false u coined = All-cons (Coined tx) u [] coined (All-nil (Coined tx))
 
 overwrite_coined : (tx : ℕ) (w : World) (bytes : List ℕ) (n : ℕ) (p : Place) → All (Coined tx) (overwrite_record w bytes n p)
-overwrite_coined tx w bytes n (place.File q at) = one_or_none tx (n == 0) (undo.Bytes q at _ bytes n) tt
+overwrite_coined tx w bytes n (place.File q at) = one_or_none tx (n == 0) (undo.Overwrite q at _ bytes n) tt
 overwrite_coined tx w bytes n place.Vacant = All-nil (Coined tx)
 overwrite_coined tx w bytes n (place.Pipe q) = All-nil (Coined tx)
 overwrite_coined tx w bytes n (place.Pair q side) = All-nil (Coined tx)
 
 append_coined : (tx : ℕ) (w : World) (bytes : List ℕ) (n : ℕ) (p : Place) → All (Coined tx) (append_record w bytes n p)
-append_coined tx w bytes n (place.File q at) = one_or_none tx (n == 0) (undo.Tail q _ bytes n) tt
+append_coined tx w bytes n (place.File q at) = one_or_none tx (n == 0) (undo.Append q _ bytes n) tt
 append_coined tx w bytes n place.Vacant = All-nil (Coined tx)
 append_coined tx w bytes n (place.Pipe q) = All-nil (Coined tx)
 append_coined tx w bytes n (place.Pair q side) = All-nil (Coined tx)
 
 create_coined : (me : Private) (tx : ℕ) (name : List ℕ) (r : Reply) → All (Coined tx) (create_record me tx name r)
-create_coined me tx name (reply.Made h) = All-cons (Coined tx) (undo.Made name _) [] refl (All-nil (Coined tx))
+create_coined me tx name (reply.Made h) = All-cons (Coined tx) (undo.Create name _) [] refl (All-nil (Coined tx))
 create_coined me tx name _ = All-nil (Coined tx)
 
 rename_coined : (tx : ℕ) (from to : List ℕ) (r : Reply) → All (Coined tx) (rename_record from to r)
-rename_coined tx from to reply.Done = All-cons (Coined tx) (undo.Moved from to) [] tt (All-nil (Coined tx))
+rename_coined tx from to reply.Done = All-cons (Coined tx) (undo.Rename from to) [] tt (All-nil (Coined tx))
 rename_coined tx from to _ = All-nil (Coined tx)
 
 pipe_coined : (me : Private) (tx : ℕ) (r : Reply) → All (Coined tx) (pipe_record me tx r)

@@ -157,11 +157,11 @@ not_the_pair n k pair own elsewhere e = elsewhere (subst (IsNumbered n) (sym e) 
 
 -- no record speaks of what was taken
 pub all_away : (n : ℕ) (u : Undo) (k : KeptItem) → Coined n u → (IsNumbered n (item_object k) → ⊥) → All (λ p. item_object k ≢ p) (objects_of u)
-all_away n (undo.Bytes file at before after m) k coined elsewhere = one_away k (object.File file) (not_a_file k file)
-all_away n (undo.Tail file from after m) k coined elsewhere = one_away k (object.File file) (not_a_file k file)
-all_away n (undo.Made name file) k coined elsewhere =
+all_away n (undo.Overwrite file at before after m) k coined elsewhere = one_away k (object.File file) (not_a_file k file)
+all_away n (undo.Append file from after m) k coined elsewhere = one_away k (object.File file) (not_a_file k file)
+all_away n (undo.Create name file) k coined elsewhere =
     All-cons (λ p. item_object k ≢ p) (object.Name name) (object.File file ∷ []) (not_a_name k name) (one_away k (object.File file) (not_a_file k file))
-all_away n (undo.Moved from to) k coined elsewhere =
+all_away n (undo.Rename from to) k coined elsewhere =
     All-cons (λ p. item_object k ≢ p) (object.Name from) (object.Name to ∷ []) (not_a_name k from) (one_away k (object.Name to) (not_a_name k to))
 all_away n (undo.NewPipe pipe) k coined elsewhere = one_away k (object.Pipe pipe) (not_the_pipe n k pipe coined elsewhere)
 all_away n (undo.NewPair pair) k coined elsewhere = one_away k (object.Pair pair) (not_the_pair n k pair coined elsewhere)

@@ -13,7 +13,7 @@ use Rattle.xc_data.specs.declared.call.Reply.TheVariants as reply
 use Rattle.xc_data.specs.declared.script.HostCallKind.{HostCallKind}
 use Rattle.xc_data.specs.declared.script.HostCallKind.TheVariants as kind
 use Rattle.xc_data.specs.declared.undo.Undo.{Undo}
-use Rattle.xc_data.specs.declared.undo.Undo.TheVariants.{Bytes, Tail, Made, Moved, NewPipe, NewPair}
+use Rattle.xc_data.specs.declared.undo.Undo.TheVariants.{Overwrite, Append, Create, Rename, NewPipe, NewPair}
 use Rattle.xc_data.specs.declared.undo.UndoEnd.{UndoEnd}
 use Rattle.xc_data.specs.declared.undo.UndoEnd.TheVariants.{Undone, Failed, Blocked}
 use Rattle.xc_data.specs.Step.{Step}
@@ -156,21 +156,21 @@ LatesFor c end made = made ≡ []
 -- ---- a compensation
 -- the kind that takes a record back
 abbrev pub back_kind : Undo → HostCallKind
-back_kind (Bytes file at before after n) = kind.Restore
-back_kind (Tail file from after n) = kind.Cut
-back_kind (Made name num) = kind.Uncreate
-back_kind (Moved from to) = kind.NameBack
+back_kind (Overwrite file at before after n) = kind.Restore
+back_kind (Append file from after n) = kind.Cut
+back_kind (Create name num) = kind.Uncreate
+back_kind (Rename from to) = kind.NameBack
 back_kind (NewPipe num) = kind.DropPipe
 back_kind (NewPair num) = kind.DropPair
 
 -- how many calls did their part of one that restored so many bytes: an overwrite goes piece by piece, and all else is one call
 abbrev pub PartsOf : Undo → ℕ → ℕ → Type 0
-PartsOf (Bytes file at before after n) done count = MayMove done count
+PartsOf (Overwrite file at before after n) done count = MayMove done count
 PartsOf u done count = count ≡ done
 
 -- how much of a record this end restored
 abbrev pub restored_part : Undo → UndoEnd → ℕ
-restored_part (Bytes file at before after n) (Undone faults) = n
+restored_part (Overwrite file at before after n) (Undone faults) = n
 restored_part u (Undone faults) = 1
 restored_part u (Failed done faults) = done
 restored_part u (Blocked by) = 0

@@ -48,10 +48,10 @@ module _ (you : Private) (ty tx : ℕ) (apart : ty ≢ tx) where
   recorded_spares w me c r =
       each_recorded (All (SparesNew you ty)) w me tx c r (record {
         none = All-nil (SparesNew you ty);
-        bytes = λ write file at before after n. one _ tt;
-        tail = λ write file from after n. one _ tt;
-        made = λ name. one _ (λ e. absurd (apart (sym e)));
-        moved = λ from to. one _ tt;
+        overwrite = λ write file at before after n. one _ tt;
+        append = λ write file from after n. one _ tt;
+        create = λ name. one _ (λ e. absurd (apart (sym e)));
+        rename = λ from to. one _ tt;
         pipe = one _ (λ e. absurd (apart (sym e)));
         pair = one _ (λ e. absurd (apart (sym e)));
       })

@@ -15,7 +15,7 @@ use Rattle.xc_data.specs.declared.private.Place.{Place}
 use Rattle.xc_data.specs.declared.private.Place.TheVariants as place
 use Rattle.xc_data.specs.declared.private.Private.{Private}
 use Rattle.xc_data.specs.declared.undo.Undo.{Undo}
-use Rattle.xc_data.specs.declared.undo.Undo.TheVariants.{Bytes, Tail, Made, Moved, NewPipe, NewPair}
+use Rattle.xc_data.specs.declared.undo.Undo.TheVariants.{Overwrite, Append, Create, Rename, NewPipe, NewPair}
 use Rattle.xc_compensate.specs.Records.{covered, covers}
 use Rattle.xc_model.specs.EntryEnds.{AreLeftBy}
 use Rattle.xc_world.specs.Act.{act, done, faulty, fine}
@@ -34,19 +34,19 @@ use Rattle.xc_judge.proofs.Stopped.{append_fault, overwrite_fault, undone_leaves
 -- ---- records of one call
 -- a record of a write covers all that was to be written
 abbrev pub IsFull : Undo → Type 0
-IsFull (Bytes file at before after n) = n ≡ length after
-IsFull (Tail file from after n) = n ≡ length after
-IsFull (Made name num) = Unit {0}
-IsFull (Moved from to) = Unit {0}
+IsFull (Overwrite file at before after n) = n ≡ length after
+IsFull (Append file from after n) = n ≡ length after
+IsFull (Create name num) = Unit {0}
+IsFull (Rename from to) = Unit {0}
 IsFull (NewPipe num) = Unit {0}
 IsFull (NewPair num) = Unit {0}
 
 -- a record with its own length is itself
 pub covered_own : (u : Undo) → u ≡ covered u (covers u)
-covered_own (Bytes file at before after n) = refl
-covered_own (Tail file from after n) = refl
-covered_own (Made name num) = refl
-covered_own (Moved from to) = refl
+covered_own (Overwrite file at before after n) = refl
+covered_own (Append file from after n) = refl
+covered_own (Create name num) = refl
+covered_own (Rename from to) = refl
 covered_own (NewPipe num) = refl
 covered_own (NewPair num) = refl
 
@@ -64,10 +64,10 @@ pub record LeftFrom (w : World) (me : Private) (tx : ℕ) (c : Call) (u : Undo) 
 
 -- its length is the last one
 covered_twice : (k n : ℕ) (u : Undo) → covered u k ≡ covered (covered u n) k
-covered_twice k n (Bytes file at before after m) = refl
-covered_twice k n (Tail file from after m) = refl
-covered_twice k n (Made name num) = refl
-covered_twice k n (Moved from to) = refl
+covered_twice k n (Overwrite file at before after m) = refl
+covered_twice k n (Append file from after m) = refl
+covered_twice k n (Create name num) = refl
+covered_twice k n (Rename from to) = refl
 covered_twice k n (NewPipe num) = refl
 covered_twice k n (NewPair num) = refl
 
@@ -122,10 +122,10 @@ of_overwrite : (w : World) (bytes : List ℕ) (p : Place) (n : ℕ) (u : Undo) �
     → OfWrite (λ k. overwrite_record w bytes k p) (length bytes) n u
 of_overwrite w bytes (place.File num at) n u e =
     let before = take (length bytes) (drop at (file_of w num)) in
-    let both = by_some (n == 0) (Bytes num at before bytes n) u e in
+    let both = by_some (n == 0) (Overwrite num at before bytes n) u e in
     subst (OfWrite (λ k. overwrite_record w bytes k (place.File num at)) (length bytes) n) both.1 (record {
       some = both.0;
-      is = λ k some. chosen_one (k == 0) (Bytes num at before bytes k) some;
+      is = λ k some. chosen_one (k == 0) (Overwrite num at before bytes k) some;
       full = λ same. same;
       size = refl;
       front = λ k low high. (low, high);
@@ -137,10 +137,10 @@ of_overwrite w bytes _ n u e = cc e
 of_append : (w : World) (bytes : List ℕ) (p : Place) (n : ℕ) (u : Undo) → u ∷ [] ≡ append_record w bytes n p
     → OfWrite (λ k. append_record w bytes k p) (length bytes) n u
 of_append w bytes (place.File num at) n u e =
-    let both = by_some (n == 0) (Tail num (length (file_of w num)) bytes n) u e in
+    let both = by_some (n == 0) (Append num (length (file_of w num)) bytes n) u e in
     subst (OfWrite (λ k. append_record w bytes k (place.File num at)) (length bytes) n) both.1 (record {
       some = both.0;
-      is = λ k some. chosen_one (k == 0) (Tail num (length (file_of w num)) bytes k) some;
+      is = λ k some. chosen_one (k == 0) (Append num (length (file_of w num)) bytes k) some;
       full = λ same. same;
       size = refl;
       front = λ k low high. (low, high);
@@ -325,19 +325,19 @@ module _ (w : World) (me : Private) (tx : ℕ) (c : Call) (so : IsWriting w me t
 -- ---- calls that don't write
 -- a record that is none of a write
 abbrev IsNoWrite : Undo → Type 0
-IsNoWrite (Bytes file at before after n) = ⊥
-IsNoWrite (Tail file from after n) = ⊥
-IsNoWrite (Made name num) = Unit {0}
-IsNoWrite (Moved from to) = Unit {0}
+IsNoWrite (Overwrite file at before after n) = ⊥
+IsNoWrite (Append file from after n) = ⊥
+IsNoWrite (Create name num) = Unit {0}
+IsNoWrite (Rename from to) = Unit {0}
 IsNoWrite (NewPipe num) = Unit {0}
 IsNoWrite (NewPair num) = Unit {0}
 
 -- all of it is a front of it, of any number of bytes
 other_front : (k : ℕ) (u : Undo) → IsNoWrite u → (covered u k ≡ u) × IsWriteFront k u × IsFull u
-other_front k (Bytes file at before after n) is = absurd is
-other_front k (Tail file from after n) is = absurd is
-other_front k (Made name num) is = (refl, tt, tt)
-other_front k (Moved from to) is = (refl, tt, tt)
+other_front k (Overwrite file at before after n) is = absurd is
+other_front k (Append file from after n) is = absurd is
+other_front k (Create name num) is = (refl, tt, tt)
+other_front k (Rename from to) is = (refl, tt, tt)
 other_front k (NewPipe num) is = (refl, tt, tt)
 other_front k (NewPair num) is = (refl, tt, tt)
 
@@ -351,10 +351,10 @@ recorded_other : (w : World) (me : Private) (tx : ℕ) (c : Call) (r : Reply) (u
 recorded_other w me tx c r u write e =
     subst AreOther (sym e) (each_recorded AreOther w me tx c r (record {
       none = tt;
-      bytes = λ is file at before after n. cc (write, is);
-      tail = λ is file from after n. cc (write, is);
-      made = λ name. tt;
-      moved = λ from to. tt;
+      overwrite = λ is file at before after n. cc (write, is);
+      append = λ is file from after n. cc (write, is);
+      create = λ name. tt;
+      rename = λ from to. tt;
       pipe = tt;
       pair = tt;
     }))

@@ -6,7 +6,7 @@ use Rattle.xc_data.specs.declared.call.Answer.TheVariants as answer
 use Rattle.xc_data.specs.declared.call.Call.{Call}
 use Rattle.xc_data.specs.declared.private.Private.{Private}
 use Rattle.xc_data.specs.declared.undo.Undo.{Undo}
-use Rattle.xc_data.specs.declared.undo.Undo.TheVariants.{Bytes, Tail, Made, Moved, NewPipe, NewPair}
+use Rattle.xc_data.specs.declared.undo.Undo.TheVariants.{Overwrite, Append, Create, Rename, NewPipe, NewPair}
 use Rattle.xc_data.specs.declared.undo.UndoEnd.{UndoEnd}
 use Rattle.xc_data.specs.declared.undo.UndoEnd.TheVariants.{Undone, Failed}
 use Rattle.xc_lines.specs.declared.shown.EffectShown.{EffectShown}
@@ -25,10 +25,10 @@ alike_same u v end same =
 
 -- of one that was undone no length is shown
 alike_undone : (k faults : ℕ) (v : Undo) → AreAlike (covered v k) v (Undone faults)
-alike_undone k faults (Bytes file at before after n) = record { objects = refl; kinds = refl; effects = refl; legal = λ tries way so. so }
-alike_undone k faults (Tail file from after n) = record { objects = refl; kinds = refl; effects = refl; legal = λ tries way so. so }
-alike_undone k faults (Made name num) = record { objects = refl; kinds = refl; effects = refl; legal = λ tries way so. so }
-alike_undone k faults (Moved from to) = record { objects = refl; kinds = refl; effects = refl; legal = λ tries way so. so }
+alike_undone k faults (Overwrite file at before after n) = record { objects = refl; kinds = refl; effects = refl; legal = λ tries way so. so }
+alike_undone k faults (Append file from after n) = record { objects = refl; kinds = refl; effects = refl; legal = λ tries way so. so }
+alike_undone k faults (Create name num) = record { objects = refl; kinds = refl; effects = refl; legal = λ tries way so. so }
+alike_undone k faults (Rename from to) = record { objects = refl; kinds = refl; effects = refl; legal = λ tries way so. so }
 alike_undone k faults (NewPipe num) = record { objects = refl; kinds = refl; effects = refl; legal = λ tries way so. so }
 alike_undone k faults (NewPair num) = record { objects = refl; kinds = refl; effects = refl; legal = λ tries way so. so }
 
@@ -44,22 +44,22 @@ undone_so faults effect = record { end = Undone faults; effect = effect }
 count_front : (k done faults : ℕ) (effect : Option EffectShown) (v : Undo) → IsWriteFront k v → IsFull v
     → IsShownLast (covered v k) (failed_so done faults effect)
     → covers (covered v k) ≡ count_shown done effect
-count_front k done faults effect (Bytes file at before after n) front full shown =
+count_front k done faults effect (Overwrite file at before after n) front full shown =
     let few = shown.legal.2 in
     let e = ap (count_shown done) (shown.stands done refl) in
     let a = length-drop done (take k after) in
     let b = length-take k after in
     let size : length (drop done (take k after)) ≡ k - done = omega (arith, a, b, front, full) in
     omega (arith, few, e, size)
-count_front k done faults effect (Tail file from after n) front full shown =
+count_front k done faults effect (Append file from after n) front full shown =
     let none = shown.legal.2 in
     let e = ap (count_shown done) (shown.stands 0 refl) in
     let b = length-take k after in
     let size : length (take k after) ≡ k = omega (arith, b, front, full) in
     omega (arith, none, e, size)
-count_front k done faults effect (Made name num) front full shown =
+count_front k done faults effect (Create name num) front full shown =
     let none = shown.legal.2 in let e = ap (count_shown done) (shown.stands 0 refl) in omega (arith, none, e)
-count_front k done faults effect (Moved from to) front full shown =
+count_front k done faults effect (Rename from to) front full shown =
     let none = shown.legal.2 in let e = ap (count_shown done) (shown.stands 0 refl) in omega (arith, none, e)
 count_front k done faults effect (NewPipe num) front full shown =
     let none = shown.legal.2 in let e = ap (count_shown done) (shown.stands 0 refl) in omega (arith, none, e)

@@ -49,10 +49,10 @@ recorded_few : (w : World) (me : Private) (tx : ℕ) (c : Call) (r : Reply) → 
 recorded_few w me tx c r =
     each_recorded (λ (us : List Undo). length us ≤ 1) w me tx c r (record {
       none = omega arith;
-      bytes = λ write file at before after n. omega arith;
-      tail = λ write file from after n. omega arith;
-      made = λ name. omega arith;
-      moved = λ from to. omega arith;
+      overwrite = λ write file at before after n. omega arith;
+      append = λ write file from after n. omega arith;
+      create = λ name. omega arith;
+      rename = λ from to. omega arith;
       pipe = omega arith;
       pair = omega arith;
     })

@@ -6,7 +6,7 @@ use Rattle.xc_data.specs.declared.call.Answer.TheVariants as answer
 use Rattle.xc_data.specs.declared.call.Call.{Call}
 use Rattle.xc_data.specs.declared.private.Private.{Private}
 use Rattle.xc_data.specs.declared.undo.Undo.{Undo}
-use Rattle.xc_data.specs.declared.undo.Undo.TheVariants.{Bytes, Tail, Made, Moved, NewPipe, NewPair}
+use Rattle.xc_data.specs.declared.undo.Undo.TheVariants.{Overwrite, Append, Create, Rename, NewPipe, NewPair}
 use Rattle.xc_data.specs.declared.undo.UndoEnd.{UndoEnd}
 use Rattle.xc_lines.specs.declared.shown.EffectShown.{EffectShown}
 use Rattle.xc_lines.specs.declared.shown.EffectShown.TheVariants as standing
@@ -27,10 +27,10 @@ whole_records w me tx c = recorded w me tx c (act w me tx c answer.Fine).reply
 
 -- so many bytes are some of those of a write, perhaps all
 abbrev pub IsWriteFront : ℕ → Undo → Type 0
-IsWriteFront k (Bytes file at before after n) = (1 ≤ k) × (k ≤ n)
-IsWriteFront k (Tail file from after n) = (1 ≤ k) × (k ≤ n)
-IsWriteFront k (Made name num) = Unit {0}
-IsWriteFront k (Moved from to) = Unit {0}
+IsWriteFront k (Overwrite file at before after n) = (1 ≤ k) × (k ≤ n)
+IsWriteFront k (Append file from after n) = (1 ≤ k) × (k ≤ n)
+IsWriteFront k (Create name num) = Unit {0}
+IsWriteFront k (Rename from to) = Unit {0}
 IsWriteFront k (NewPipe num) = Unit {0}
 IsWriteFront k (NewPair num) = Unit {0}
 

@@ -17,10 +17,10 @@ fn has_kind(undo: &Undo, kind: UndoKind) -> bool
     ensures { Decides result (kind_shown undo.now ≡ kind) }
 {
     match undo {
-        Undo::Bytes { .. } => matches!(kind, UndoKind::Bytes),
-        Undo::Tail { .. } => matches!(kind, UndoKind::Tail),
-        Undo::Made { .. } => matches!(kind, UndoKind::Made),
-        Undo::Moved { .. } => matches!(kind, UndoKind::Moved),
+        Undo::Overwrite { .. } => matches!(kind, UndoKind::Bytes),
+        Undo::Append { .. } => matches!(kind, UndoKind::Tail),
+        Undo::Create { .. } => matches!(kind, UndoKind::Made),
+        Undo::Rename { .. } => matches!(kind, UndoKind::Moved),
         Undo::NewPipe(_) => matches!(kind, UndoKind::Pipe),
         Undo::NewPair(_) => matches!(kind, UndoKind::Pair),
     }
@@ -71,7 +71,7 @@ fn is_overwrite(undo: &Undo, from: u32, num: Num, place: u64, bytes: &Chunk) -> 
     ensures { Decides result (effect_shown undo.now from ≡ standing.Bytes num place bytes.now) }
 {
     match undo {
-        Undo::Bytes {
+        Undo::Overwrite {
             file,
             at,
             after,
@@ -83,7 +83,7 @@ fn is_overwrite(undo: &Undo, from: u32, num: Num, place: u64, bytes: &Chunk) -> 
                 && same_num(*file, num)
                 && same_bytes(stands, bytes.as_slice())
         }
-        Undo::Tail { .. } | Undo::Made { .. } | Undo::Moved { .. } => false,
+        Undo::Append { .. } | Undo::Create { .. } | Undo::Rename { .. } => false,
         Undo::NewPipe(_) | Undo::NewPair(_) => false,
     }
 }
@@ -93,7 +93,7 @@ fn is_tail(undo: &Undo, k: u32, num: Num, place: u32, bytes: &Chunk) -> bool
     ensures { Decides result (effect_shown undo.now k ≡ standing.Tail num place bytes.now) }
 {
     match undo {
-        Undo::Tail {
+        Undo::Append {
             file,
             from,
             after,
@@ -102,7 +102,7 @@ fn is_tail(undo: &Undo, k: u32, num: Num, place: u32, bytes: &Chunk) -> bool
             let stands = front(after.as_slice(), *n as usize);
             *from == place && same_num(*file, num) && same_bytes(stands, bytes.as_slice())
         }
-        Undo::Bytes { .. } | Undo::Made { .. } | Undo::Moved { .. } => false,
+        Undo::Overwrite { .. } | Undo::Create { .. } | Undo::Rename { .. } => false,
         Undo::NewPipe(_) | Undo::NewPair(_) => false,
     }
 }
@@ -112,8 +112,8 @@ fn is_made(undo: &Undo, k: u32, named: &Name, made: Num) -> bool
     ensures { Decides result (effect_shown undo.now k ≡ standing.Made named.now made) }
 {
     match undo {
-        Undo::Made { name, num } => same_num(*num, made) && same_name(name.value(), named),
-        Undo::Bytes { .. } | Undo::Tail { .. } | Undo::Moved { .. } => false,
+        Undo::Create { name, num } => same_num(*num, made) && same_name(name.value(), named),
+        Undo::Overwrite { .. } | Undo::Append { .. } | Undo::Rename { .. } => false,
         Undo::NewPipe(_) | Undo::NewPair(_) => false,
     }
 }
@@ -123,10 +123,10 @@ fn is_moved(undo: &Undo, k: u32, old: &Name, new_name: &Name) -> bool
     ensures { Decides result (effect_shown undo.now k ≡ standing.Moved old.now new_name.now) }
 {
     match undo {
-        Undo::Moved { from, to } => {
+        Undo::Rename { from, to } => {
             same_name(from.value(), old) && same_name(to.value(), new_name)
         }
-        Undo::Bytes { .. } | Undo::Tail { .. } | Undo::Made { .. } => false,
+        Undo::Overwrite { .. } | Undo::Append { .. } | Undo::Create { .. } => false,
         Undo::NewPipe(_) | Undo::NewPair(_) => false,
     }
 }

@@ -48,8 +48,8 @@ fn front_len(whole: &Undo, count: usize) -> Option<u32>
         (λ n. (covered whole.now n ≡ covered whole.now count) × IsWriteFront count whole.now) }
 {
     match whole {
-        Undo::Bytes { n, .. } | Undo::Tail { n, .. } => some_of(count, *n),
-        Undo::Made { .. } | Undo::Moved { .. } => Some(0),
+        Undo::Overwrite { n, .. } | Undo::Append { n, .. } => some_of(count, *n),
+        Undo::Create { .. } | Undo::Rename { .. } => Some(0),
         Undo::NewPipe(_) | Undo::NewPair(_) => Some(0),
     }
 }
@@ -59,9 +59,9 @@ fn cover(undo: &mut Undo, n: u32)
     ensures { undo.new ≡ covered undo.old n }
 {
     match undo {
-        Undo::Bytes { n: covers, .. } => *covers = n,
-        Undo::Tail { n: covers, .. } => *covers = n,
-        Undo::Made { .. } | Undo::Moved { .. } | Undo::NewPipe(_) | Undo::NewPair(_) => {}
+        Undo::Overwrite { n: covers, .. } => *covers = n,
+        Undo::Append { n: covers, .. } => *covers = n,
+        Undo::Create { .. } | Undo::Rename { .. } | Undo::NewPipe(_) | Undo::NewPair(_) => {}
     }
 }
 

@@ -63,8 +63,8 @@ fn restored_fits(undo: &Undo, done: u32) -> bool
     ensures { Decides result (RestoredFits undo.now done) }
 {
     match undo {
-        Undo::Bytes { n, .. } => done < *n,
-        Undo::Tail { .. } | Undo::Made { .. } | Undo::Moved { .. } => done == 0,
+        Undo::Overwrite { n, .. } => done < *n,
+        Undo::Append { .. } | Undo::Create { .. } | Undo::Rename { .. } => done == 0,
         Undo::NewPipe(_) | Undo::NewPair(_) => done == 0,
     }
 }

@@ -5,7 +5,7 @@ use Rattle.std.specs.Fmt.{decimal}
 use Rattle.xc_data.specs.Remaining.{remains_from}
 use Rattle.xc_data.specs.declared.object.Num.{Num}
 use Rattle.xc_data.specs.declared.undo.Undo.{Undo}
-use Rattle.xc_data.specs.declared.undo.Undo.TheVariants.{Bytes, Tail, Made, Moved, NewPipe, NewPair}
+use Rattle.xc_data.specs.declared.undo.Undo.TheVariants.{Overwrite, Append, Create, Rename, NewPipe, NewPair}
 use Rattle.xc_data.specs.declared.undo.UndoEnd.{UndoEnd}
 use Rattle.xc_data.specs.declared.undo.UndoEnd.TheVariants.{Undone, Failed, Blocked}
 use Rattle.xc_print.specs.Bytes.{bytes_text}
@@ -13,10 +13,10 @@ use Rattle.xc_print.specs.Objects.{num_text}
 
 -- what a record is of
 abbrev pub kind_text : Undo → List ℕ
-kind_text (Bytes file at before after n) = codes "bytes"
-kind_text (Tail file from after n) = codes "tail"
-kind_text (Made name num) = codes "made"
-kind_text (Moved from to) = codes "moved"
+kind_text (Overwrite file at before after n) = codes "bytes"
+kind_text (Append file from after n) = codes "tail"
+kind_text (Create name num) = codes "made"
+kind_text (Rename from to) = codes "moved"
 kind_text (NewPipe num) = codes "pipe"
 kind_text (NewPair num) = codes "pair"
 
@@ -54,10 +54,10 @@ moved_text from to = codes "moved " ++ from ++ codes " " ++ to
 
 -- an effect of which the covered bytes stand from the k-th on
 abbrev pub effect_text : Undo → ℕ → List ℕ
-effect_text (Bytes file at before after n) k = overwrite_text file (at + k) (drop k (take n after))
-effect_text (Tail file from after n) k = tail_text file from (take n after)
-effect_text (Made name num) k = made_text name num
-effect_text (Moved from to) k = moved_text from to
+effect_text (Overwrite file at before after n) k = overwrite_text file (at + k) (drop k (take n after))
+effect_text (Append file from after n) k = tail_text file from (take n after)
+effect_text (Create name num) k = made_text name num
+effect_text (Rename from to) k = moved_text from to
 effect_text (NewPipe num) k = codes "pipe " ++ num_text num
 effect_text (NewPair num) k = codes "pair " ++ num_text num
 

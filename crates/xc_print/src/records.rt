@@ -12,10 +12,10 @@ fn push_kind<P: Paper>(out: &mut P, undo: &Undo) -> Result<(), P::Error>
     ensures { OnOk result (P.said out.new ≡ P.said out.old ++ kind_text undo.now) }
 {
     match undo {
-        Undo::Bytes { .. } => out.text("bytes"),
-        Undo::Tail { .. } => out.text("tail"),
-        Undo::Made { .. } => out.text("made"),
-        Undo::Moved { .. } => out.text("moved"),
+        Undo::Overwrite { .. } => out.text("bytes"),
+        Undo::Append { .. } => out.text("tail"),
+        Undo::Create { .. } => out.text("made"),
+        Undo::Rename { .. } => out.text("moved"),
         Undo::NewPipe(_) => out.text("pipe"),
         Undo::NewPair(_) => out.text("pair"),
     }
@@ -136,7 +136,7 @@ fn push_effect<P: Paper>(out: &mut P, undo: &Undo, k: u32) -> Result<(), P::Erro
     ensures { OnOk result (P.said out.new ≡ P.said out.old ++ effect_text undo.now k) }
 {
     match undo {
-        Undo::Bytes {
+        Undo::Overwrite {
             file,
             at,
             after,
@@ -146,14 +146,14 @@ fn push_effect<P: Paper>(out: &mut P, undo: &Undo, k: u32) -> Result<(), P::Erro
             let from = *at as u64 + k as u64;
             push_overwrite(out, *file, from, remaining_bytes(after, *n, k))
         }
-        Undo::Tail {
+        Undo::Append {
             file,
             from,
             after,
             n,
         } => push_tail(out, *file, *from, covered(after, *n)),
-        Undo::Made { name, num } => push_made(out, name.value(), *num),
-        Undo::Moved { from, to } => push_moved(out, from.value(), to.value()),
+        Undo::Create { name, num } => push_made(out, name.value(), *num),
+        Undo::Rename { from, to } => push_moved(out, from.value(), to.value()),
         Undo::NewPipe(num) => push_labelled(out, "pipe ", *num),
         Undo::NewPair(num) => push_labelled(out, "pair ", *num),
     }

@@ -34,13 +34,13 @@ fn undo(undo: &Undo)
     ensures { IsUndoInRange undo.now }
 {
     match undo {
-        Undo::Bytes {
+        Undo::Overwrite {
             file,
             at,
             after,
             ..
         }
-        | Undo::Tail {
+        | Undo::Append {
             file,
             from: at,
             after,
@@ -50,14 +50,14 @@ fn undo(undo: &Undo)
             number(*at);
             bytes(after.as_slice());
         }
-        Undo::Made {
+        Undo::Create {
             name: named,
             num: made,
         } => {
             name(named);
             num(made);
         }
-        Undo::Moved { from, to } => {
+        Undo::Rename { from, to } => {
             name(from);
             name(to);
         }

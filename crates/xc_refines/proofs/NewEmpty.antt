@@ -7,7 +7,7 @@ use Rattle.xc_data.specs.declared.entry.KeptItem.TheVariants as item
 use Rattle.xc_data.specs.declared.object.Object.{Object}
 use Rattle.xc_data.specs.declared.object.Object.TheVariants as object
 use Rattle.xc_data.specs.declared.undo.Undo.{Undo}
-use Rattle.xc_data.specs.declared.undo.Undo.TheVariants.{Bytes, Tail, Made, Moved, NewPipe, NewPair}
+use Rattle.xc_data.specs.declared.undo.Undo.TheVariants.{Overwrite, Append, Create, Rename, NewPipe, NewPair}
 use Rattle.xc_data.specs.declared.undo.UndoEnd.TheVariants.{Blocked}
 use Rattle.xc_data.specs.Remaining.{objects_of}
 use Rattle.xc_host.specs.Contents.{world_of}
@@ -70,10 +70,10 @@ module _ (s : Setting) (now : Moment) (all : AreInFlight s now) (at : ℕ) (job 
       let none : length (pair_of (world_of now.contents) num).first + length (pair_of (world_of now.contents) num).second ≡ 0 =
       filled_alike (world_now s now) (with_remains (state_of s now).world (effects (flown job.me (all.unnoted at) tx))) k there ∙ none_stood k new in
       (nil_of (pair_of (world_of now.contents) num).first (omega (arith, none)), nil_of (pair_of (world_of now.contents) num).second (omega (arith, none)))
-  by_kind (Bytes file at before after n) is = tt
-  by_kind (Tail file from after n) is = tt
-  by_kind (Made name num) is = tt
-  by_kind (Moved from to) is = tt
+  by_kind (Overwrite file at before after n) is = tt
+  by_kind (Append file from after n) is = tt
+  by_kind (Create name num) is = tt
+  by_kind (Rename from to) is = tt
 
   -- so it is
   pub made_empty : IsEmptyNew (world_of now.contents) u

@@ -8,7 +8,7 @@ use Rattle.xc_data.specs.declared.entry.Cause.{Cause}
 use Rattle.xc_data.specs.declared.object.Num.{Num}
 use Rattle.xc_data.specs.declared.object.Object.TheVariants as object
 use Rattle.xc_data.specs.declared.undo.Undo.{Undo}
-use Rattle.xc_data.specs.declared.undo.Undo.TheVariants.{Bytes, Tail, Made, Moved, NewPipe, NewPair}
+use Rattle.xc_data.specs.declared.undo.Undo.TheVariants.{Overwrite, Append, Create, Rename, NewPipe, NewPair}
 use Rattle.xc_data.specs.declared.undo.UndoEnd.TheVariants.{Blocked}
 use Rattle.xc_data.specs.Remaining.{objects_of}
 use Rattle.xc_compensate.specs.Records.{way_of}
@@ -35,14 +35,14 @@ reaches w v file n agree there =
 
 -- what is covered in one world is covered by the host's contents of another that agrees with it at the record's objects
 covered_there : (w v : World) (u : Undo) → All (AgreeAt w v) (objects_of u) → IsCovered v u → IsCovered (world_of (contents_of w)) u
-covered_there w v (Bytes file at before after n) agree covered = reaches w v file (at + n) (All-head (AgreeAt w v) (object.File file) [] agree) covered
-covered_there w v (Tail file from after n) agree covered = reaches w v file (from + n) (All-head (AgreeAt w v) (object.File file) [] agree) covered
-covered_there w v (Made name num) agree covered =
+covered_there w v (Overwrite file at before after n) agree covered = reaches w v file (at + n) (All-head (AgreeAt w v) (object.File file) [] agree) covered
+covered_there w v (Append file from after n) agree covered = reaches w v file (from + n) (All-head (AgreeAt w v) (object.File file) [] agree) covered
+covered_there w v (Create name num) agree covered =
     let file = All-tail (AgreeAt w v) (object.Name name) (object.File num ∷ []) agree in (
       All-head (AgreeAt w v) (object.Name name) (object.File num ∷ []) agree ∙ covered.0,
       ap is_some (All-head (AgreeAt w v) (object.File num) [] file) ∙ covered.1,
     )
-covered_there w v (Moved from to) agree covered =
+covered_there w v (Rename from to) agree covered =
     let new = All-tail (AgreeAt w v) (object.Name from) (object.Name to ∷ []) agree in (
       All-head (AgreeAt w v) (object.Name from) (object.Name to ∷ []) agree ∙ covered.0,
       ap is_some (All-head (AgreeAt w v) (object.Name to) [] new) ∙ covered.1,

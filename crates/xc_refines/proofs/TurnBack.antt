@@ -9,7 +9,7 @@ use Rattle.xc_data.specs.declared.entry.Cause.{Cause}
 use Rattle.xc_data.specs.declared.entry.Cause.TheVariants as cause
 use Rattle.xc_data.specs.declared.object.Num.{Num}
 use Rattle.xc_data.specs.declared.undo.Undo.{Undo}
-use Rattle.xc_data.specs.declared.undo.Undo.TheVariants.{Bytes, Tail, Made, Moved, NewPipe, NewPair}
+use Rattle.xc_data.specs.declared.undo.Undo.TheVariants.{Overwrite, Append, Create, Rename, NewPipe, NewPair}
 use Rattle.xc_data.specs.declared.undo.UndoEnd.{UndoEnd}
 use Rattle.xc_data.specs.declared.undo.UndoEnd.TheVariants.{Undone, Failed, Blocked}
 use Rattle.xc_data.specs.Claims.{held_of}
@@ -59,25 +59,25 @@ moved_in v from to (Some num) = refl
 restored_in : (b : Bool) (v : World) (u : Undo)
     → (if b then v else undone v u) ≡ with_contents v (contents_of (if b then world_of (contents_of v) else undone (world_of (contents_of v)) u))
 restored_in true v u = refl
-restored_in false v (Bytes file at before after n) = refl
-restored_in false v (Tail file from after n) = refl
-restored_in false v (Made name num) = refl
-restored_in false v (Moved from to) = moved_in v from to (finite.get v.names to)
+restored_in false v (Overwrite file at before after n) = refl
+restored_in false v (Append file from after n) = refl
+restored_in false v (Create name num) = refl
+restored_in false v (Rename from to) = moved_in v from to (finite.get v.names to)
 restored_in false v (NewPipe num) = refl
 restored_in false v (NewPair num) = refl
 
 -- what it leads to
 pub undone_in : (v : World) (u : Undo) (end : UndoEnd) → undone_to v u end ≡ with_contents v (contents_of (undone_to (world_of (contents_of v)) u end))
-undone_in v (Bytes file at before after n) (Undone faults) = refl
-undone_in v (Tail file from after n) (Undone faults) = refl
-undone_in v (Made name num) (Undone faults) = refl
-undone_in v (Moved from to) (Undone faults) = moved_in v from to (finite.get v.names to)
+undone_in v (Overwrite file at before after n) (Undone faults) = refl
+undone_in v (Append file from after n) (Undone faults) = refl
+undone_in v (Create name num) (Undone faults) = refl
+undone_in v (Rename from to) (Undone faults) = moved_in v from to (finite.get v.names to)
 undone_in v (NewPipe num) (Undone faults) = refl
 undone_in v (NewPair num) (Undone faults) = refl
-undone_in v (Bytes file at before after n) (Failed done faults) = restored_in (done == 0) v (Bytes file at before after done)
-undone_in v (Tail file from after n) (Failed done faults) = refl
-undone_in v (Made name num) (Failed done faults) = refl
-undone_in v (Moved from to) (Failed done faults) = refl
+undone_in v (Overwrite file at before after n) (Failed done faults) = restored_in (done == 0) v (Overwrite file at before after done)
+undone_in v (Append file from after n) (Failed done faults) = refl
+undone_in v (Create name num) (Failed done faults) = refl
+undone_in v (Rename from to) (Failed done faults) = refl
 undone_in v (NewPipe num) (Failed done faults) = refl
 undone_in v (NewPair num) (Failed done faults) = refl
 undone_in v u (Blocked by) = refl

@@ -56,25 +56,25 @@ keep_inner : (left : List Statement) → are_inner true left ≡ true → are_in
 keep_inner [] is = refl
 keep_inner (statement.Call (form.Load x y) ∷ rest) is = keep_inner rest is
 keep_inner (statement.Call (form.Store x y) ∷ rest) is = keep_inner rest is
-keep_inner (statement.Call (form.Open x y) ∷ rest) is = keep_inner rest is
-keep_inner (statement.Call (form.Create x y) ∷ rest) is = keep_inner rest is
-keep_inner (statement.Call (form.Rename x y) ∷ rest) is = keep_inner rest is
-keep_inner (statement.Call (form.Read x y z) ∷ rest) is = keep_inner rest is
-keep_inner (statement.Call (form.Overwrite x y) ∷ rest) is = keep_inner rest is
-keep_inner (statement.Call (form.Append x y) ∷ rest) is = keep_inner rest is
-keep_inner (statement.Call (form.Seek x y) ∷ rest) is = keep_inner rest is
-keep_inner (statement.Call (form.Length x y) ∷ rest) is = keep_inner rest is
-keep_inner (statement.Call (form.Close x) ∷ rest) is = keep_inner rest is
-keep_inner (statement.Call (form.Unlink x y) ∷ rest) is = keep_inner rest is
-keep_inner (statement.Call (form.Sync x y) ∷ rest) is = keep_inner rest is
-keep_inner (statement.Call (form.Pipe x) ∷ rest) is = keep_inner rest is
-keep_inner (statement.Call (form.ReadPipe x y z) ∷ rest) is = keep_inner rest is
-keep_inner (statement.Call (form.WritePipe x y z) ∷ rest) is = keep_inner rest is
-keep_inner (statement.Call (form.Shutdown x y) ∷ rest) is = keep_inner rest is
-keep_inner (statement.Call (form.Pair x) ∷ rest) is = keep_inner rest is
-keep_inner (statement.Call (form.Receive x y) ∷ rest) is = keep_inner rest is
-keep_inner (statement.Call (form.Send x y z) ∷ rest) is = keep_inner rest is
-keep_inner (statement.Call (form.Start x y) ∷ rest) is = keep_inner rest is
+keep_inner (statement.Call (form.XOpen x y) ∷ rest) is = keep_inner rest is
+keep_inner (statement.Call (form.XCreate x y) ∷ rest) is = keep_inner rest is
+keep_inner (statement.Call (form.XRename x y) ∷ rest) is = keep_inner rest is
+keep_inner (statement.Call (form.XRead x y z) ∷ rest) is = keep_inner rest is
+keep_inner (statement.Call (form.XWriteOvr x y) ∷ rest) is = keep_inner rest is
+keep_inner (statement.Call (form.XWriteSeq x y) ∷ rest) is = keep_inner rest is
+keep_inner (statement.Call (form.XSeek x y) ∷ rest) is = keep_inner rest is
+keep_inner (statement.Call (form.XLen x y) ∷ rest) is = keep_inner rest is
+keep_inner (statement.Call (form.XClose x) ∷ rest) is = keep_inner rest is
+keep_inner (statement.Call (form.XUnlink x y) ∷ rest) is = keep_inner rest is
+keep_inner (statement.Call (form.XSync x y) ∷ rest) is = keep_inner rest is
+keep_inner (statement.Call (form.XPipe x) ∷ rest) is = keep_inner rest is
+keep_inner (statement.Call (form.XReadPipe x y z) ∷ rest) is = keep_inner rest is
+keep_inner (statement.Call (form.XWritePipe x y z) ∷ rest) is = keep_inner rest is
+keep_inner (statement.Call (form.XShutdown x y) ∷ rest) is = keep_inner rest is
+keep_inner (statement.Call (form.XPair x) ∷ rest) is = keep_inner rest is
+keep_inner (statement.Call (form.XRecvmsg x y) ∷ rest) is = keep_inner rest is
+keep_inner (statement.Call (form.XSendmsg x y z) ∷ rest) is = keep_inner rest is
+keep_inner (statement.Call (form.XThreadCreate x y) ∷ rest) is = keep_inner rest is
 keep_inner (statement.Call form.Save ∷ rest) is = false_true is
 keep_inner (statement.Call form.Keep ∷ rest) is = is
 keep_inner (statement.Call form.Back ∷ rest) is = keep_inner rest is
@@ -114,37 +114,37 @@ stepped : (variables : Variables) (stored : ℕ) (refused : Bool) (left : List S
 stepped variables stored refused [] saved reply is = is
 stepped variables stored refused (statement.Call (form.Load x y) ∷ rest) saved reply is = past_inner (is_some saved) _ _ _ rest is
 stepped variables stored refused (statement.Call (form.Store x y) ∷ rest) saved reply is = past_inner (is_some saved) _ _ _ rest is
-stepped variables stored refused (statement.Call (form.Open x y) ∷ rest) saved reply is = past_inner (is_some saved) _ _ _ rest is
-stepped variables stored refused (statement.Call (form.Create x y) ∷ rest) saved reply is = past_inner (is_some saved) _ _ _ rest is
-stepped variables stored refused (statement.Call (form.Rename x y) ∷ rest) saved reply is = past_inner (is_some saved) _ _ _ rest is
-stepped variables stored refused (statement.Call (form.Read x y z) ∷ rest) saved reply is = past_inner (is_some saved) _ _ _ rest is
-stepped variables stored refused (statement.Call (form.Overwrite x y) ∷ rest) saved reply is =
-    let walk : Walk = record { variables = variables; stored = stored; refused = refused; left = statement.Call (form.Overwrite x y) ∷ rest } in
+stepped variables stored refused (statement.Call (form.XOpen x y) ∷ rest) saved reply is = past_inner (is_some saved) _ _ _ rest is
+stepped variables stored refused (statement.Call (form.XCreate x y) ∷ rest) saved reply is = past_inner (is_some saved) _ _ _ rest is
+stepped variables stored refused (statement.Call (form.XRename x y) ∷ rest) saved reply is = past_inner (is_some saved) _ _ _ rest is
+stepped variables stored refused (statement.Call (form.XRead x y z) ∷ rest) saved reply is = past_inner (is_some saved) _ _ _ rest is
+stepped variables stored refused (statement.Call (form.XWriteOvr x y) ∷ rest) saved reply is =
+    let walk : Walk = record { variables = variables; stored = stored; refused = refused; left = statement.Call (form.XWriteOvr x y) ∷ rest } in
     over_inner (record { walk = walk; saved = saved }) _ _ reply refl
-    (answered_inner (is_some saved) walk (statement.Call (form.Overwrite x y)) rest (asks walk) reply is is) is
-stepped variables stored refused (statement.Call (form.Append x y) ∷ rest) saved reply is =
-    let walk : Walk = record { variables = variables; stored = stored; refused = refused; left = statement.Call (form.Append x y) ∷ rest } in
+    (answered_inner (is_some saved) walk (statement.Call (form.XWriteOvr x y)) rest (asks walk) reply is is) is
+stepped variables stored refused (statement.Call (form.XWriteSeq x y) ∷ rest) saved reply is =
+    let walk : Walk = record { variables = variables; stored = stored; refused = refused; left = statement.Call (form.XWriteSeq x y) ∷ rest } in
     over_inner (record { walk = walk; saved = saved }) _ _ reply refl
-    (answered_inner (is_some saved) walk (statement.Call (form.Append x y)) rest (asks walk) reply is is) is
-stepped variables stored refused (statement.Call (form.Seek x y) ∷ rest) saved reply is = past_inner (is_some saved) _ _ _ rest is
-stepped variables stored refused (statement.Call (form.Length x y) ∷ rest) saved reply is = past_inner (is_some saved) _ _ _ rest is
-stepped variables stored refused (statement.Call (form.Close x) ∷ rest) saved reply is = past_inner (is_some saved) _ _ _ rest is
-stepped variables stored refused (statement.Call (form.Unlink x y) ∷ rest) saved reply is = past_inner (is_some saved) _ _ _ rest is
-stepped variables stored refused (statement.Call (form.Sync x y) ∷ rest) saved reply is = past_inner (is_some saved) _ _ _ rest is
-stepped variables stored refused (statement.Call (form.Pipe x) ∷ rest) saved reply is = past_inner (is_some saved) _ _ _ rest is
-stepped variables stored refused (statement.Call (form.ReadPipe x y z) ∷ rest) saved reply is = past_inner (is_some saved) _ _ _ rest is
-stepped variables stored refused (statement.Call (form.WritePipe x y z) ∷ rest) saved reply is =
-    let walk : Walk = record { variables = variables; stored = stored; refused = refused; left = statement.Call (form.WritePipe x y z) ∷ rest } in
+    (answered_inner (is_some saved) walk (statement.Call (form.XWriteSeq x y)) rest (asks walk) reply is is) is
+stepped variables stored refused (statement.Call (form.XSeek x y) ∷ rest) saved reply is = past_inner (is_some saved) _ _ _ rest is
+stepped variables stored refused (statement.Call (form.XLen x y) ∷ rest) saved reply is = past_inner (is_some saved) _ _ _ rest is
+stepped variables stored refused (statement.Call (form.XClose x) ∷ rest) saved reply is = past_inner (is_some saved) _ _ _ rest is
+stepped variables stored refused (statement.Call (form.XUnlink x y) ∷ rest) saved reply is = past_inner (is_some saved) _ _ _ rest is
+stepped variables stored refused (statement.Call (form.XSync x y) ∷ rest) saved reply is = past_inner (is_some saved) _ _ _ rest is
+stepped variables stored refused (statement.Call (form.XPipe x) ∷ rest) saved reply is = past_inner (is_some saved) _ _ _ rest is
+stepped variables stored refused (statement.Call (form.XReadPipe x y z) ∷ rest) saved reply is = past_inner (is_some saved) _ _ _ rest is
+stepped variables stored refused (statement.Call (form.XWritePipe x y z) ∷ rest) saved reply is =
+    let walk : Walk = record { variables = variables; stored = stored; refused = refused; left = statement.Call (form.XWritePipe x y z) ∷ rest } in
     over_inner (record { walk = walk; saved = saved }) _ _ reply refl
-    (answered_inner (is_some saved) walk (statement.Call (form.WritePipe x y z)) rest (asks walk) reply is is) is
-stepped variables stored refused (statement.Call (form.Shutdown x y) ∷ rest) saved reply is = past_inner (is_some saved) _ _ _ rest is
-stepped variables stored refused (statement.Call (form.Pair x) ∷ rest) saved reply is = past_inner (is_some saved) _ _ _ rest is
-stepped variables stored refused (statement.Call (form.Receive x y) ∷ rest) saved reply is = past_inner (is_some saved) _ _ _ rest is
-stepped variables stored refused (statement.Call (form.Send x y z) ∷ rest) saved reply is =
-    let walk : Walk = record { variables = variables; stored = stored; refused = refused; left = statement.Call (form.Send x y z) ∷ rest } in
+    (answered_inner (is_some saved) walk (statement.Call (form.XWritePipe x y z)) rest (asks walk) reply is is) is
+stepped variables stored refused (statement.Call (form.XShutdown x y) ∷ rest) saved reply is = past_inner (is_some saved) _ _ _ rest is
+stepped variables stored refused (statement.Call (form.XPair x) ∷ rest) saved reply is = past_inner (is_some saved) _ _ _ rest is
+stepped variables stored refused (statement.Call (form.XRecvmsg x y) ∷ rest) saved reply is = past_inner (is_some saved) _ _ _ rest is
+stepped variables stored refused (statement.Call (form.XSendmsg x y z) ∷ rest) saved reply is =
+    let walk : Walk = record { variables = variables; stored = stored; refused = refused; left = statement.Call (form.XSendmsg x y z) ∷ rest } in
     over_inner (record { walk = walk; saved = saved }) _ _ reply refl
-    (answered_inner (is_some saved) walk (statement.Call (form.Send x y z)) rest (asks walk) reply is is) is
-stepped variables stored refused (statement.Call (form.Start x y) ∷ rest) saved reply is = past_inner (is_some saved) _ _ _ rest is
+    (answered_inner (is_some saved) walk (statement.Call (form.XSendmsg x y z)) rest (asks walk) reply is is) is
+stepped variables stored refused (statement.Call (form.XThreadCreate x y) ∷ rest) saved reply is = past_inner (is_some saved) _ _ _ rest is
 stepped variables stored refused (statement.Call form.Save ∷ rest) saved reply is =
     past_inner true _ _ _ rest (and_right (not (is_some saved)) (are_inner true rest) is)
 stepped variables stored refused (statement.Call form.Keep ∷ rest) saved reply is =
@@ -193,25 +193,25 @@ pub asks_inner : (within : Bool) (variables : Variables) (stored : ℕ) (refused
 asks_inner within variables stored refused [] is = refl
 asks_inner within variables stored refused (statement.Call (form.Load x y) ∷ rest) is = refl
 asks_inner within variables stored refused (statement.Call (form.Store x y) ∷ rest) is = refl
-asks_inner within variables stored refused (statement.Call (form.Open x y) ∷ rest) is = refl
-asks_inner within variables stored refused (statement.Call (form.Create x y) ∷ rest) is = refl
-asks_inner within variables stored refused (statement.Call (form.Rename x y) ∷ rest) is = refl
-asks_inner within variables stored refused (statement.Call (form.Read x y z) ∷ rest) is = refl
-asks_inner within variables stored refused (statement.Call (form.Overwrite x y) ∷ rest) is = over_fits within _ _ refl
-asks_inner within variables stored refused (statement.Call (form.Append x y) ∷ rest) is = over_fits within _ _ refl
-asks_inner within variables stored refused (statement.Call (form.Seek x y) ∷ rest) is = refl
-asks_inner within variables stored refused (statement.Call (form.Length x y) ∷ rest) is = refl
-asks_inner within variables stored refused (statement.Call (form.Close x) ∷ rest) is = refl
-asks_inner within variables stored refused (statement.Call (form.Unlink x y) ∷ rest) is = refl
-asks_inner within variables stored refused (statement.Call (form.Sync x y) ∷ rest) is = refl
-asks_inner within variables stored refused (statement.Call (form.Pipe x) ∷ rest) is = refl
-asks_inner within variables stored refused (statement.Call (form.ReadPipe x y z) ∷ rest) is = refl
-asks_inner within variables stored refused (statement.Call (form.WritePipe x y z) ∷ rest) is = over_fits within _ _ refl
-asks_inner within variables stored refused (statement.Call (form.Shutdown x y) ∷ rest) is = refl
-asks_inner within variables stored refused (statement.Call (form.Pair x) ∷ rest) is = refl
-asks_inner within variables stored refused (statement.Call (form.Receive x y) ∷ rest) is = refl
-asks_inner within variables stored refused (statement.Call (form.Send x y z) ∷ rest) is = over_fits within _ _ refl
-asks_inner within variables stored refused (statement.Call (form.Start x y) ∷ rest) is = refl
+asks_inner within variables stored refused (statement.Call (form.XOpen x y) ∷ rest) is = refl
+asks_inner within variables stored refused (statement.Call (form.XCreate x y) ∷ rest) is = refl
+asks_inner within variables stored refused (statement.Call (form.XRename x y) ∷ rest) is = refl
+asks_inner within variables stored refused (statement.Call (form.XRead x y z) ∷ rest) is = refl
+asks_inner within variables stored refused (statement.Call (form.XWriteOvr x y) ∷ rest) is = over_fits within _ _ refl
+asks_inner within variables stored refused (statement.Call (form.XWriteSeq x y) ∷ rest) is = over_fits within _ _ refl
+asks_inner within variables stored refused (statement.Call (form.XSeek x y) ∷ rest) is = refl
+asks_inner within variables stored refused (statement.Call (form.XLen x y) ∷ rest) is = refl
+asks_inner within variables stored refused (statement.Call (form.XClose x) ∷ rest) is = refl
+asks_inner within variables stored refused (statement.Call (form.XUnlink x y) ∷ rest) is = refl
+asks_inner within variables stored refused (statement.Call (form.XSync x y) ∷ rest) is = refl
+asks_inner within variables stored refused (statement.Call (form.XPipe x) ∷ rest) is = refl
+asks_inner within variables stored refused (statement.Call (form.XReadPipe x y z) ∷ rest) is = refl
+asks_inner within variables stored refused (statement.Call (form.XWritePipe x y z) ∷ rest) is = over_fits within _ _ refl
+asks_inner within variables stored refused (statement.Call (form.XShutdown x y) ∷ rest) is = refl
+asks_inner within variables stored refused (statement.Call (form.XPair x) ∷ rest) is = refl
+asks_inner within variables stored refused (statement.Call (form.XRecvmsg x y) ∷ rest) is = refl
+asks_inner within variables stored refused (statement.Call (form.XSendmsg x y z) ∷ rest) is = over_fits within _ _ refl
+asks_inner within variables stored refused (statement.Call (form.XThreadCreate x y) ∷ rest) is = refl
 asks_inner within variables stored refused (statement.Call form.Save ∷ rest) is = and_left (not within) (are_inner true rest) is
 asks_inner within variables stored refused (statement.Call form.Keep ∷ rest) is = and_left within (are_inner false rest) is
 asks_inner within variables stored refused (statement.Call form.Back ∷ rest) is = and_left within (are_inner within rest) is

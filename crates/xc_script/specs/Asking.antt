@@ -28,29 +28,29 @@ name_of_slot variables (Some s) = slot_name variables.slots s
 abbrev pub form_ask : Variables → ℕ → CallForm → Ask
 form_ask variables stored (form.Load at into) = ask.Call (call.Load (term_value variables at))
 form_ask variables stored (form.Store at value) = ask.Call (call.Store (term_value variables at) (expression_value variables value))
-form_ask variables stored (form.Open name into) = ask.Call (call.XOpen name)
-form_ask variables stored (form.Create name into) = ask.Call (call.XCreate name)
-form_ask variables stored (form.Rename from to) = ask.Call (call.XRename from to)
-form_ask variables stored (form.Read h n into) = ask.Call (call.XRead (handle_value variables h) (term_value variables n))
-form_ask variables stored (form.Overwrite h items) =
+form_ask variables stored (form.XOpen name into) = ask.Call (call.XOpen name)
+form_ask variables stored (form.XCreate name into) = ask.Call (call.XCreate name)
+form_ask variables stored (form.XRename from to) = ask.Call (call.XRename from to)
+form_ask variables stored (form.XRead h n into) = ask.Call (call.XRead (handle_value variables h) (term_value variables n))
+form_ask variables stored (form.XWriteOvr h items) =
     unless_over stored (call.XWriteOvr (handle_value variables h) (joined_data variables items))
-form_ask variables stored (form.Append h items) =
+form_ask variables stored (form.XWriteSeq h items) =
     unless_over stored (call.XWriteSeq (handle_value variables h) (joined_data variables items))
-form_ask variables stored (form.Seek h to) = ask.Call (call.XSeek (handle_value variables h) (term_value variables to))
-form_ask variables stored (form.Length h into) = ask.Call (call.XLen (handle_value variables h))
-form_ask variables stored (form.Close h) = ask.Call (call.XClose (handle_value variables h))
-form_ask variables stored (form.Unlink name slot) = ask.Call (call.XUnlink name (name_of_slot variables slot))
-form_ask variables stored (form.Sync h slot) = ask.Call (call.XSync (handle_value variables h) (name_of_slot variables slot))
-form_ask variables stored (form.Pipe into) = ask.Call call.XPipe
-form_ask variables stored (form.ReadPipe h n into) = ask.Call (call.XReadPipe (handle_value variables h) (term_value variables n))
-form_ask variables stored (form.WritePipe h items slot) =
+form_ask variables stored (form.XSeek h to) = ask.Call (call.XSeek (handle_value variables h) (term_value variables to))
+form_ask variables stored (form.XLen h into) = ask.Call (call.XLen (handle_value variables h))
+form_ask variables stored (form.XClose h) = ask.Call (call.XClose (handle_value variables h))
+form_ask variables stored (form.XUnlink name slot) = ask.Call (call.XUnlink name (name_of_slot variables slot))
+form_ask variables stored (form.XSync h slot) = ask.Call (call.XSync (handle_value variables h) (name_of_slot variables slot))
+form_ask variables stored (form.XPipe into) = ask.Call call.XPipe
+form_ask variables stored (form.XReadPipe h n into) = ask.Call (call.XReadPipe (handle_value variables h) (term_value variables n))
+form_ask variables stored (form.XWritePipe h items slot) =
     unless_over stored (call.XWritePipe (handle_value variables h) (joined_data variables items) (name_of_slot variables slot))
-form_ask variables stored (form.Shutdown h slot) = ask.Call (call.XShutdown (handle_value variables h) (name_of_slot variables slot))
-form_ask variables stored (form.Pair into) = ask.Call call.XPair
-form_ask variables stored (form.Receive h into) = ask.Call (call.XRecvmsg (handle_value variables h))
-form_ask variables stored (form.Send h items slot) =
+form_ask variables stored (form.XShutdown h slot) = ask.Call (call.XShutdown (handle_value variables h) (name_of_slot variables slot))
+form_ask variables stored (form.XPair into) = ask.Call call.XPair
+form_ask variables stored (form.XRecvmsg h into) = ask.Call (call.XRecvmsg (handle_value variables h))
+form_ask variables stored (form.XSendmsg h items slot) =
     unless_over stored (call.XSendmsg (handle_value variables h) (joined_data variables items) (name_of_slot variables slot))
-form_ask variables stored (form.Start block slot) = ask.Call (call.XThreadCreate block (name_of_slot variables slot))
+form_ask variables stored (form.XThreadCreate block slot) = ask.Call (call.XThreadCreate block (name_of_slot variables slot))
 form_ask variables stored form.Save = ask.Call call.Save
 form_ask variables stored form.Keep = ask.Call call.Keep
 form_ask variables stored form.Back = ask.Call call.Back

@@ -8,8 +8,8 @@ ghost use Rattle.xc_script.specs.Walks.{carried_by};
 ghost use Rattle.xc_text.specs.Kept.{said_by};
 
 use crate::calls::{
-    close, create, load, measure, open, read, read_pipe, receive, rename, seek, shutdown, start,
-    store, sync, unlink,
+    load, store, x_close, x_create, x_len, x_open, x_read, x_read_pipe, x_recvmsg, x_rename,
+    x_seek, x_shutdown, x_sync, x_thread_create, x_unlink,
 };
 use crate::data::{data_in, data_len};
 use crate::terms::handle_in;
@@ -60,7 +60,7 @@ fn data_within(
 }
 
 // An overwrite through a handle, or the transaction's own abort.
-fn overwrite(
+fn x_write_ovr(
     alloc: Global,
     variables: &Variables,
     stored: u128,
@@ -78,7 +78,7 @@ fn overwrite(
 }
 
 // An append through a handle, or the transaction's own abort.
-fn append(
+fn x_write_seq(
     alloc: Global,
     variables: &Variables,
     stored: u128,
@@ -114,7 +114,7 @@ fn late_data(
 }
 
 // Bytes for a pipe through a handle, or the transaction's own abort.
-fn write_pipe(
+fn x_write_pipe(
     alloc: Global,
     variables: &Variables,
     stored: u128,
@@ -134,7 +134,7 @@ fn write_pipe(
 }
 
 // A message for a pair through a handle, or the transaction's own abort.
-fn send(
+fn x_sendmsg(
     alloc: Global,
     variables: &Variables,
     stored: u128,
@@ -173,29 +173,31 @@ fn form_ask(
         Form::StoreDifference { at, left, right } => {
             Ok(Ask::Call(store(variables, *at, Expression::Difference(*left, *right))))
         }
-        Form::Open { name, .. } => Ok(Ask::Call(open(name))),
-        Form::Create { name, .. } => Ok(Ask::Call(create(name))),
-        Form::Rename { from, to } => Ok(Ask::Call(rename(from, to))),
-        Form::Read { handle, n, .. } => Ok(Ask::Call(read(variables, *handle, *n))),
-        Form::Overwrite { handle, data } => overwrite(alloc, variables, stored, *handle, data),
-        Form::Append { handle, data } => append(alloc, variables, stored, *handle, data),
-        Form::Seek { handle, to } => Ok(Ask::Call(seek(variables, *handle, *to))),
-        Form::Length { handle, .. } => Ok(Ask::Call(measure(variables, *handle))),
-        Form::Close { handle } => Ok(Ask::Call(close(variables, *handle))),
-        Form::Unlink { slot, name } => Ok(Ask::Call(unlink(variables, name, *slot))),
-        Form::Sync { handle, slot } => Ok(Ask::Call(sync(variables, *handle, *slot))),
-        Form::Pipe { .. } => Ok(Ask::Call(Call::XPipe)),
-        Form::ReadPipe { handle, n, .. } => Ok(Ask::Call(read_pipe(variables, *handle, *n))),
-        Form::WritePipe { handle, slot, data } => {
-            write_pipe(alloc, variables, stored, *handle, data, *slot)
+        Form::XOpen { name, .. } => Ok(Ask::Call(x_open(name))),
+        Form::XCreate { name, .. } => Ok(Ask::Call(x_create(name))),
+        Form::XRename { from, to } => Ok(Ask::Call(x_rename(from, to))),
+        Form::XRead { handle, n, .. } => Ok(Ask::Call(x_read(variables, *handle, *n))),
+        Form::XWriteOvr { handle, data } => x_write_ovr(alloc, variables, stored, *handle, data),
+        Form::XWriteSeq { handle, data } => x_write_seq(alloc, variables, stored, *handle, data),
+        Form::XSeek { handle, to } => Ok(Ask::Call(x_seek(variables, *handle, *to))),
+        Form::XLen { handle, .. } => Ok(Ask::Call(x_len(variables, *handle))),
+        Form::XClose { handle } => Ok(Ask::Call(x_close(variables, *handle))),
+        Form::XUnlink { slot, name } => Ok(Ask::Call(x_unlink(variables, name, *slot))),
+        Form::XSync { handle, slot } => Ok(Ask::Call(x_sync(variables, *handle, *slot))),
+        Form::XPipe { .. } => Ok(Ask::Call(Call::XPipe)),
+        Form::XReadPipe { handle, n, .. } => Ok(Ask::Call(x_read_pipe(variables, *handle, *n))),
+        Form::XWritePipe { handle, slot, data } => {
+            x_write_pipe(alloc, variables, stored, *handle, data, *slot)
         }
-        Form::Shutdown { handle, slot } => { Ok(Ask::Call(shutdown(variables, *handle, *slot))) }
-        Form::Pair { .. } => Ok(Ask::Call(Call::XPair)),
-        Form::Receive { handle, .. } => Ok(Ask::Call(receive(variables, *handle))),
-        Form::Send { handle, slot, data } => {
-            send(alloc, variables, stored, *handle, data, *slot)
+        Form::XShutdown { handle, slot } => { Ok(Ask::Call(x_shutdown(variables, *handle, *slot))) }
+        Form::XPair { .. } => Ok(Ask::Call(Call::XPair)),
+        Form::XRecvmsg { handle, .. } => Ok(Ask::Call(x_recvmsg(variables, *handle))),
+        Form::XSendmsg { handle, slot, data } => {
+            x_sendmsg(alloc, variables, stored, *handle, data, *slot)
         }
-        Form::Start { slot, block } => Ok(Ask::Call(start(alloc, variables, block, *slot)?)),
+        Form::XThreadCreate { slot, block } => Ok(Ask::Call(x_thread_create(
+            alloc, variables, block, *slot,
+        )?)),
         Form::Let { .. } | Form::LetSum { .. } | Form::LetDifference { .. } => Ok(Ask::Abort),
         Form::Abort | Form::AbortIf { .. } | Form::Require => Ok(Ask::Abort),
         Form::Save => Ok(Ask::Call(Call::Save)),
@@ -232,17 +234,17 @@ fn form_carried(variables: &Variables, stored: u128, form: &Form) -> usize
     ensures bound { result ≤ 1024 }
 {
     match form {
-        Form::Overwrite { data, .. } => data_carried(variables, stored, data),
-        Form::Append { data, .. } => data_carried(variables, stored, data),
-        Form::WritePipe { data, .. } => data_carried(variables, stored, data),
-        Form::Send { data, .. } => data_carried(variables, stored, data),
+        Form::XWriteOvr { data, .. } => data_carried(variables, stored, data),
+        Form::XWriteSeq { data, .. } => data_carried(variables, stored, data),
+        Form::XWritePipe { data, .. } => data_carried(variables, stored, data),
+        Form::XSendmsg { data, .. } => data_carried(variables, stored, data),
         Form::Load { .. } | Form::Store { .. } | Form::StoreSum { .. } => 0,
-        Form::StoreDifference { .. } | Form::Open { .. } => 0,
-        Form::Create { .. } | Form::Rename { .. } | Form::Read { .. } => 0,
-        Form::Seek { .. } | Form::Length { .. } | Form::Close { .. } => 0,
-        Form::Unlink { .. } | Form::Sync { .. } => 0,
-        Form::Pipe { .. } | Form::ReadPipe { .. } | Form::Shutdown { .. } => 0,
-        Form::Pair { .. } | Form::Receive { .. } | Form::Start { .. } => 0,
+        Form::StoreDifference { .. } | Form::XOpen { .. } => 0,
+        Form::XCreate { .. } | Form::XRename { .. } | Form::XRead { .. } => 0,
+        Form::XSeek { .. } | Form::XLen { .. } | Form::XClose { .. } => 0,
+        Form::XUnlink { .. } | Form::XSync { .. } => 0,
+        Form::XPipe { .. } | Form::XReadPipe { .. } | Form::XShutdown { .. } => 0,
+        Form::XPair { .. } | Form::XRecvmsg { .. } | Form::XThreadCreate { .. } => 0,
         Form::Let { .. } | Form::LetSum { .. } | Form::LetDifference { .. } => 0,
         Form::Abort | Form::AbortIf { .. } | Form::Require => 0,
         Form::Save | Form::Keep | Form::Back | Form::BackIf { .. } => 0,

@@ -28,19 +28,19 @@ pub fn store(variables: &Variables, at: Term<NameIndex>, value: Expression<NameI
     }
 }
 
-pub fn open(name: &SharedName) -> Call
+pub fn x_open(name: &SharedName) -> Call
     ensures { result ≡ XOpen name.now }
 {
     Call::XOpen { name: name.again() }
 }
 
-pub fn create(name: &SharedName) -> Call
+pub fn x_create(name: &SharedName) -> Call
     ensures { result ≡ XCreate name.now }
 {
     Call::XCreate { name: name.again() }
 }
 
-pub fn rename(from: &SharedName, to: &SharedName) -> Call
+pub fn x_rename(from: &SharedName, to: &SharedName) -> Call
     ensures { result ≡ XRename from.now to.now }
 {
     Call::XRename {
@@ -49,7 +49,7 @@ pub fn rename(from: &SharedName, to: &SharedName) -> Call
     }
 }
 
-pub fn read(variables: &Variables, handle: NameIndex, n: Term<NameIndex>) -> Call
+pub fn x_read(variables: &Variables, handle: NameIndex, n: Term<NameIndex>) -> Call
     ensures { result ≡ XRead (handle_value variables.now handle) (term_value variables.now n) }
 {
     Call::XRead {
@@ -58,7 +58,7 @@ pub fn read(variables: &Variables, handle: NameIndex, n: Term<NameIndex>) -> Cal
     }
 }
 
-pub fn read_pipe(variables: &Variables, handle: NameIndex, n: Term<NameIndex>) -> Call
+pub fn x_read_pipe(variables: &Variables, handle: NameIndex, n: Term<NameIndex>) -> Call
     ensures { result ≡ XReadPipe (handle_value variables.now handle) (term_value variables.now n) }
 {
     Call::XReadPipe {
@@ -67,7 +67,7 @@ pub fn read_pipe(variables: &Variables, handle: NameIndex, n: Term<NameIndex>) -
     }
 }
 
-pub fn seek(variables: &Variables, handle: NameIndex, to: Term<NameIndex>) -> Call
+pub fn x_seek(variables: &Variables, handle: NameIndex, to: Term<NameIndex>) -> Call
     ensures { result ≡ XSeek (handle_value variables.now handle) (term_value variables.now to) }
 {
     Call::XSeek {
@@ -76,28 +76,28 @@ pub fn seek(variables: &Variables, handle: NameIndex, to: Term<NameIndex>) -> Ca
     }
 }
 
-pub fn measure(variables: &Variables, handle: NameIndex) -> Call
+pub fn x_len(variables: &Variables, handle: NameIndex) -> Call
     ensures { result ≡ XLen (handle_value variables.now handle) }
 {
     let h = handle_in(variables, handle);
     Call::XLen { h }
 }
 
-pub fn receive(variables: &Variables, handle: NameIndex) -> Call
+pub fn x_recvmsg(variables: &Variables, handle: NameIndex) -> Call
     ensures { result ≡ XRecvmsg (handle_value variables.now handle) }
 {
     let h = handle_in(variables, handle);
     Call::XRecvmsg { h }
 }
 
-pub fn close(variables: &Variables, handle: NameIndex) -> Call
+pub fn x_close(variables: &Variables, handle: NameIndex) -> Call
     ensures { result ≡ XClose (handle_value variables.now handle) }
 {
     let h = handle_in(variables, handle);
     Call::XClose { h }
 }
 
-pub fn unlink(variables: &Variables, name: &SharedName, slot: Option<NameIndex>) -> Call
+pub fn x_unlink(variables: &Variables, name: &SharedName, slot: Option<NameIndex>) -> Call
     ensures { result ≡ XUnlink name.now (name_of_slot variables.now slot) }
 {
     Call::XUnlink {
@@ -106,7 +106,7 @@ pub fn unlink(variables: &Variables, name: &SharedName, slot: Option<NameIndex>)
     }
 }
 
-pub fn sync(variables: &Variables, handle: NameIndex, slot: Option<NameIndex>) -> Call
+pub fn x_sync(variables: &Variables, handle: NameIndex, slot: Option<NameIndex>) -> Call
     ensures { result ≡ XSync (handle_value variables.now handle) (name_of_slot variables.now slot) }
 {
     Call::XSync {
@@ -115,7 +115,7 @@ pub fn sync(variables: &Variables, handle: NameIndex, slot: Option<NameIndex>) -
     }
 }
 
-pub fn shutdown(variables: &Variables, handle: NameIndex, slot: Option<NameIndex>) -> Call
+pub fn x_shutdown(variables: &Variables, handle: NameIndex, slot: Option<NameIndex>) -> Call
     ensures { result ≡ XShutdown (handle_value variables.now handle) (name_of_slot variables.now slot) }
 {
     Call::XShutdown {
@@ -124,7 +124,7 @@ pub fn shutdown(variables: &Variables, handle: NameIndex, slot: Option<NameIndex
     }
 }
 
-pub fn start(
+pub fn x_thread_create(
     alloc: Global,
     variables: &Variables,
     block: &Boxed<Ident>,

@@ -26,13 +26,13 @@ fn is_silent(variables: &Variables, refused: bool, form: &Form) -> bool
 {
     match form {
         Form::Load { .. } | Form::Store { .. } | Form::StoreSum { .. } => false,
-        Form::StoreDifference { .. } | Form::Open { .. } | Form::Create { .. } => false,
-        Form::Rename { .. } | Form::Read { .. } | Form::Overwrite { .. } => false,
-        Form::Append { .. } | Form::Seek { .. } | Form::Length { .. } => false,
-        Form::Close { .. } | Form::Unlink { .. } | Form::Sync { .. } => false,
-        Form::Pipe { .. } | Form::ReadPipe { .. } | Form::WritePipe { .. } => false,
-        Form::Shutdown { .. } | Form::Pair { .. } | Form::Receive { .. } => false,
-        Form::Send { .. } | Form::Start { .. } | Form::Abort => false,
+        Form::StoreDifference { .. } | Form::XOpen { .. } | Form::XCreate { .. } => false,
+        Form::XRename { .. } | Form::XRead { .. } | Form::XWriteOvr { .. } => false,
+        Form::XWriteSeq { .. } | Form::XSeek { .. } | Form::XLen { .. } => false,
+        Form::XClose { .. } | Form::XUnlink { .. } | Form::XSync { .. } => false,
+        Form::XPipe { .. } | Form::XReadPipe { .. } | Form::XWritePipe { .. } => false,
+        Form::XShutdown { .. } | Form::XPair { .. } | Form::XRecvmsg { .. } => false,
+        Form::XSendmsg { .. } | Form::XThreadCreate { .. } | Form::Abort => false,
         Form::Save | Form::Keep | Form::Back => false,
         Form::Let { .. } | Form::LetSum { .. } | Form::LetDifference { .. } => true,
         Form::AbortIf { left, test, right } | Form::BackIf { left, test, right } => {
@@ -67,13 +67,13 @@ fn set(variables: &mut Variables, form: &Form)
             set_number(variables, *into, Expression::Difference(*left, *right));
         }
         Form::Load { .. } | Form::Store { .. } | Form::StoreSum { .. } => {}
-        Form::StoreDifference { .. } | Form::Open { .. } | Form::Create { .. } => {}
-        Form::Rename { .. } | Form::Read { .. } | Form::Overwrite { .. } => {}
-        Form::Append { .. } | Form::Seek { .. } | Form::Length { .. } => {}
-        Form::Close { .. } | Form::Unlink { .. } | Form::Sync { .. } => {}
-        Form::Pipe { .. } | Form::ReadPipe { .. } | Form::WritePipe { .. } => {}
-        Form::Shutdown { .. } | Form::Pair { .. } | Form::Receive { .. } => {}
-        Form::Send { .. } | Form::Start { .. } => {}
+        Form::StoreDifference { .. } | Form::XOpen { .. } | Form::XCreate { .. } => {}
+        Form::XRename { .. } | Form::XRead { .. } | Form::XWriteOvr { .. } => {}
+        Form::XWriteSeq { .. } | Form::XSeek { .. } | Form::XLen { .. } => {}
+        Form::XClose { .. } | Form::XUnlink { .. } | Form::XSync { .. } => {}
+        Form::XPipe { .. } | Form::XReadPipe { .. } | Form::XWritePipe { .. } => {}
+        Form::XShutdown { .. } | Form::XPair { .. } | Form::XRecvmsg { .. } => {}
+        Form::XSendmsg { .. } | Form::XThreadCreate { .. } => {}
         Form::Abort | Form::AbortIf { .. } | Form::Require => {}
         Form::Save | Form::Keep | Form::Back | Form::BackIf { .. } => {}
     }

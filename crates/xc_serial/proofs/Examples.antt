@@ -122,7 +122,7 @@ unlinks =
             bodies = [];
             jobs = codes "main" ∷ [];
           };
-      blocks = record { name = codes "main"; transactions = (statement.Call (form.Unlink (codes "a") None) ∷ []) ∷ [] } ∷ [];
+      blocks = record { name = codes "main"; transactions = (statement.Call (form.XUnlink (codes "a") None) ∷ []) ∷ [] } ∷ [];
       variables = [];
       slots = [];
       handles = [];

@@ -70,10 +70,10 @@ lates_are n [] = refl
 lates_are n (end ∷ ends) = ap (λ t. late_line n end ++ t) (lates_are (n + 1) ends)
 
 undo_is : (n : ℕ) (undo : Undo) (end : UndoEnd) → line_text (line.Undo n (kind_shown undo) end) ≡ undo_line n (undo, end)
-undo_is n (undoing.Bytes file at before after k) end = refl
-undo_is n (undoing.Tail file from after k) end = refl
-undo_is n (undoing.Made name num) end = refl
-undo_is n (undoing.Moved from to) end = refl
+undo_is n (undoing.Overwrite file at before after k) end = refl
+undo_is n (undoing.Append file from after k) end = refl
+undo_is n (undoing.Create name num) end = refl
+undo_is n (undoing.Rename from to) end = refl
 undo_is n (undoing.NewPipe num) end = refl
 undo_is n (undoing.NewPair num) end = refl
 
@@ -88,10 +88,10 @@ undos_are n ((undo, end) ∷ records) =
 effect_is : (undo : Undo) (from : Option ℕ) → lines_text (line_of_effect undo from) ≡ remaining_line undo from
 unfolding lines_text
 effect_is undo None = refl
-effect_is (undoing.Bytes file at before after n) (Some k) = append-nil _
-effect_is (undoing.Tail file from after n) (Some k) = append-nil _
-effect_is (undoing.Made name num) (Some k) = append-nil _
-effect_is (undoing.Moved from to) (Some k) = append-nil _
+effect_is (undoing.Overwrite file at before after n) (Some k) = append-nil _
+effect_is (undoing.Append file from after n) (Some k) = append-nil _
+effect_is (undoing.Create name num) (Some k) = append-nil _
+effect_is (undoing.Rename from to) (Some k) = append-nil _
 effect_is (undoing.NewPipe num) (Some k) = append-nil _
 effect_is (undoing.NewPair num) (Some k) = append-nil _
 

@@ -68,19 +68,19 @@ undos_in n ((undo, end) ∷ records) few all =
     ((omega (arith, few), all.0.1), tt)
 
 shown_in : (undo : Undo) (k : ℕ) → k < 2 ^ 32 → IsUndoInRange undo → IsStandingInRange (effect_shown undo k)
-shown_in (undoing.Bytes file at before after n) k small within =
+shown_in (undoing.Overwrite file at before after n) k small within =
     (within.0, omega (arith, within.1, small), bytes_behind k (take n after) (bytes_before n after within.2))
-shown_in (undoing.Tail file from after n) k small within = (within.0, within.1, bytes_before n after within.2)
-shown_in (undoing.Made name num) k small within = within
-shown_in (undoing.Moved from to) k small within = within
+shown_in (undoing.Append file from after n) k small within = (within.0, within.1, bytes_before n after within.2)
+shown_in (undoing.Create name num) k small within = within
+shown_in (undoing.Rename from to) k small within = within
 shown_in (undoing.NewPipe num) k small within = within
 shown_in (undoing.NewPair num) k small within = within
 
 stopped_small : (undo : Undo) (done : ℕ) → done < 2 ^ 32 → stopped_at undo done < 2 ^ 32
-stopped_small (undoing.Bytes file at before after n) done small = small
-stopped_small (undoing.Tail file from after n) done small = omega arith
-stopped_small (undoing.Made name num) done small = omega arith
-stopped_small (undoing.Moved from to) done small = omega arith
+stopped_small (undoing.Overwrite file at before after n) done small = small
+stopped_small (undoing.Append file from after n) done small = omega arith
+stopped_small (undoing.Create name num) done small = omega arith
+stopped_small (undoing.Rename from to) done small = omega arith
 stopped_small (undoing.NewPipe num) done small = omega arith
 stopped_small (undoing.NewPair num) done small = omega arith
 

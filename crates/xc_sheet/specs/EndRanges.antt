@@ -17,10 +17,10 @@ use Rattle.xc_sheet.specs.Ends.{head_shown}
 
 -- a record
 abbrev pub IsUndoInRange : Undo → Type 0
-IsUndoInRange (undoing.Bytes file at before after n) = IsNumInRange file × (at < 2 ^ 32) × AreBytes after
-IsUndoInRange (undoing.Tail file from after n) = IsNumInRange file × (from < 2 ^ 32) × AreBytes after
-IsUndoInRange (undoing.Made name num) = IsName name × IsNumInRange num
-IsUndoInRange (undoing.Moved from to) = IsName from × IsName to
+IsUndoInRange (undoing.Overwrite file at before after n) = IsNumInRange file × (at < 2 ^ 32) × AreBytes after
+IsUndoInRange (undoing.Append file from after n) = IsNumInRange file × (from < 2 ^ 32) × AreBytes after
+IsUndoInRange (undoing.Create name num) = IsName name × IsNumInRange num
+IsUndoInRange (undoing.Rename from to) = IsName from × IsName to
 IsUndoInRange (undoing.NewPipe num) = IsNumInRange num
 IsUndoInRange (undoing.NewPair num) = IsNumInRange num
 

@@ -33,19 +33,19 @@ use Rattle.xc_sheet.specs.declared.lines.Line.TheVariants as line
 -- ---- what lines show
 -- the kind of a record
 abbrev pub kind_shown : Undo → UndoKind
-kind_shown (undoing.Bytes file at before after n) = kind.Bytes
-kind_shown (undoing.Tail file from after n) = kind.Tail
-kind_shown (undoing.Made name num) = kind.Made
-kind_shown (undoing.Moved from to) = kind.Moved
+kind_shown (undoing.Overwrite file at before after n) = kind.Bytes
+kind_shown (undoing.Append file from after n) = kind.Tail
+kind_shown (undoing.Create name num) = kind.Made
+kind_shown (undoing.Rename from to) = kind.Moved
 kind_shown (undoing.NewPipe num) = kind.Pipe
 kind_shown (undoing.NewPair num) = kind.Pair
 
 -- the effect of a record, from this place of its covered bytes on
 abbrev pub effect_shown : Undo → ℕ → EffectShown
-effect_shown (undoing.Bytes file at before after n) k = standing.Bytes file (at + k) (drop k (take n after))
-effect_shown (undoing.Tail file from after n) k = standing.Tail file from (take n after)
-effect_shown (undoing.Made name num) k = standing.Made name num
-effect_shown (undoing.Moved from to) k = standing.Moved from to
+effect_shown (undoing.Overwrite file at before after n) k = standing.Bytes file (at + k) (drop k (take n after))
+effect_shown (undoing.Append file from after n) k = standing.Tail file from (take n after)
+effect_shown (undoing.Create name num) k = standing.Made name num
+effect_shown (undoing.Rename from to) k = standing.Moved from to
 effect_shown (undoing.NewPipe num) k = standing.Pipe num
 effect_shown (undoing.NewPair num) k = standing.Pair num
 

@@ -126,17 +126,17 @@ open_below c items (place.Pair num side) is = tt
 -- what a record tells of, where nothing is kept of what it speaks of
 pub covered_below : (c : Contents) (items : List KeptItem) (u : Undo) → AreElsewhere (objects_of u) items → IsCovered (world_of (with_kept c items)) u
     → IsCovered (world_of c) u
-covered_below c items (undo.Bytes file at before after n) away is =
+covered_below c items (undo.Overwrite file at before after n) away is =
     subst (λ (files : map.FinMap num_cmp (List ℕ)). (is_some (map.get files file) ≡ true) × (at + n ≤ length (unwrap_or (map.get files file) [])))
     (kept_files c items) is
-covered_below c items (undo.Tail file from after n) away is =
+covered_below c items (undo.Append file from after n) away is =
     subst (λ (files : map.FinMap num_cmp (List ℕ)). (is_some (map.get files file) ≡ true) × (from + n ≤ length (unwrap_or (map.get files file) [])))
     (kept_files c items) is
-covered_below c items (undo.Made name num) away is = (
+covered_below c items (undo.Create name num) away is = (
   ap (λ (names : map.FinMap name_cmp Num). map.get names name) (sym (kept_names c items)) ∙ is.0,
   ap (λ (files : map.FinMap num_cmp (List ℕ)). is_some (map.get files num)) (sym (kept_files c items)) ∙ is.1,
 )
-covered_below c items (undo.Moved from to) away is = (
+covered_below c items (undo.Rename from to) away is = (
   ap (λ (names : map.FinMap name_cmp Num). map.get names from) (sym (kept_names c items)) ∙ is.0,
   ap (λ (names : map.FinMap name_cmp Num). is_some (map.get names to)) (sym (kept_names c items)) ∙ is.1,
 )

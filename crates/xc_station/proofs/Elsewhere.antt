@@ -105,12 +105,12 @@ module _ (c : Contents) (items : List KeptItem) (backed : All (IsBacked c) items
 
   -- nothing is kept of what it made
   pub nothing_kept_of : (u : Undo) → IsEmptyNew (world_of (with_kept c items)) u → AreElsewhere (objects_of u) items
-  nothing_kept_of (undo.Bytes file at before after n) empty =
+  nothing_kept_of (undo.Overwrite file at before after n) empty =
       no_data_elsewhere (object.File file ∷ []) items (one_object (object.File file) (file_has_none file))
-  nothing_kept_of (undo.Tail file from after n) empty = no_data_elsewhere (object.File file ∷ []) items (one_object (object.File file) (file_has_none file))
-  nothing_kept_of (undo.Made name num) empty = no_data_elsewhere (object.Name name ∷ object.File num ∷ []) items
+  nothing_kept_of (undo.Append file from after n) empty = no_data_elsewhere (object.File file ∷ []) items (one_object (object.File file) (file_has_none file))
+  nothing_kept_of (undo.Create name num) empty = no_data_elsewhere (object.Name name ∷ object.File num ∷ []) items
       (All-cons HasNoData (object.Name name) (object.File num ∷ []) (name_has_none name) (one_object (object.File num) (file_has_none num)))
-  nothing_kept_of (undo.Moved from to) empty = no_data_elsewhere (object.Name from ∷ object.Name to ∷ []) items
+  nothing_kept_of (undo.Rename from to) empty = no_data_elsewhere (object.Name from ∷ object.Name to ∷ []) items
       (All-cons HasNoData (object.Name from) (object.Name to ∷ []) (name_has_none from) (one_object (object.Name to) (name_has_none to)))
   nothing_kept_of (undo.NewPipe num) empty =
       let none : (pipe_of (given_back below items) num).held ≡ [] = subst (λ w. (pipe_of w num).held ≡ []) (world_kept c items) empty in

@@ -2,7 +2,7 @@
 use Rattle.std.proofs.Common.{ℕ, Bool, true, false, List, Option, None, Some, Result, IfOk, refl}
 use Rattle.std.specs.Prelude.{codes, if◌then◌else◌}
 use Rattle.xc_text.specs.declared.calls.CallKind.{CallKind}
-use Rattle.xc_text.specs.declared.calls.CallKind.TheVariants.{Word, Name, Handle, Pipe, Pair, Thread}
+use Rattle.xc_text.specs.declared.calls.CallKind.TheVariants.{Word, Name, Handle, Pipe, Pair, XThreadCreate}
 use Rattle.xc_text.specs.declared.calls.WordCall.{WordCall}
 use Rattle.xc_text.specs.declared.calls.WordCall.TheVariants as word
 use Rattle.xc_text.specs.declared.calls.NameCall.{NameCall}
@@ -44,30 +44,30 @@ word_stands within word.Load rest = form_stands within _ _ (λ p names. refl)
 word_stands within word.Store rest = form_stands within _ _ (λ p names. refl)
 
 name_stands : (within : Bool) (call : NameCall) (rest : List Lexeme) → IfOk (name_form call rest) (IsFitForm within)
-name_stands within file.Open rest = form_stands within _ _ (λ p names. refl)
-name_stands within file.Create rest = form_stands within _ _ (λ p names. refl)
-name_stands within file.Rename rest = form_stands within _ _ (λ p names. refl)
-name_stands within file.Unlink rest = form_stands within _ _ (λ p names. refl)
+name_stands within file.XOpen rest = form_stands within _ _ (λ p names. refl)
+name_stands within file.XCreate rest = form_stands within _ _ (λ p names. refl)
+name_stands within file.XRename rest = form_stands within _ _ (λ p names. refl)
+name_stands within file.XUnlink rest = form_stands within _ _ (λ p names. refl)
 
 handle_stands : (within : Bool) (call : HandleCall) (rest : List Lexeme) → IfOk (handle_form call rest) (IsFitForm within)
-handle_stands within handled.Read rest = form_stands within _ _ (λ p names. refl)
-handle_stands within handled.Overwrite rest = form_stands within _ _ (λ p names. refl)
-handle_stands within handled.Append rest = form_stands within _ _ (λ p names. refl)
-handle_stands within handled.Seek rest = form_stands within _ _ (λ p names. refl)
-handle_stands within handled.Length rest = form_stands within _ _ (λ p names. refl)
-handle_stands within handled.Close rest = form_stands within _ _ (λ p names. refl)
-handle_stands within handled.Sync rest = form_stands within _ _ (λ p names. refl)
+handle_stands within handled.XRead rest = form_stands within _ _ (λ p names. refl)
+handle_stands within handled.XWriteOvr rest = form_stands within _ _ (λ p names. refl)
+handle_stands within handled.XWriteSeq rest = form_stands within _ _ (λ p names. refl)
+handle_stands within handled.XSeek rest = form_stands within _ _ (λ p names. refl)
+handle_stands within handled.XLen rest = form_stands within _ _ (λ p names. refl)
+handle_stands within handled.XClose rest = form_stands within _ _ (λ p names. refl)
+handle_stands within handled.XSync rest = form_stands within _ _ (λ p names. refl)
 
 pipe_stands : (within : Bool) (call : PipeCall) (rest : List Lexeme) → IfOk (pipe_form call rest) (IsFitForm within)
-pipe_stands within piped.Make rest = form_stands within _ _ (λ p names. refl)
-pipe_stands within piped.Read rest = form_stands within _ _ (λ p names. refl)
-pipe_stands within piped.Write rest = form_stands within _ _ (λ p names. refl)
-pipe_stands within piped.Shutdown rest = form_stands within _ _ (λ p names. refl)
+pipe_stands within piped.XPipe rest = form_stands within _ _ (λ p names. refl)
+pipe_stands within piped.XReadPipe rest = form_stands within _ _ (λ p names. refl)
+pipe_stands within piped.XWritePipe rest = form_stands within _ _ (λ p names. refl)
+pipe_stands within piped.XShutdown rest = form_stands within _ _ (λ p names. refl)
 
 pair_stands : (within : Bool) (call : PairCall) (rest : List Lexeme) → IfOk (pair_form call rest) (IsFitForm within)
-pair_stands within paired.Make rest = form_stands within _ _ (λ p names. refl)
-pair_stands within paired.Receive rest = form_stands within _ _ (λ p names. refl)
-pair_stands within paired.Send rest = form_stands within _ _ (λ p names. refl)
+pair_stands within paired.XPair rest = form_stands within _ _ (λ p names. refl)
+pair_stands within paired.XRecvmsg rest = form_stands within _ _ (λ p names. refl)
+pair_stands within paired.XSendmsg rest = form_stands within _ _ (λ p names. refl)
 
 kind_stands : (within : Bool) (kind : CallKind) (rest : List Lexeme) → IfOk (form_of kind rest) (IsFitForm within)
 kind_stands within (Word call) rest = word_stands within call rest
@@ -75,7 +75,7 @@ kind_stands within (Name call) rest = name_stands within call rest
 kind_stands within (Handle call) rest = handle_stands within call rest
 kind_stands within (Pipe call) rest = pipe_stands within call rest
 kind_stands within (Pair call) rest = pair_stands within call rest
-kind_stands within Thread rest = form_stands within _ _ (λ p names. refl)
+kind_stands within XThreadCreate rest = form_stands within _ _ (λ p names. refl)
 
 call_stands : (within : Bool) (kind : Option CallKind) (rest : List Lexeme) → IfOk (read_call_line kind rest) (IsFitStatement within)
 call_stands within None rest = tt

@@ -103,27 +103,27 @@ form_grows : (names : Names) (f : named.NamedCallForm) → KeepsVariables names 
 form_grows names (form.Load at into) = term_into_grows names at into
 form_grows names (form.Store at value) =
     two_grow names (placed_term names at) (λ n. placed_expression n value) (term_grows names at) (λ n. expression_grows n value)
-form_grows names (form.Open file into) = target_grows names into
-form_grows names (form.Create file into) = target_grows names into
-form_grows names (form.Rename from to) = omega arith
-form_grows names (form.Read handle n into) = handled_grows names handle (λ m. placed_term_into m n into) (λ m. term_into_grows m n into)
-form_grows names (form.Overwrite handle items) = written_grows names handle items
-form_grows names (form.Append handle items) = written_grows names handle items
-form_grows names (form.Seek handle to) = handled_grows names handle (λ n. placed_term n to) (λ n. term_grows n to)
-form_grows names (form.Length handle into) = handled_grows names handle (λ n. placed_target n into) (λ n. target_grows n into)
-form_grows names (form.Close handle) = variable_grows names handle
-form_grows names (form.Unlink file into) = ending_grows names into
-form_grows names (form.Sync handle into) = handled_grows names handle (λ n. placed_ending n into) (λ n. ending_grows n into)
-form_grows names (form.Pipe into) = target_grows names into
-form_grows names (form.ReadPipe handle n into) = handled_grows names handle (λ m. placed_term_into m n into) (λ m. term_into_grows m n into)
-form_grows names (form.WritePipe handle items into) =
+form_grows names (form.XOpen file into) = target_grows names into
+form_grows names (form.XCreate file into) = target_grows names into
+form_grows names (form.XRename from to) = omega arith
+form_grows names (form.XRead handle n into) = handled_grows names handle (λ m. placed_term_into m n into) (λ m. term_into_grows m n into)
+form_grows names (form.XWriteOvr handle items) = written_grows names handle items
+form_grows names (form.XWriteSeq handle items) = written_grows names handle items
+form_grows names (form.XSeek handle to) = handled_grows names handle (λ n. placed_term n to) (λ n. term_grows n to)
+form_grows names (form.XLen handle into) = handled_grows names handle (λ n. placed_target n into) (λ n. target_grows n into)
+form_grows names (form.XClose handle) = variable_grows names handle
+form_grows names (form.XUnlink file into) = ending_grows names into
+form_grows names (form.XSync handle into) = handled_grows names handle (λ n. placed_ending n into) (λ n. ending_grows n into)
+form_grows names (form.XPipe into) = target_grows names into
+form_grows names (form.XReadPipe handle n into) = handled_grows names handle (λ m. placed_term_into m n into) (λ m. term_into_grows m n into)
+form_grows names (form.XWritePipe handle items into) =
     two_grow names (placed_written names handle items) (λ n. placed_ending n into) (written_grows names handle items) (λ n. ending_grows n into)
-form_grows names (form.Shutdown handle into) = handled_grows names handle (λ n. placed_ending n into) (λ n. ending_grows n into)
-form_grows names (form.Pair into) = targets_grow names into
-form_grows names (form.Receive handle into) = handled_grows names handle (λ n. placed_target n into) (λ n. target_grows n into)
-form_grows names (form.Send handle items into) =
+form_grows names (form.XShutdown handle into) = handled_grows names handle (λ n. placed_ending n into) (λ n. ending_grows n into)
+form_grows names (form.XPair into) = targets_grow names into
+form_grows names (form.XRecvmsg handle into) = handled_grows names handle (λ n. placed_target n into) (λ n. target_grows n into)
+form_grows names (form.XSendmsg handle items into) =
     two_grow names (placed_written names handle items) (λ n. placed_ending n into) (written_grows names handle items) (λ n. ending_grows n into)
-form_grows names (form.Start block into) = ending_grows names into
+form_grows names (form.XThreadCreate block into) = ending_grows names into
 form_grows names form.Save = omega arith
 form_grows names form.Keep = omega arith
 form_grows names form.Back = omega arith

@@ -1,7 +1,7 @@
 -- Lines that are calls: the word that one begins with, and the shape of what stands after it.
 use Rattle.std.specs.Prelude.{ℕ, List, [], ◌∷◌, codes, Option, Some, None, Result, Err}
 use Rattle.xc_text.specs.declared.calls.CallKind.{CallKind}
-use Rattle.xc_text.specs.declared.calls.CallKind.TheVariants.{Word, Name, Handle, Pipe, Pair, Thread}
+use Rattle.xc_text.specs.declared.calls.CallKind.TheVariants.{Word, Name, Handle, Pipe, Pair, XThreadCreate}
 use Rattle.xc_text.specs.declared.calls.WordCall.{WordCall}
 use Rattle.xc_text.specs.declared.calls.WordCall.TheVariants as word
 use Rattle.xc_text.specs.declared.calls.NameCall.{NameCall}
@@ -30,25 +30,25 @@ unfoldable pub call_kinds : List (Entry CallKind)
 call_kinds =
     (codes "load", Word word.Load)
     ∷ (codes "store", Word word.Store)
-    ∷ (codes "x_open", Name named.Open)
-    ∷ (codes "x_create", Name named.Create)
-    ∷ (codes "x_rename", Name named.Rename)
-    ∷ (codes "x_unlink", Name named.Unlink)
-    ∷ (codes "x_read", Handle handled.Read)
-    ∷ (codes "x_write_ovr", Handle handled.Overwrite)
-    ∷ (codes "x_write_seq", Handle handled.Append)
-    ∷ (codes "x_seek", Handle handled.Seek)
-    ∷ (codes "x_len", Handle handled.Length)
-    ∷ (codes "x_close", Handle handled.Close)
-    ∷ (codes "x_sync", Handle handled.Sync)
-    ∷ (codes "x_pipe", Pipe piped.Make)
-    ∷ (codes "x_read_pipe", Pipe piped.Read)
-    ∷ (codes "x_write_pipe", Pipe piped.Write)
-    ∷ (codes "x_shutdown", Pipe piped.Shutdown)
-    ∷ (codes "x_pair", Pair paired.Make)
-    ∷ (codes "x_recvmsg", Pair paired.Receive)
-    ∷ (codes "x_sendmsg", Pair paired.Send)
-    ∷ (codes "x_thread_create", Thread)
+    ∷ (codes "x_open", Name named.XOpen)
+    ∷ (codes "x_create", Name named.XCreate)
+    ∷ (codes "x_rename", Name named.XRename)
+    ∷ (codes "x_unlink", Name named.XUnlink)
+    ∷ (codes "x_read", Handle handled.XRead)
+    ∷ (codes "x_write_ovr", Handle handled.XWriteOvr)
+    ∷ (codes "x_write_seq", Handle handled.XWriteSeq)
+    ∷ (codes "x_seek", Handle handled.XSeek)
+    ∷ (codes "x_len", Handle handled.XLen)
+    ∷ (codes "x_close", Handle handled.XClose)
+    ∷ (codes "x_sync", Handle handled.XSync)
+    ∷ (codes "x_pipe", Pipe piped.XPipe)
+    ∷ (codes "x_read_pipe", Pipe piped.XReadPipe)
+    ∷ (codes "x_write_pipe", Pipe piped.XWritePipe)
+    ∷ (codes "x_shutdown", Pipe piped.XShutdown)
+    ∷ (codes "x_pair", Pair paired.XPair)
+    ∷ (codes "x_recvmsg", Pair paired.XRecvmsg)
+    ∷ (codes "x_sendmsg", Pair paired.XSendmsg)
+    ∷ (codes "x_thread_create", XThreadCreate)
     ∷ []
 
 -- a name, a handle or a block, and nothing or a variable or a slot
@@ -70,37 +70,37 @@ word_form word.Store rest = seen (λ (p : NamedTerm × NamedExpression). form.St
 
 -- the call on a name: `NAME`, after it `-> V` or `slot S` where that is wanted, or `NAME NAME`
 abbrev pub name_form : NameCall → List Lexeme → Result NamedCallForm Why
-name_form named.Open rest = seen (λ (p : NameAnd). form.Open p.0 p.1) (led name target rest)
-name_form named.Create rest = seen (λ (p : NameAnd). form.Create p.0 p.1) (led name target rest)
-name_form named.Rename rest = seen (λ (p : List ℕ × List ℕ). form.Rename p.0 p.1) (led name (alone name) rest)
-name_form named.Unlink rest = seen (λ (p : NameAnd). form.Unlink p.0 p.1) (led name slot_ending rest)
+name_form named.XOpen rest = seen (λ (p : NameAnd). form.XOpen p.0 p.1) (led name target rest)
+name_form named.XCreate rest = seen (λ (p : NameAnd). form.XCreate p.0 p.1) (led name target rest)
+name_form named.XRename rest = seen (λ (p : List ℕ × List ℕ). form.XRename p.0 p.1) (led name (alone name) rest)
+name_form named.XUnlink rest = seen (λ (p : NameAnd). form.XUnlink p.0 p.1) (led name slot_ending rest)
 
 -- the call through the handle of a file: `H`, `H T` or `H D`, and after some of them `-> V` or `slot S` where that is wanted
 abbrev pub handle_form : HandleCall → List Lexeme → Result NamedCallForm Why
-handle_form handled.Read rest = seen (λ (p : HandleTermInto). form.Read p.0 p.1.0 p.1.1) (led ident (led term target) rest)
-handle_form handled.Overwrite rest = seen (λ (p : List ℕ × List NamedItem). form.Overwrite p.0 p.1) (led ident data_of rest)
-handle_form handled.Append rest = seen (λ (p : List ℕ × List NamedItem). form.Append p.0 p.1) (led ident data_of rest)
-handle_form handled.Seek rest = seen (λ (p : List ℕ × NamedTerm). form.Seek p.0 p.1) (led ident (alone term) rest)
-handle_form handled.Length rest = seen (λ (p : NameAnd). form.Length p.0 p.1) (led ident target rest)
-handle_form handled.Close rest = seen (λ (h : List ℕ). form.Close h) (alone ident rest)
-handle_form handled.Sync rest = seen (λ (p : NameAnd). form.Sync p.0 p.1) (led ident slot_ending rest)
+handle_form handled.XRead rest = seen (λ (p : HandleTermInto). form.XRead p.0 p.1.0 p.1.1) (led ident (led term target) rest)
+handle_form handled.XWriteOvr rest = seen (λ (p : List ℕ × List NamedItem). form.XWriteOvr p.0 p.1) (led ident data_of rest)
+handle_form handled.XWriteSeq rest = seen (λ (p : List ℕ × List NamedItem). form.XWriteSeq p.0 p.1) (led ident data_of rest)
+handle_form handled.XSeek rest = seen (λ (p : List ℕ × NamedTerm). form.XSeek p.0 p.1) (led ident (alone term) rest)
+handle_form handled.XLen rest = seen (λ (p : NameAnd). form.XLen p.0 p.1) (led ident target rest)
+handle_form handled.XClose rest = seen (λ (h : List ℕ). form.XClose h) (alone ident rest)
+handle_form handled.XSync rest = seen (λ (p : NameAnd). form.XSync p.0 p.1) (led ident slot_ending rest)
 
 -- the call on a pipe: nothing, `H T` or `H D`, and after them `-> V` or `slot S` where that is wanted
 abbrev pub pipe_form : PipeCall → List Lexeme → Result NamedCallForm Why
-pipe_form piped.Make rest = seen form.Pipe (target rest)
-pipe_form piped.Read rest = seen (λ (p : HandleTermInto). form.ReadPipe p.0 p.1.0 p.1.1) (led ident (led term target) rest)
-pipe_form piped.Write rest = seen (λ (p : HandleDataSlot). form.WritePipe p.0 p.1.0 p.1.1) (led ident (before_slot data_of) rest)
-pipe_form piped.Shutdown rest = seen (λ (p : NameAnd). form.Shutdown p.0 p.1) (led ident slot_ending rest)
+pipe_form piped.XPipe rest = seen form.XPipe (target rest)
+pipe_form piped.XReadPipe rest = seen (λ (p : HandleTermInto). form.XReadPipe p.0 p.1.0 p.1.1) (led ident (led term target) rest)
+pipe_form piped.XWritePipe rest = seen (λ (p : HandleDataSlot). form.XWritePipe p.0 p.1.0 p.1.1) (led ident (before_slot data_of) rest)
+pipe_form piped.XShutdown rest = seen (λ (p : NameAnd). form.XShutdown p.0 p.1) (led ident slot_ending rest)
 
 -- the call on a pair: nothing, `H` or `H D`, and after them `-> V W`, `-> V` or `slot S` where that is wanted
 abbrev pub pair_form : PairCall → List Lexeme → Result NamedCallForm Why
-pair_form paired.Make rest = seen form.Pair (two_targets rest)
-pair_form paired.Receive rest = seen (λ (p : NameAnd). form.Receive p.0 p.1) (led ident target rest)
-pair_form paired.Send rest = seen (λ (p : HandleDataSlot). form.Send p.0 p.1.0 p.1.1) (led ident (before_slot data_of) rest)
+pair_form paired.XPair rest = seen form.XPair (two_targets rest)
+pair_form paired.XRecvmsg rest = seen (λ (p : NameAnd). form.XRecvmsg p.0 p.1) (led ident target rest)
+pair_form paired.XSendmsg rest = seen (λ (p : HandleDataSlot). form.XSendmsg p.0 p.1.0 p.1.1) (led ident (before_slot data_of) rest)
 
 -- the call that starts a job: `BLOCK`, and after it `slot S` where that is wanted. No block needs to have the name
 abbrev pub thread_form : List Lexeme → Result NamedCallForm Why
-thread_form rest = seen (λ (p : NameAnd). form.Start p.0 p.1) (led ident slot_ending rest)
+thread_form rest = seen (λ (p : NameAnd). form.XThreadCreate p.0 p.1) (led ident slot_ending rest)
 
 -- the call of a kind that the tokens after its word make
 abbrev pub form_of : CallKind → List Lexeme → Result NamedCallForm Why
@@ -109,7 +109,7 @@ form_of (Name call) rest = name_form call rest
 form_of (Handle call) rest = handle_form call rest
 form_of (Pipe call) rest = pipe_form call rest
 form_of (Pair call) rest = pair_form call rest
-form_of Thread rest = thread_form rest
+form_of XThreadCreate rest = thread_form rest
 
 -- a call, where its word is one
 abbrev pub read_call_line : Option CallKind → List Lexeme → Result NamedStatement Why

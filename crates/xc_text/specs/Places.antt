@@ -107,29 +107,29 @@ written_with_slot_of names p =
 abbrev pub placed_form : Names → named.NamedCallForm → Placed CallForm
 placed_form names (form.Load at into) = one_placed (λ p. form.Load p.0 p.1) (placed_term_into names at into)
 placed_form names (form.Store at value) = two_placed form.Store (placed_term names at) (λ behind. placed_expression behind value)
-placed_form names (form.Open file into) = one_placed (form.Open file) (placed_target names into)
-placed_form names (form.Create file into) = one_placed (form.Create file) (placed_target names into)
-placed_form names (form.Rename from to) = (names, form.Rename from to)
-placed_form names (form.Read handle n into) =
-    two_placed (λ h p. form.Read h p.0 p.1) (variable names handle) (λ behind. placed_term_into behind n into)
-placed_form names (form.Overwrite handle items) = one_placed (λ p. form.Overwrite p.0 p.1) (placed_written names handle items)
-placed_form names (form.Append handle items) = one_placed (λ p. form.Append p.0 p.1) (placed_written names handle items)
-placed_form names (form.Seek handle to) = two_placed form.Seek (variable names handle) (λ behind. placed_term behind to)
-placed_form names (form.Length handle into) = two_placed form.Length (variable names handle) (λ behind. placed_target behind into)
-placed_form names (form.Close handle) = one_placed form.Close (variable names handle)
-placed_form names (form.Unlink file into) = one_placed (form.Unlink file) (placed_ending names into)
-placed_form names (form.Sync handle into) = two_placed form.Sync (variable names handle) (λ behind. placed_ending behind into)
-placed_form names (form.Pipe into) = one_placed form.Pipe (placed_target names into)
-placed_form names (form.ReadPipe handle n into) =
-    two_placed (λ h p. form.ReadPipe h p.0 p.1) (variable names handle) (λ behind. placed_term_into behind n into)
-placed_form names (form.WritePipe handle items into) =
-    two_placed (λ p s. form.WritePipe p.0 p.1 s) (placed_written names handle items) (λ behind. placed_ending behind into)
-placed_form names (form.Shutdown handle into) = two_placed form.Shutdown (variable names handle) (λ behind. placed_ending behind into)
-placed_form names (form.Pair into) = one_placed form.Pair (placed_targets names into)
-placed_form names (form.Receive handle into) = two_placed form.Receive (variable names handle) (λ behind. placed_target behind into)
-placed_form names (form.Send handle items into) =
-    two_placed (λ p s. form.Send p.0 p.1 s) (placed_written names handle items) (λ behind. placed_ending behind into)
-placed_form names (form.Start block into) = one_placed (form.Start block) (placed_ending names into)
+placed_form names (form.XOpen file into) = one_placed (form.XOpen file) (placed_target names into)
+placed_form names (form.XCreate file into) = one_placed (form.XCreate file) (placed_target names into)
+placed_form names (form.XRename from to) = (names, form.XRename from to)
+placed_form names (form.XRead handle n into) =
+    two_placed (λ h p. form.XRead h p.0 p.1) (variable names handle) (λ behind. placed_term_into behind n into)
+placed_form names (form.XWriteOvr handle items) = one_placed (λ p. form.XWriteOvr p.0 p.1) (placed_written names handle items)
+placed_form names (form.XWriteSeq handle items) = one_placed (λ p. form.XWriteSeq p.0 p.1) (placed_written names handle items)
+placed_form names (form.XSeek handle to) = two_placed form.XSeek (variable names handle) (λ behind. placed_term behind to)
+placed_form names (form.XLen handle into) = two_placed form.XLen (variable names handle) (λ behind. placed_target behind into)
+placed_form names (form.XClose handle) = one_placed form.XClose (variable names handle)
+placed_form names (form.XUnlink file into) = one_placed (form.XUnlink file) (placed_ending names into)
+placed_form names (form.XSync handle into) = two_placed form.XSync (variable names handle) (λ behind. placed_ending behind into)
+placed_form names (form.XPipe into) = one_placed form.XPipe (placed_target names into)
+placed_form names (form.XReadPipe handle n into) =
+    two_placed (λ h p. form.XReadPipe h p.0 p.1) (variable names handle) (λ behind. placed_term_into behind n into)
+placed_form names (form.XWritePipe handle items into) =
+    two_placed (λ p s. form.XWritePipe p.0 p.1 s) (placed_written names handle items) (λ behind. placed_ending behind into)
+placed_form names (form.XShutdown handle into) = two_placed form.XShutdown (variable names handle) (λ behind. placed_ending behind into)
+placed_form names (form.XPair into) = one_placed form.XPair (placed_targets names into)
+placed_form names (form.XRecvmsg handle into) = two_placed form.XRecvmsg (variable names handle) (λ behind. placed_target behind into)
+placed_form names (form.XSendmsg handle items into) =
+    two_placed (λ p s. form.XSendmsg p.0 p.1 s) (placed_written names handle items) (λ behind. placed_ending behind into)
+placed_form names (form.XThreadCreate block into) = one_placed (form.XThreadCreate block) (placed_ending names into)
 placed_form names form.Save = (names, form.Save)
 placed_form names form.Keep = (names, form.Keep)
 placed_form names form.Back = (names, form.Back)

@@ -16,39 +16,39 @@ pub enum WordCall {
 /// The calls on names of files.
 #[derive(Clone, Copy)]
 pub enum NameCall {
-    Open,
-    Create,
-    Rename,
-    Unlink,
+    XOpen,
+    XCreate,
+    XRename,
+    XUnlink,
 }
 
 /// The calls through the handle of a file.
 #[derive(Clone, Copy)]
 pub enum HandleCall {
-    Read,
-    Overwrite,
-    Append,
-    Seek,
-    Length,
-    Close,
-    Sync,
+    XRead,
+    XWriteOvr,
+    XWriteSeq,
+    XSeek,
+    XLen,
+    XClose,
+    XSync,
 }
 
 /// The calls on pipes.
 #[derive(Clone, Copy)]
 pub enum PipeCall {
-    Make,
-    Read,
-    Write,
-    Shutdown,
+    XPipe,
+    XReadPipe,
+    XWritePipe,
+    XShutdown,
 }
 
 /// The calls on socket pairs.
 #[derive(Clone, Copy)]
 pub enum PairCall {
-    Make,
-    Receive,
-    Send,
+    XPair,
+    XRecvmsg,
+    XSendmsg,
 }
 
 /// The kinds of calls, which the first word of a line tells: on words, on names of files, through the handle of a file, on
@@ -60,32 +60,32 @@ pub enum CallKind {
     Handle(HandleCall),
     Pipe(PipeCall),
     Pair(PairCall),
-    Thread,
+    XThreadCreate,
 }
 
 /// The words that lines begin with which are calls.
 const CALL_KINDS: [(&[u8], CallKind); 21] = [
     (b"load", CallKind::Word(WordCall::Load)),
     (b"store", CallKind::Word(WordCall::Store)),
-    (b"x_open", CallKind::Name(NameCall::Open)),
-    (b"x_create", CallKind::Name(NameCall::Create)),
-    (b"x_rename", CallKind::Name(NameCall::Rename)),
-    (b"x_unlink", CallKind::Name(NameCall::Unlink)),
-    (b"x_read", CallKind::Handle(HandleCall::Read)),
-    (b"x_write_ovr", CallKind::Handle(HandleCall::Overwrite)),
-    (b"x_write_seq", CallKind::Handle(HandleCall::Append)),
-    (b"x_seek", CallKind::Handle(HandleCall::Seek)),
-    (b"x_len", CallKind::Handle(HandleCall::Length)),
-    (b"x_close", CallKind::Handle(HandleCall::Close)),
-    (b"x_sync", CallKind::Handle(HandleCall::Sync)),
-    (b"x_pipe", CallKind::Pipe(PipeCall::Make)),
-    (b"x_read_pipe", CallKind::Pipe(PipeCall::Read)),
-    (b"x_write_pipe", CallKind::Pipe(PipeCall::Write)),
-    (b"x_shutdown", CallKind::Pipe(PipeCall::Shutdown)),
-    (b"x_pair", CallKind::Pair(PairCall::Make)),
-    (b"x_recvmsg", CallKind::Pair(PairCall::Receive)),
-    (b"x_sendmsg", CallKind::Pair(PairCall::Send)),
-    (b"x_thread_create", CallKind::Thread),
+    (b"x_open", CallKind::Name(NameCall::XOpen)),
+    (b"x_create", CallKind::Name(NameCall::XCreate)),
+    (b"x_rename", CallKind::Name(NameCall::XRename)),
+    (b"x_unlink", CallKind::Name(NameCall::XUnlink)),
+    (b"x_read", CallKind::Handle(HandleCall::XRead)),
+    (b"x_write_ovr", CallKind::Handle(HandleCall::XWriteOvr)),
+    (b"x_write_seq", CallKind::Handle(HandleCall::XWriteSeq)),
+    (b"x_seek", CallKind::Handle(HandleCall::XSeek)),
+    (b"x_len", CallKind::Handle(HandleCall::XLen)),
+    (b"x_close", CallKind::Handle(HandleCall::XClose)),
+    (b"x_sync", CallKind::Handle(HandleCall::XSync)),
+    (b"x_pipe", CallKind::Pipe(PipeCall::XPipe)),
+    (b"x_read_pipe", CallKind::Pipe(PipeCall::XReadPipe)),
+    (b"x_write_pipe", CallKind::Pipe(PipeCall::XWritePipe)),
+    (b"x_shutdown", CallKind::Pipe(PipeCall::XShutdown)),
+    (b"x_pair", CallKind::Pair(PairCall::XPair)),
+    (b"x_recvmsg", CallKind::Pair(PairCall::XRecvmsg)),
+    (b"x_sendmsg", CallKind::Pair(PairCall::XSendmsg)),
+    (b"x_thread_create", CallKind::XThreadCreate),
 ];
 
 /// The kind of call that a word begins.

@@ -29,80 +29,80 @@ pub enum Form {
         left: Term<NameIndex>,
         right: Term<NameIndex>,
     },
-    Open {
+    XOpen {
         into: Option<NameIndex>,
         name: SharedName,
     },
-    Create {
+    XCreate {
         into: Option<NameIndex>,
         name: SharedName,
     },
-    Rename {
+    XRename {
         from: SharedName,
         to: SharedName,
     },
-    Read {
+    XRead {
         handle: NameIndex,
         n: Term<NameIndex>,
         into: Option<NameIndex>,
     },
-    Overwrite {
+    XWriteOvr {
         handle: NameIndex,
         data: Data<NameIndex>,
     },
-    Append {
+    XWriteSeq {
         handle: NameIndex,
         data: Data<NameIndex>,
     },
-    Seek {
+    XSeek {
         handle: NameIndex,
         to: Term<NameIndex>,
     },
-    Length {
+    XLen {
         handle: NameIndex,
         into: Option<NameIndex>,
     },
-    Close {
+    XClose {
         handle: NameIndex,
     },
-    Unlink {
+    XUnlink {
         slot: Option<NameIndex>,
         name: SharedName,
     },
-    Sync {
+    XSync {
         handle: NameIndex,
         slot: Option<NameIndex>,
     },
-    Pipe {
+    XPipe {
         into: Option<NameIndex>,
     },
-    ReadPipe {
+    XReadPipe {
         handle: NameIndex,
         n: Term<NameIndex>,
         into: Option<NameIndex>,
     },
-    WritePipe {
+    XWritePipe {
         handle: NameIndex,
         slot: Option<NameIndex>,
         data: Data<NameIndex>,
     },
-    Shutdown {
+    XShutdown {
         handle: NameIndex,
         slot: Option<NameIndex>,
     },
-    Pair {
+    XPair {
         into: Option<(NameIndex, NameIndex)>,
     },
-    Receive {
+    XRecvmsg {
         handle: NameIndex,
         into: Option<NameIndex>,
     },
-    Send {
+    XSendmsg {
         handle: NameIndex,
         slot: Option<NameIndex>,
         data: Data<NameIndex>,
     },
-    Start {
+    XThreadCreate {
         slot: Option<NameIndex>,
         block: Boxed<Ident>,
     },
@@ -186,25 +186,25 @@ fn call(call: CallForm<NameIndex>) -> Form
     match call {
         CallForm::Load { at, into } => Form::Load { at, into },
         CallForm::Store { at, value } => store(at, value),
-        CallForm::Open { into, name } => Form::Open { into, name },
-        CallForm::Create { into, name } => Form::Create { into, name },
-        CallForm::Rename { from, to } => Form::Rename { from, to },
-        CallForm::Read { handle, n, into } => Form::Read { handle, n, into },
-        CallForm::Overwrite { handle, data } => Form::Overwrite { handle, data },
-        CallForm::Append { handle, data } => Form::Append { handle, data },
-        CallForm::Seek { handle, to } => Form::Seek { handle, to },
-        CallForm::Length { handle, into } => Form::Length { handle, into },
-        CallForm::Close { handle } => Form::Close { handle },
-        CallForm::Unlink { slot, name } => Form::Unlink { slot, name },
-        CallForm::Sync { handle, slot } => Form::Sync { handle, slot },
-        CallForm::Pipe { into } => Form::Pipe { into },
-        CallForm::ReadPipe { handle, n, into } => Form::ReadPipe { handle, n, into },
-        CallForm::WritePipe { handle, slot, data } => Form::WritePipe { handle, slot, data },
-        CallForm::Shutdown { handle, slot } => Form::Shutdown { handle, slot },
-        CallForm::Pair { into } => Form::Pair { into },
-        CallForm::Receive { handle, into } => Form::Receive { handle, into },
-        CallForm::Send { handle, slot, data } => Form::Send { handle, slot, data },
-        CallForm::Start { slot, block } => Form::Start { slot, block },
+        CallForm::XOpen { into, name } => Form::XOpen { into, name },
+        CallForm::XCreate { into, name } => Form::XCreate { into, name },
+        CallForm::XRename { from, to } => Form::XRename { from, to },
+        CallForm::XRead { handle, n, into } => Form::XRead { handle, n, into },
+        CallForm::XWriteOvr { handle, data } => Form::XWriteOvr { handle, data },
+        CallForm::XWriteSeq { handle, data } => Form::XWriteSeq { handle, data },
+        CallForm::XSeek { handle, to } => Form::XSeek { handle, to },
+        CallForm::XLen { handle, into } => Form::XLen { handle, into },
+        CallForm::XClose { handle } => Form::XClose { handle },
+        CallForm::XUnlink { slot, name } => Form::XUnlink { slot, name },
+        CallForm::XSync { handle, slot } => Form::XSync { handle, slot },
+        CallForm::XPipe { into } => Form::XPipe { into },
+        CallForm::XReadPipe { handle, n, into } => Form::XReadPipe { handle, n, into },
+        CallForm::XWritePipe { handle, slot, data } => Form::XWritePipe { handle, slot, data },
+        CallForm::XShutdown { handle, slot } => Form::XShutdown { handle, slot },
+        CallForm::XPair { into } => Form::XPair { into },
+        CallForm::XRecvmsg { handle, into } => Form::XRecvmsg { handle, into },
+        CallForm::XSendmsg { handle, slot, data } => Form::XSendmsg { handle, slot, data },
+        CallForm::XThreadCreate { slot, block } => Form::XThreadCreate { slot, block },
         CallForm::Save => Form::Save,
         CallForm::Keep => Form::Keep,
         CallForm::Back => Form::Back,

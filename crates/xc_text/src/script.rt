@@ -57,97 +57,97 @@ pub enum CallForm<N> {
         at: Term<N>,
         value: Expression<N>,
     },
-    Open {
+    XOpen {
         name: SharedName,
         into: Option<N>,
     },
     /// Makes an empty file.
-    Create {
+    XCreate {
         name: SharedName,
         into: Option<N>,
     },
-    Rename {
+    XRename {
         from: SharedName,
         to: SharedName,
     },
     /// Reads up to n bytes through the handle in a variable.
-    Read {
+    XRead {
         handle: N,
         n: Term<N>,
         into: Option<N>,
     },
     /// Writes over a file's bytes through the handle in a variable.
-    Overwrite {
+    XWriteOvr {
         handle: N,
         data: Data<N>,
     },
     /// Writes after a file's bytes through the handle in a variable.
-    Append {
+    XWriteSeq {
         handle: N,
         data: Data<N>,
     },
     /// Sets the position of the handle in a variable.
-    Seek {
+    XSeek {
         handle: N,
         to: Term<N>,
     },
     /// Asks for the length of the file whose handle is in a variable.
-    Length {
+    XLen {
         handle: N,
         into: Option<N>,
     },
     /// Gives up the handle in a variable.
-    Close {
+    XClose {
         handle: N,
     },
     /// Takes a file's name away at the commit. A slot takes the end where one is named.
-    Unlink {
+    XUnlink {
         name: SharedName,
         slot: Option<N>,
     },
     /// Keeps for good, at the commit, what was written to the file whose handle is in a variable.
-    Sync {
+    XSync {
         handle: N,
         slot: Option<N>,
     },
     /// Makes an empty pipe.
-    Pipe {
+    XPipe {
         into: Option<N>,
     },
     /// Takes up to n bytes from the front of the pipe whose handle is in a variable.
-    ReadPipe {
+    XReadPipe {
         handle: N,
         n: Term<N>,
         into: Option<N>,
     },
     /// Puts bytes after those of the pipe whose handle is in a variable, at the commit.
-    WritePipe {
+    XWritePipe {
         handle: N,
         data: Data<N>,
         slot: Option<N>,
     },
     /// Shuts the pipe whose handle is in a variable, at the commit: it takes no bytes any more.
-    Shutdown {
+    XShutdown {
         handle: N,
         slot: Option<N>,
     },
     /// Makes a socket pair. Two variables take the handles of its sides where they are named.
-    Pair {
+    XPair {
         into: Option<(N, N)>,
     },
     /// Takes the first message of the side whose handle is in a variable.
-    Receive {
+    XRecvmsg {
         handle: N,
         into: Option<N>,
     },
     /// Sends bytes as one message from the side whose handle is in a variable, at the commit.
-    Send {
+    XSendmsg {
         handle: N,
         data: Data<N>,
         slot: Option<N>,
     },
     /// Starts a job at the start of a block, at the commit. No block needs to have the name.
-    Start {
+    XThreadCreate {
         block: Boxed<Ident>,
         slot: Option<N>,
     },

@@ -6,7 +6,7 @@ use Rattle.std.proofs.lemmas.List.Elements.{All-nil, All-cons, All-weaker, All-c
 use Rattle.xc_data.specs.declared.object.Object.{Object}
 use Rattle.xc_data.specs.declared.object.Object.TheVariants as object
 use Rattle.xc_data.specs.declared.undo.Undo.{Undo}
-use Rattle.xc_data.specs.declared.undo.Undo.TheVariants.{Bytes, Tail}
+use Rattle.xc_data.specs.declared.undo.Undo.TheVariants.{Overwrite, Append}
 use Rattle.xc_data.specs.declared.call.Call.{Call}
 use Rattle.xc_data.specs.declared.call.Call.TheVariants as call
 use Rattle.xc_data.specs.declared.call.Answer.{Answer}
@@ -88,7 +88,7 @@ touched_all c me words e = ap (λ b. if b then [] else objects_of_call c me) e
 overwrite_alike : (w v : World) (bytes : List ℕ) (n : ℕ) (p : Place) → All (AgreeAt w v) (object_at p)
     → overwrite_record w bytes n p ≡ overwrite_record v bytes n p
 overwrite_alike w v bytes n (place.File num at) agree =
-    let f : List ℕ → List Undo = λ file. if n == 0 then [] else Bytes num at (take (length bytes) (drop at file)) bytes n ∷ [] in
+    let f : List ℕ → List Undo = λ file. if n == 0 then [] else Overwrite num at (take (length bytes) (drop at file)) bytes n ∷ [] in
     ap f (same_file (object.File num ∷ []) w v num (first_in (object.File num) []) agree)
 overwrite_alike w v bytes n place.Vacant agree = refl
 overwrite_alike w v bytes n (place.Pipe num) agree = refl
@@ -96,7 +96,7 @@ overwrite_alike w v bytes n (place.Pair num side) agree = refl
 
 append_alike : (w v : World) (bytes : List ℕ) (n : ℕ) (p : Place) → All (AgreeAt w v) (object_at p) → append_record w bytes n p ≡ append_record v bytes n p
 append_alike w v bytes n (place.File num at) agree =
-    let f : List ℕ → List Undo = λ file. if n == 0 then [] else Tail num (length file) bytes n ∷ [] in
+    let f : List ℕ → List Undo = λ file. if n == 0 then [] else Append num (length file) bytes n ∷ [] in
     ap f (same_file (object.File num ∷ []) w v num (first_in (object.File num) []) agree)
 append_alike w v bytes n place.Vacant agree = refl
 append_alike w v bytes n (place.Pipe num) agree = refl

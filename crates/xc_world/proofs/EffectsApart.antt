@@ -10,7 +10,7 @@ use Rattle.std.proofs.lemmas.List.Folds.{list_any_at}
 use Rattle.xc_data.specs.declared.object.Object.{Object}
 use Rattle.xc_data.specs.declared.object.Object.TheVariants as object
 use Rattle.xc_data.specs.declared.undo.Undo.{Undo}
-use Rattle.xc_data.specs.declared.undo.Undo.TheVariants.{Bytes, Tail, Made, Moved, NewPipe, NewPair}
+use Rattle.xc_data.specs.declared.undo.Undo.TheVariants.{Overwrite, Append, Create, Rename, NewPipe, NewPair}
 use Rattle.xc_data.specs.declared.undo.UndoEnd.TheVariants.{Undone, Failed, Blocked}
 use Rattle.xc_data.specs.Remaining.{objects_of}
 use Rattle.xc_data.specs.Claims.{is_object}
@@ -72,7 +72,7 @@ LeavesRoom v w _ = Unit {0}
 
 -- a record that is made in one world is made in another that leaves room for its objects
 pub made_there : (v w : World) (u : Undo) → All (LeavesRoom v w) (objects_of u) → IsMadeIn v u → IsMadeIn w u
-made_there v w (Bytes file at before after n) room made =
+made_there v w (Overwrite file at before after n) room made =
     let e : finite.get v.files file ≡ finite.get w.files file = All-head (LeavesRoom v w) (object.File file) [] room in
     record {
       there = subst (λ (o : Option (List ℕ)). is_some o ≡ true) e made.there;
@@ -81,7 +81,7 @@ made_there v w (Bytes file at before after n) room made =
       some = made.some;
       within = made.within;
     }
-made_there v w (Tail file from after n) room made =
+made_there v w (Append file from after n) room made =
     let e : finite.get v.files file ≡ finite.get w.files file = All-head (LeavesRoom v w) (object.File file) [] room in
     record {
       there = subst (λ (o : Option (List ℕ)). is_some o ≡ true) e made.there;
@@ -90,13 +90,13 @@ made_there v w (Tail file from after n) room made =
       some = made.some;
       within = made.within;
     }
-made_there v w (Made name num) room made =
+made_there v w (Create name num) room made =
     let files = object.File num ∷ [] in
     record {
       unnamed = sym (All-head (LeavesRoom v w) (object.Name name) files room) ∙ made.unnamed;
       absent = sym (All-head (LeavesRoom v w) (object.File num) [] (All-tail (LeavesRoom v w) (object.Name name) files room)) ∙ made.absent;
     }
-made_there v w (Moved from to) room made =
+made_there v w (Rename from to) room made =
     let new = object.Name to ∷ [] in
     record {
       there = subst (λ o. is_some o ≡ true) (All-head (LeavesRoom v w) (object.Name from) new room) made.there;

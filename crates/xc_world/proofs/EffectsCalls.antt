@@ -11,7 +11,7 @@ use Rattle.xc_data.specs.declared.call.Answer.{Answer}
 use Rattle.xc_data.specs.declared.call.Answer.TheVariants as answer
 use Rattle.xc_data.specs.declared.call.Reply.TheVariants as reply
 use Rattle.xc_data.specs.declared.undo.Undo.{Undo}
-use Rattle.xc_data.specs.declared.undo.Undo.TheVariants.{Bytes, Tail}
+use Rattle.xc_data.specs.declared.undo.Undo.TheVariants.{Overwrite, Append}
 use Rattle.xc_data.specs.declared.private.Place.{Place}
 use Rattle.xc_data.specs.declared.private.Place.TheVariants.{Vacant, File, Pipe, Pair}
 use Rattle.xc_data.specs.declared.private.Private.{Private}
@@ -53,7 +53,7 @@ pub at_start : (at : ℕ) (bytes file : List ℕ) → overwritten (at + 0) bytes
 at_start at bytes file = let e : at + 0 ≡ at = omega arith in ap (λ i. overwritten i bytes file) e
 
 put-leads : (w : World) (num : Num) (at n : ℕ) (before bytes written : List ℕ) → written ≡ take n bytes
-    → LeadsByRecords w (with_file w num (overwritten at written (file_of w num))) (Bytes num at before bytes n ∷ [])
+    → LeadsByRecords w (with_file w num (overwritten at written (file_of w num))) (Overwrite num at before bytes n ∷ [])
 put-leads w num at n before bytes written e =
     ap (λ x. with_file w num (overwritten at x (file_of w num))) e ∙ ap (with_file w num) (sym (at_start at (take n bytes) (file_of w num)))
 
@@ -63,7 +63,7 @@ overwrite_at-leads w me h bytes (File num at) =
     cond_both (length bytes == 0) _ _ (LeadsOverwrite w bytes (File num at)) (λ none. none_leads w _ (length bytes == 0) none) (λ some.
     cond_both (nat_lt (length (file_of w num)) (at + length bytes)) (step_to w me reply.PastEnd) (put w me (open_at h num at) bytes reply.Done)
     (LeadsOverwrite w bytes (File num at)) (λ _. refl) (λ _.
-    one_leads w _ (Bytes num at before bytes (length bytes) ∷ []) (length bytes == 0) some
+    one_leads w _ (Overwrite num at before bytes (length bytes) ∷ []) (length bytes == 0) some
     (put-leads w num at (length bytes) before bytes bytes (sym (take_all (length bytes) bytes (omega arith))))))
 overwrite_at-leads w me h bytes Vacant = refl
 overwrite_at-leads w me h bytes (Pipe num) = refl
@@ -73,7 +73,7 @@ overwrite_short-leads : (w : World) (me : Private) (h : ℕ) (bytes : List ℕ) 
 overwrite_short-leads w me h bytes n (File num at) =
     let before = take (length bytes) (drop at (file_of w num)) in
     cond_both (n == 0) _ _ (LeadsOverwrite w bytes (File num at)) (λ none. none_leads w _ (n == 0) none) (λ some.
-    one_leads w _ (Bytes num at before bytes n ∷ []) (n == 0) some (put-leads w num at n before bytes (take n bytes) refl))
+    one_leads w _ (Overwrite num at before bytes n ∷ []) (n == 0) some (put-leads w num at n before bytes (take n bytes) refl))
 overwrite_short-leads w me h bytes n Vacant = refl
 overwrite_short-leads w me h bytes n (Pipe num) = refl
 overwrite_short-leads w me h bytes n (Pair num side) = refl
@@ -83,7 +83,7 @@ abbrev pub LeadsAppend : World → List ℕ → Place → Stepped → Type 0
 LeadsAppend w bytes p s = LeadsByRecords w s.world (append_record w bytes (done_of (length bytes) s.reply) p)
 
 appended-leads : (w : World) (num : Num) (from n : ℕ) (bytes written : List ℕ) → written ≡ take n bytes
-    → LeadsByRecords w (with_file w num (file_of w num ++ written)) (Tail num from bytes n ∷ [])
+    → LeadsByRecords w (with_file w num (file_of w num ++ written)) (Append num from bytes n ∷ [])
 appended-leads w num from n bytes written e = ap (λ x. with_file w num (file_of w num ++ x)) e
 
 append_at-leads : (w : World) (me : Private) (h : ℕ) (bytes : List ℕ) (p : Place) → LeadsAppend w bytes p (append_at w me h bytes p)
@@ -92,7 +92,7 @@ append_at-leads w me h bytes (File num at) =
     cond_both (length bytes == 0) _ _ (LeadsAppend w bytes (File num at)) (λ none. none_leads w _ (length bytes == 0) none) (λ some.
     cond_both (nat_lt 65536 (from + length bytes)) (step_to w me reply.TooBig) (append_step w me (open_at h num at) bytes reply.Done)
     (LeadsAppend w bytes (File num at)) (λ _. refl) (λ _.
-    one_leads w _ (Tail num from bytes (length bytes) ∷ []) (length bytes == 0) some
+    one_leads w _ (Append num from bytes (length bytes) ∷ []) (length bytes == 0) some
     (appended-leads w num from (length bytes) bytes bytes (sym (take_all (length bytes) bytes (omega arith))))))
 append_at-leads w me h bytes Vacant = refl
 append_at-leads w me h bytes (Pipe num) = refl
@@ -102,7 +102,7 @@ append_short-leads : (w : World) (me : Private) (h : ℕ) (bytes : List ℕ) (n 
 append_short-leads w me h bytes n (File num at) =
     let from = length (file_of w num) in
     cond_both (n == 0) _ _ (LeadsAppend w bytes (File num at)) (λ none. none_leads w _ (n == 0) none) (λ some.
-    one_leads w _ (Tail num from bytes n ∷ []) (n == 0) some (appended-leads w num from n bytes (take n bytes) refl))
+    one_leads w _ (Append num from bytes n ∷ []) (n == 0) some (appended-leads w num from n bytes (take n bytes) refl))
 append_short-leads w me h bytes n Vacant = refl
 append_short-leads w me h bytes n (Pipe num) = refl
 append_short-leads w me h bytes n (Pair num side) = refl

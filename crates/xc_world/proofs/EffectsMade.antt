@@ -10,7 +10,7 @@ use Rattle.xc_data.specs.declared.call.Call.TheVariants as call
 use Rattle.xc_data.specs.declared.call.Answer.{Answer}
 use Rattle.xc_data.specs.declared.call.Answer.TheVariants as answer
 use Rattle.xc_data.specs.declared.undo.Undo.{Undo}
-use Rattle.xc_data.specs.declared.undo.Undo.TheVariants.{Bytes, Tail}
+use Rattle.xc_data.specs.declared.undo.Undo.TheVariants.{Overwrite, Append}
 use Rattle.xc_data.specs.declared.private.Place.{Place}
 use Rattle.xc_data.specs.declared.private.Place.TheVariants.{Vacant, File, Pipe, Pair}
 use Rattle.xc_data.specs.declared.private.Private.{Private}
@@ -39,7 +39,7 @@ made_one : (w : World) (us : List Undo) (b : Bool) → b ≡ false → AreMadeIn
 made_one w us b e h = subst (λ c. AreMadeIn w (if c then [] else us)) (sym e) h
 
 put-made : (w : World) (num : Num) (at n : ℕ) (bytes : List ℕ) → is_some (finite.get w.files num) ≡ true → at + length bytes ≤ length (file_of w num)
-    → 1 ≤ n → n ≤ length bytes → AreMadeIn w (Bytes num at (take (length bytes) (drop at (file_of w num))) bytes n ∷ [])
+    → 1 ≤ n → n ≤ length bytes → AreMadeIn w (Overwrite num at (take (length bytes) (drop at (file_of w num))) bytes n ∷ [])
 put-made w num at n bytes there inside some within = (record { there = there; inside = inside; old = refl; some = some; within = within }, tt)
 
 overwrite_at-made : (w : World) (me : Private) (h : ℕ) (bytes : List ℕ) (p : Place) → IsKnown w p → MakesOverwrite w bytes p (overwrite_at w me h bytes p)
@@ -68,7 +68,7 @@ abbrev pub MakesAppend : World → List ℕ → Place → Stepped → Type 0
 MakesAppend w bytes p s = AreMadeIn w (append_record w bytes (done_of (length bytes) s.reply) p)
 
 tail-made : (w : World) (num : Num) (n : ℕ) (bytes : List ℕ) → is_some (finite.get w.files num) ≡ true → length (file_of w num) + length bytes ≤ 65536
-    → 1 ≤ n → n ≤ length bytes → AreMadeIn w (Tail num (length (file_of w num)) bytes n ∷ [])
+    → 1 ≤ n → n ≤ length bytes → AreMadeIn w (Append num (length (file_of w num)) bytes n ∷ [])
 tail-made w num n bytes there room some within = (record { there = there; size = refl; room = room; some = some; within = within }, tt)
 
 append_at-made : (w : World) (me : Private) (h : ℕ) (bytes : List ℕ) (p : Place) → IsKnown w p → MakesAppend w bytes p (append_at w me h bytes p)

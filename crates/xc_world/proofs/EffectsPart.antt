@@ -4,7 +4,7 @@ use Rattle.std.specs.FinMap as finite
 use Rattle.std.specs.Ordering.{eq_by_cmp}
 use Rattle.xc_data.specs.declared.object.Num.{Num}
 use Rattle.xc_data.specs.declared.undo.Undo.{Undo}
-use Rattle.xc_data.specs.declared.undo.Undo.TheVariants.{Bytes, Tail, Made, Moved, NewPipe, NewPair}
+use Rattle.xc_data.specs.declared.undo.Undo.TheVariants.{Overwrite, Append, Create, Rename, NewPipe, NewPair}
 use Rattle.xc_data.specs.declared.undo.UndoEnd.TheVariants.{Undone, Failed, Blocked}
 use Rattle.xc_data.specs.Remaining.{stopped_at}
 use Rattle.xc_maps.specs.Keys.{num_cmp}
@@ -72,21 +72,21 @@ moved_whole r v from to (Some b) part = record { files = part.files; pipes = par
 
 -- ---- an effect in both, and in the whole alone
 pub effect_both : (r v : World) (u : Undo) (k : ℕ) → IsMadeIn v u → IsPart r v → IsPart (with_effect r u k) (with_effect v u 0)
-effect_both r v (Bytes file at before after n) k made part =
+effect_both r v (Overwrite file at before after n) k made part =
     let size = part.size file in
     let whole = overwrite_length at n after (file_of v file) made.inside made.within in
     let inside = made.inside in
     let within = made.within in
     let some = overwrite_within at n k (length (file_of v file)) after (file_of r file) size (omega (arith, inside, within)) within in
     put_both r v file _ _ (omega (arith, some, whole)) part
-effect_both r v (Tail file from after n) k made part =
+effect_both r v (Append file from after n) k made part =
     let some = append_within n k (length (file_of v file)) after (file_of r file) (part.size file) in
     let whole = append_length n after (file_of v file) made.within in
     put_both r v file _ _ (omega (arith, some, whole)) part
-effect_both r v (Made name num) k made part =
+effect_both r v (Create name num) k made part =
     let files = put_both r v num [] [] (omega arith) part in
     record { files = files.files; pipes = part.pipes; pairs = part.pairs; size = files.size }
-effect_both r v (Moved from to) k made part = moved_both r v from to (finite.get r.names from) (finite.get v.names from) part
+effect_both r v (Rename from to) k made part = moved_both r v from to (finite.get r.names from) (finite.get v.names from) part
 effect_both r v (NewPipe num) k made part =
     record {
       files = part.files;
@@ -104,17 +104,17 @@ effect_both r v (NewPair num) k made part =
 
 -- an effect in the whole alone
 pub effect_whole : (r v : World) (u : Undo) → IsMadeIn v u → IsPart r v → IsPart r (with_effect v u 0)
-effect_whole r v (Bytes file at before after n) made part =
+effect_whole r v (Overwrite file at before after n) made part =
     let whole = overwrite_length at n after (file_of v file) made.inside made.within in
     put_whole r v file _ (omega (arith, whole)) part
-effect_whole r v (Tail file from after n) made part =
+effect_whole r v (Append file from after n) made part =
     let whole = append_length n after (file_of v file) made.within in
     put_whole r v file _ (omega (arith, whole)) part
-effect_whole r v (Made name num) made part =
+effect_whole r v (Create name num) made part =
     let none : length (file_of v num) ≡ 0 = ap (λ (o : Option (List ℕ)). length (unwrap_or o [])) made.absent in
     let files = put_whole r v num [] (omega (arith, none)) part in
     record { files = files.files; pipes = part.pipes; pairs = part.pairs; size = files.size }
-effect_whole r v (Moved from to) made part = moved_whole r v from to (finite.get v.names from) part
+effect_whole r v (Rename from to) made part = moved_whole r v from to (finite.get v.names from) part
 effect_whole r v (NewPipe num) made part =
     record {
       files = part.files;

@@ -3,7 +3,7 @@ use Rattle.std.proofs.Common.{◌≡◌, ◌≢◌, inl, inr, ℕ, Option, Some,
 use Rattle.std.proofs.lemmas.List.{map-append}
 use Rattle.xc_data.specs.declared.object.Num.{Num}
 use Rattle.xc_data.specs.declared.undo.Undo.{Undo}
-use Rattle.xc_data.specs.declared.undo.Undo.TheVariants.{Bytes, Tail, Made, Moved, NewPipe, NewPair}
+use Rattle.xc_data.specs.declared.undo.Undo.TheVariants.{Overwrite, Append, Create, Rename, NewPipe, NewPair}
 use Rattle.std.specs.FinMap as finite
 use Rattle.xc_maps.specs.Keys.{num_cmp}
 use Rattle.xc_maps.proofs.Laws.{get-insert_cases, get-insert_same, num_total, num_exact}
@@ -43,10 +43,10 @@ move_name-words w words from to (Some num) = refl
 
 -- an effect asks for no word
 effect-words : (w : World) (words : List ℕ) (u : Undo) (k : ℕ) → with_effect (with_words w words) u k ≡ with_words (with_effect w u k) words
-effect-words w words (Bytes file at before after n) k = refl
-effect-words w words (Tail file from after n) k = refl
-effect-words w words (Made name num) k = refl
-effect-words w words (Moved from to) k = move_name-words w words from to (finite.get w.names from)
+effect-words w words (Overwrite file at before after n) k = refl
+effect-words w words (Append file from after n) k = refl
+effect-words w words (Create name num) k = refl
+effect-words w words (Rename from to) k = move_name-words w words from to (finite.get w.names from)
 effect-words w words (NewPipe num) k = refl
 effect-words w words (NewPair num) k = refl
 

@@ -5,7 +5,7 @@ use Rattle.std.specs.FinMap as finite
 use Rattle.std.proofs.lemmas.List.Elements.{All-head, All-tail}
 use Rattle.xc_data.specs.declared.object.Num.{Num}
 use Rattle.xc_data.specs.declared.undo.Undo.{Undo}
-use Rattle.xc_data.specs.declared.undo.Undo.TheVariants.{Bytes, Tail, Made, Moved, NewPipe, NewPair}
+use Rattle.xc_data.specs.declared.undo.Undo.TheVariants.{Overwrite, Append, Create, Rename, NewPipe, NewPair}
 use Rattle.xc_data.specs.declared.undo.UndoEnd.TheVariants.{Undone, Failed, Blocked}
 use Rattle.xc_data.specs.declared.private.Place.{Place}
 use Rattle.xc_data.specs.declared.private.Private.{Private}
@@ -27,18 +27,18 @@ abbrev pub FilesAreWithin : World → Type 0
 FilesAreWithin v = (q : Num) → length (file_of v q) ≤ 65536
 
 effect_limit : (v : World) (u : Undo) → IsMadeIn v u → FilesAreWithin v → FilesAreWithin (with_effect v u 0)
-effect_limit v (Bytes file at before after n) made within q =
+effect_limit v (Overwrite file at before after n) made within q =
     let size = overwrite_length at n after (file_of v file) made.inside made.within in
     let most = within file in
     all_insert (λ (b : List ℕ). length b ≤ 65536) v.files file q _ [] (omega (arith, size, most)) (within q)
-effect_limit v (Tail file from after n) made within q =
+effect_limit v (Append file from after n) made within q =
     let size = append_length n after (file_of v file) made.within in
     let same = made.size in
     let room = made.room in
     let few = made.within in
     all_insert (λ (b : List ℕ). length b ≤ 65536) v.files file q _ [] (omega (arith, size, same, room, few)) (within q)
-effect_limit v (Made name num) made within q = all_insert (λ (b : List ℕ). length b ≤ 65536) v.files num q [] [] (omega arith) (within q)
-effect_limit v (Moved from to) made within q = of_moved (finite.get v.names from)
+effect_limit v (Create name num) made within q = all_insert (λ (b : List ℕ). length b ≤ 65536) v.files num q [] [] (omega arith) (within q)
+effect_limit v (Rename from to) made within q = of_moved (finite.get v.names from)
   where
     of_moved : (o : Option Num) → length (file_of (move_name v from to o) q) ≤ 65536
     of_moved None = within q
@@ -60,17 +60,17 @@ moved_free v from to (Some num) q free = record { file = free.file; pipe = free.
 -- a number that is still to be given stays free where a record spares it
 effect_free : (me : Private) (tx k : ℕ) (v : World) (u : Undo) → me.made ≤ k → IsMadeIn v u → SparesNew me tx u → IsFree v (record { tx = tx; k = k })
     → IsFree (with_effect v u 0) (record { tx = tx; k = k })
-effect_free me tx k v (Bytes file at before after n) le made spares free =
+effect_free me tx k v (Overwrite file at before after n) le made spares free =
     record { file = free_insert v.files file (record { tx = tx; k = k }) _ made.there free.file; pipe = free.pipe; pair = free.pair }
-effect_free me tx k v (Tail file from after n) le made spares free =
+effect_free me tx k v (Append file from after n) le made spares free =
     record { file = free_insert v.files file (record { tx = tx; k = k }) _ made.there free.file; pipe = free.pipe; pair = free.pair }
-effect_free me tx k v (Made name num) le made spares free =
+effect_free me tx k v (Create name num) le made spares free =
     record {
       file = free_other v.files num (record { tx = tx; k = k }) [] (spared me tx k num spares le) free.file;
       pipe = free.pipe;
       pair = free.pair;
     }
-effect_free me tx k v (Moved from to) le made spares free = moved_free v from to (finite.get v.names from) (record { tx = tx; k = k }) free
+effect_free me tx k v (Rename from to) le made spares free = moved_free v from to (finite.get v.names from) (record { tx = tx; k = k }) free
 effect_free me tx k v (NewPipe num) le made spares free =
     record {
       file = free.file;
@@ -104,7 +104,7 @@ fit_moved w from to (Some num) e fit = let keeps = keeps_moved true w from to nu
 
 effect_fit : (r v : World) (u : Undo) (k : ℕ) → IsMadeIn v u → IsPart r v → FilesAreWithin v
     → IsFit r → StaysFit r (with_effect r u k)
-effect_fit r v (Bytes file at before after n) k made part limit fit =
+effect_fit r v (Overwrite file at before after n) k made part limit fit =
     let size = part.size file in
     let inside = made.inside in
     let within = made.within in
@@ -112,15 +112,15 @@ effect_fit r v (Bytes file at before after n) k made part limit fit =
     let most = limit file in
     let keeps = keeps_file r file _ (omega (arith, some, most)) fit in
     record { fit = keeps.fit; known = keeps.known }
-effect_fit r v (Tail file from after n) k made part limit fit =
+effect_fit r v (Append file from after n) k made part limit fit =
     let some = append_within n k (length (file_of v file)) after (file_of r file) (part.size file) in
     let size = made.size in
     let room = made.room in
     let within = made.within in
     let keeps = keeps_file r file _ (omega (arith, some, size, room, within)) fit in
     record { fit = keeps.fit; known = keeps.known }
-effect_fit r v (Made name num) k made part limit fit = let adds = adds_named r name num [] (omega arith) fit in record { fit = adds.fit; known = adds.known }
-effect_fit r v (Moved from to) k made part limit fit = fit_moved r from to (finite.get r.names from) refl fit
+effect_fit r v (Create name num) k made part limit fit = let adds = adds_named r name num [] (omega arith) fit in record { fit = adds.fit; known = adds.known }
+effect_fit r v (Rename from to) k made part limit fit = fit_moved r from to (finite.get r.names from) refl fit
 effect_fit r v (NewPipe num) k made part limit fit = let adds = adds_pipe r num empty_pipe fit in record { fit = adds.fit; known = adds.known }
 effect_fit r v (NewPair num) k made part limit fit = let adds = adds_pair r num empty_pair empty_short fit in record { fit = adds.fit; known = adds.known }
 

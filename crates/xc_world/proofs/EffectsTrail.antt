@@ -13,7 +13,7 @@ use Rattle.xc_data.specs.declared.call.Call.TheVariants as call
 use Rattle.xc_data.specs.declared.call.Answer.{Answer}
 use Rattle.xc_data.specs.declared.call.Answer.TheVariants as answer
 use Rattle.xc_data.specs.declared.undo.Undo.{Undo}
-use Rattle.xc_data.specs.declared.undo.Undo.TheVariants.{Bytes, Tail, Made, Moved, NewPipe, NewPair}
+use Rattle.xc_data.specs.declared.undo.Undo.TheVariants.{Overwrite, Append, Create, Rename, NewPipe, NewPair}
 use Rattle.xc_data.specs.declared.private.Place.{Place}
 use Rattle.xc_data.specs.declared.private.Place.TheVariants.{Vacant, File, Pipe, Pair}
 use Rattle.xc_data.specs.declared.private.Private.{Private}
@@ -136,28 +136,28 @@ abbrev changed_in : finite.FinMap num_cmp (List ℕ) → Num → (List ℕ → L
 changed_in files file change = finite.insert files file (change (unwrap_or (finite.get files file) []))
 
 effect-room : (v w : World) (u : Undo) → HasNoNewPipes v w → HasNoNewPipes (with_effect v u 0) (with_effect w u 0)
-effect-room v w (Bytes file at before after n) room =
+effect-room v w (Overwrite file at before after n) room =
     record {
       names = room.names;
       files = ap (λ m. changed_in m file (overwritten (at + 0) (drop 0 (take n after)))) room.files;
       pipes = room.pipes;
       pairs = room.pairs;
     }
-effect-room v w (Tail file from after n) room =
+effect-room v w (Append file from after n) room =
     record {
       names = room.names;
       files = ap (λ m. changed_in m file (λ bytes. bytes ++ drop 0 (take n after))) room.files;
       pipes = room.pipes;
       pairs = room.pairs;
     }
-effect-room v w (Made name num) room =
+effect-room v w (Create name num) room =
     record {
       names = ap (λ m. finite.insert m name num) room.names;
       files = ap (λ m. finite.insert m num []) room.files;
       pipes = room.pipes;
       pairs = room.pairs;
     }
-effect-room v w (Moved from to) room =
+effect-room v w (Rename from to) room =
     subst (λ o. HasNoNewPipes (move_name v from to (finite.get v.names from)) (move_name w from to o)) (room_at v w room (object.Name from))
     (moved-room v w from to (finite.get v.names from) room)
 effect-room v w (NewPipe num) room =

@@ -10,7 +10,7 @@ use Rattle.std.proofs.lemmas.Map.Lookups.{exact_bytes}
 use Rattle.std.proofs.Math.Seq.{take-add, take-append_seam}
 use Rattle.xc_data.specs.declared.object.Num.{Num}
 use Rattle.xc_data.specs.declared.undo.Undo.{Undo}
-use Rattle.xc_data.specs.declared.undo.Undo.TheVariants.{Bytes, Tail, Made, Moved, NewPipe, NewPair}
+use Rattle.xc_data.specs.declared.undo.Undo.TheVariants.{Overwrite, Append, Create, Rename, NewPipe, NewPair}
 use Rattle.xc_data.specs.declared.undo.UndoEnd.{UndoEnd}
 use Rattle.xc_data.specs.declared.undo.UndoEnd.TheVariants.{Undone, Failed, Blocked}
 use Rattle.xc_data.specs.Remaining.{stopped_at}
@@ -81,7 +81,7 @@ moved_back w from to (Some num) e there vacant =
     ∙ ap (λ m. record w { names = m }) (insert-remove_same nat_list_cmp_total exact_bytes w.names from num e))
 
 moved_covered : (w : World) (from to : List ℕ) (o : Option Num) → finite.get w.names from ≡ o → is_some o ≡ true → finite.get w.names to ≡ None
-    → IsCovered (move_name w from to o) (Moved from to)
+    → IsCovered (move_name w from to o) (Rename from to)
 moved_covered w from to None e there vacant = cc
 moved_covered w from to (Some num) e there vacant =
     let without = finite.remove w.names from in
@@ -94,29 +94,29 @@ moved_covered w from to (Some num) e there vacant =
 
 -- ---- one record, with nothing after it
 effect_undone : (w : World) (u : Undo) → IsMadeIn w u → undone (with_effect w u 0) u ≡ w
-effect_undone w (Bytes file at before after n) made =
+effect_undone w (Overwrite file at before after n) made =
     let f = file_of w file in
     let again : overwritten at (take n before) (overwritten (at + 0) (take n after) f) ≡ f =
     ap₂ (λ x y. overwritten at (take n x) y) made.old (at_start at (take n after) f)
     ∙ back_again at n (length after) (take n after) f (length-take-le n after made.within) made.within (omega (arith, made.inside, made.within)) in
     changed w file (overwritten (at + 0) (take n after) f) f (overwritten at (take n before)) again ∙ file-again w file made.there
-effect_undone w (Tail file from after n) made =
+effect_undone w (Append file from after n) made =
     let f = file_of w file in
     let again : take from (f ++ take n after) ≡ f = ap (λ k. take k (f ++ take n after)) (sym made.size) ∙ take-append_seam f (take n after) in
     changed w file (f ++ take n after) f (take from) again ∙ file-again w file made.there
-effect_undone w (Made name num) made =
+effect_undone w (Create name num) made =
     ap (λ m. record w { names = m; files = finite.remove (finite.insert w.files num []) num })
     (removed_again nat_list_cmp_total exact_bytes w.names name num made.unnamed)
     ∙ ap (λ m. record w { files = m }) (removed_again num_total num_exact w.files num [] made.absent)
-effect_undone w (Moved from to) made = moved_back w from to (finite.get w.names from) refl made.there made.vacant
+effect_undone w (Rename from to) made = moved_back w from to (finite.get w.names from) refl made.there made.vacant
 effect_undone w (NewPipe num) made = ap (λ m. record w { pipes = m }) (removed_again num_total num_exact w.pipes num empty_pipe made)
 effect_undone w (NewPair num) made = ap (λ m. record w { pairs = m }) (removed_again num_total num_exact w.pairs num empty_pair made)
 
 effect_restored : (w : World) (u : Undo) (done : ℕ) → IsMadeIn w u → RestoredFits u done
     → restored (with_effect w u 0) u done ≡ with_effect w u (stopped_at u done)
-effect_restored w (Bytes file at before after n) done made fits =
+effect_restored w (Overwrite file at before after n) done made fits =
     let f = file_of w file in
-    let u = Bytes file at before after n in
+    let u = Overwrite file at before after n in
     let few : done < n = fits in
     let next = overwritten (at + done) (drop done (take n after)) f in
     let front : overwritten at (take done before) (overwritten (at + 0) (take n after) f) ≡ next =
@@ -124,28 +124,28 @@ effect_restored w (Bytes file at before after n) done made fits =
     ∙ front_restored at n done after f (omega (arith, few)) made.within made.inside in
     cond_both (done == 0) _ _ (λ x. x ≡ with_effect w u done) (λ none. ap (with_effect w u) (sym (eqb-true done 0 none)))
     (λ _. changed w file (overwritten (at + 0) (take n after) f) next (overwritten at (take done before)) front)
-effect_restored w (Tail file from after n) done made fits = refl
-effect_restored w (Made name num) done made fits = refl
-effect_restored w (Moved from to) done made fits = refl
+effect_restored w (Append file from after n) done made fits = refl
+effect_restored w (Create name num) done made fits = refl
+effect_restored w (Rename from to) done made fits = refl
 effect_restored w (NewPipe num) done made fits = refl
 effect_restored w (NewPair num) done made fits = refl
 
 effect_covered : (w : World) (u : Undo) → IsMadeIn w u → IsCovered (with_effect w u 0) u
-effect_covered w (Bytes file at before after n) made =
+effect_covered w (Overwrite file at before after n) made =
     let f = file_of w file in
     let next = overwritten (at + 0) (take n after) f in
     let inside = made.inside in
     let within = made.within in
     let size = overwrite_length at n after f inside within in
     (there_put w.files file next, subst (λ (xs : List ℕ). at + n ≤ length xs) (sym (file-same w file next)) (omega (arith, inside, within, size)))
-effect_covered w (Tail file from after n) made =
+effect_covered w (Append file from after n) made =
     let f = file_of w file in
     let next = f ++ take n after in
     let same = made.size in
     let size = append_length n after f made.within in
     (there_put w.files file next, subst (λ (xs : List ℕ). from + n ≤ length xs) (sym (file-same w file next)) (omega (arith, same, size)))
-effect_covered w (Made name num) made = (get-insert_same nat_list_cmp_total exact_bytes w.names name num, there_put w.files num [])
-effect_covered w (Moved from to) made = moved_covered w from to (finite.get w.names from) refl made.there made.vacant
+effect_covered w (Create name num) made = (get-insert_same nat_list_cmp_total exact_bytes w.names name num, there_put w.files num [])
+effect_covered w (Rename from to) made = moved_covered w from to (finite.get w.names from) refl made.there made.vacant
 effect_covered w (NewPipe num) made = there_put w.pipes num empty_pipe
 effect_covered w (NewPair num) made = there_put w.pairs num empty_pair
 

@@ -72,7 +72,7 @@ replies_of_four_calls = rw (no_name (codes "a"), file_there, name_there, none_th
 
 -- three records
 pub trail_of_four_calls : (body one_message_world me 1 calls).trail
-    ≡ undo.Made (codes "a") new ∷ undo.Tail new 0 (codes "hi") 2 ∷ undo.Moved (codes "a") (codes "b") ∷ []
+    ≡ undo.Create (codes "a") new ∷ undo.Append new 0 (codes "hi") 2 ∷ undo.Rename (codes "a") (codes "b") ∷ []
 trail_of_four_calls = rw (no_name (codes "a"), file_there, name_there, none_there) refl
 
 -- the message

@@ -5,7 +5,7 @@ use Rattle.std.specs.List.{list_any}
 use Rattle.std.proofs.lemmas.Bool.Decides.{nat_tests}
 use Rattle.xc_data.specs.Remaining.{leaves}
 use Rattle.xc_data.specs.declared.undo.Undo.{Undo}
-use Rattle.xc_data.specs.declared.undo.Undo.TheVariants.{Bytes, Tail, Made, Moved, NewPipe, NewPair}
+use Rattle.xc_data.specs.declared.undo.Undo.TheVariants.{Overwrite, Append, Create, Rename, NewPipe, NewPair}
 use Rattle.xc_data.specs.declared.undo.UndoEnd.{UndoEnd}
 use Rattle.xc_data.specs.declared.undo.UndoEnd.TheVariants.{Undone, Failed, Blocked}
 use Rattle.xc_world.specs.Ends.{AreLegal, Ending, IsLegalEnd}
@@ -17,10 +17,10 @@ is_below m n less = grind (arith, nat_tests)
 left_of : (tries : ℕ) (u : Undo) (end : UndoEnd) (way : Option ℕ) → IsLegalEnd tries u end way → leaves (u, end) ≡ effect_remains (u, end)
 left_of tries u (Undone faults) way legal = refl
 left_of tries u (Blocked by) way legal = refl
-left_of tries (Bytes file at before after n) (Failed done faults) way legal = is_below done n legal.2
-left_of tries (Tail file from after n) (Failed done faults) way legal = refl
-left_of tries (Made name num) (Failed done faults) way legal = refl
-left_of tries (Moved from to) (Failed done faults) way legal = refl
+left_of tries (Overwrite file at before after n) (Failed done faults) way legal = is_below done n legal.2
+left_of tries (Append file from after n) (Failed done faults) way legal = refl
+left_of tries (Create name num) (Failed done faults) way legal = refl
+left_of tries (Rename from to) (Failed done faults) way legal = refl
 left_of tries (NewPipe num) (Failed done faults) way legal = refl
 left_of tries (NewPair num) (Failed done faults) way legal = refl
 

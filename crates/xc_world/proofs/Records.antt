@@ -13,7 +13,7 @@ use Rattle.xc_data.specs.declared.object.Num.{Num}
 use Rattle.xc_data.specs.declared.object.Object.{Object}
 use Rattle.xc_data.specs.declared.object.Object.TheVariants as object
 use Rattle.xc_data.specs.declared.undo.Undo.{Undo}
-use Rattle.xc_data.specs.declared.undo.Undo.TheVariants.{Bytes, Tail, Made, Moved, NewPipe, NewPair}
+use Rattle.xc_data.specs.declared.undo.Undo.TheVariants.{Overwrite, Append, Create, Rename, NewPipe, NewPair}
 use Rattle.xc_data.specs.declared.undo.UndoEnd.{UndoEnd}
 use Rattle.xc_data.specs.declared.undo.UndoEnd.TheVariants.{Undone, Failed, Blocked}
 use Rattle.xc_data.specs.Remaining.{objects_of}
@@ -109,13 +109,13 @@ moves_alike objects w v from to o q e old new agree = subst (λ x. GoAlike objec
 
 -- ---- the effect
 pub effect_alike : (w v : World) (u : Undo) (k : ℕ) → All (AgreeAt w v) (objects_of u) → GoAlike (objects_of u) w v (with_effect w u k) (with_effect v u k)
-effect_alike w v (Bytes file at before after n) k agree = changed_file w v file (overwritten (at + k) (drop k (take n after))) agree
-effect_alike w v (Tail file from after n) k agree = changed_file w v file (λ bytes. bytes ++ drop k (take n after)) agree
-effect_alike w v (Made name num) k agree =
+effect_alike w v (Overwrite file at before after n) k agree = changed_file w v file (overwritten (at + k) (drop k (take n after))) agree
+effect_alike w v (Append file from after n) k agree = changed_file w v file (λ bytes. bytes ++ drop k (take n after)) agree
+effect_alike w v (Create name num) k agree =
     let file = object.File num in
     new_alike (object.Name name ∷ file ∷ []) w v name num (first_in (object.Name name) (file ∷ []))
     (later_in (object.Name name) file (file ∷ []) (first_in file [])) agree
-effect_alike w v (Moved from to) k agree =
+effect_alike w v (Rename from to) k agree =
     let L = object.Name from ∷ object.Name to ∷ [] in
     let old = first_in (object.Name from) (object.Name to ∷ []) in
     let new = later_in (object.Name from) (object.Name to) (object.Name to ∷ []) (first_in (object.Name to) []) in
@@ -129,15 +129,15 @@ effect_only w u k = (effect_alike w w u k (agreed (λ _. Unit {0}) w w (objects_
 
 -- ---- its undoing
 pub undone_alike : (w v : World) (u : Undo) → All (AgreeAt w v) (objects_of u) → GoAlike (objects_of u) w v (undone w u) (undone v u)
-undone_alike w v (Bytes file at before after n) agree = changed_file w v file (overwritten at (take n before)) agree
-undone_alike w v (Tail file from after n) agree = changed_file w v file (take from) agree
-undone_alike w v (Made name num) agree =
+undone_alike w v (Overwrite file at before after n) agree = changed_file w v file (overwritten at (take n before)) agree
+undone_alike w v (Append file from after n) agree = changed_file w v file (take from) agree
+undone_alike w v (Create name num) agree =
     let file = object.File num in
     let named = first_in (object.Name name) (file ∷ []) in
     let has = later_in (object.Name name) file (file ∷ []) (first_in file []) in
     go (λ x. unmade x name num) (object.Name name ∷ file ∷ []) w v (unmade_kept w v name num)
     (λ x. record { others = unmade_left x (object.Name name ∷ file ∷ []) name num named has; count = refl; blocks = refl }) agree
-undone_alike w v (Moved from to) agree =
+undone_alike w v (Rename from to) agree =
     let L = object.Name from ∷ object.Name to ∷ [] in
     let old = first_in (object.Name from) (object.Name to ∷ []) in
     let new = later_in (object.Name from) (object.Name to) (object.Name to ∷ []) (first_in (object.Name to) []) in
@@ -151,12 +151,12 @@ undone_alike w v (NewPair num) agree =
 
 -- a front that is restored
 restored_alike : (w v : World) (u : Undo) (n : ℕ) → All (AgreeAt w v) (objects_of u) → GoAlike (objects_of u) w v (restored w u n) (restored v u n)
-restored_alike w v (Bytes file at before after n) k agree =
+restored_alike w v (Overwrite file at before after n) k agree =
     both_so (GoAlike (object.File file ∷ []) w v) (k == 0) (k == 0) _ _ _ _ refl (λ _. same_alike _ w v agree)
     (λ _. changed_file w v file (overwritten at (take k before)) agree)
-restored_alike w v (Tail file from after n) k agree = same_alike _ w v agree
-restored_alike w v (Made name num) k agree = same_alike _ w v agree
-restored_alike w v (Moved from to) k agree = same_alike _ w v agree
+restored_alike w v (Append file from after n) k agree = same_alike _ w v agree
+restored_alike w v (Create name num) k agree = same_alike _ w v agree
+restored_alike w v (Rename from to) k agree = same_alike _ w v agree
 restored_alike w v (NewPipe num) k agree = same_alike _ w v agree
 restored_alike w v (NewPair num) k agree = same_alike _ w v agree
 

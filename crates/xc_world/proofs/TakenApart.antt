@@ -6,7 +6,7 @@ use Rattle.std.specs.FinMap as map
 use Rattle.std.proofs.lemmas.List.Elements.{All-nil, All-cons, All-head, All-tail}
 use Rattle.xc_data.specs.declared.object.Num.{Num}
 use Rattle.xc_data.specs.declared.undo.Undo.{Undo}
-use Rattle.xc_data.specs.declared.undo.Undo.TheVariants.{Tail, Made, Moved, NewPipe, NewPair}
+use Rattle.xc_data.specs.declared.undo.Undo.TheVariants.{Append, Create, Rename, NewPipe, NewPair}
 use Rattle.xc_data.specs.declared.undo.Undo.TheVariants as undo
 use Rattle.xc_data.specs.declared.call.Call.{Call}
 use Rattle.xc_data.specs.declared.call.Call.TheVariants as call
@@ -92,14 +92,14 @@ gives_effect x (NewPair n) k (Message num side bytes) apart =
     ∙ ap (λ m. record x { pairs = m }) (insert-insert_other num_total num_exact x.pairs n num empty_pair (f (pair_of x num)) (λ e. apart (sym e)))
 gives_effect x (NewPipe n) k (Message num side bytes) apart = refl
 gives_effect x (NewPair n) k (Bytes num bytes) apart = refl
-gives_effect x (undo.Bytes file at before after n) k (Bytes num bytes) apart = refl
-gives_effect x (undo.Bytes file at before after n) k (Message num side bytes) apart = refl
-gives_effect x (Tail file from after n) k (Bytes num bytes) apart = refl
-gives_effect x (Tail file from after n) k (Message num side bytes) apart = refl
-gives_effect x (Made name n) k (Bytes num bytes) apart = refl
-gives_effect x (Made name n) k (Message num side bytes) apart = refl
-gives_effect x (Moved from to) k (Bytes num bytes) apart = gives_moved x (Bytes num bytes) from to (map.get x.names from)
-gives_effect x (Moved from to) k (Message num side bytes) apart = gives_moved x (Message num side bytes) from to (map.get x.names from)
+gives_effect x (undo.Overwrite file at before after n) k (Bytes num bytes) apart = refl
+gives_effect x (undo.Overwrite file at before after n) k (Message num side bytes) apart = refl
+gives_effect x (Append file from after n) k (Bytes num bytes) apart = refl
+gives_effect x (Append file from after n) k (Message num side bytes) apart = refl
+gives_effect x (Create name n) k (Bytes num bytes) apart = refl
+gives_effect x (Create name n) k (Message num side bytes) apart = refl
+gives_effect x (Rename from to) k (Bytes num bytes) apart = gives_moved x (Bytes num bytes) from to (map.get x.names from)
+gives_effect x (Rename from to) k (Message num side bytes) apart = gives_moved x (Message num side bytes) from to (map.get x.names from)
 
 gives_words : (x : World) (words : List ℕ) (t : KeptItem) → gives (with_words x words) t ≡ with_words (gives x t) words
 gives_words x words (Bytes num bytes) = refl

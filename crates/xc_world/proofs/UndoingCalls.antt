@@ -11,7 +11,7 @@ use Rattle.std.proofs.lemmas.List.{length-take-le}
 use Rattle.std.proofs.Math.Seq.{take-append_seam}
 use Rattle.xc_data.specs.declared.object.Num.{Num}
 use Rattle.xc_data.specs.declared.undo.Undo.{Undo}
-use Rattle.xc_data.specs.declared.undo.Undo.TheVariants.{Bytes, Tail}
+use Rattle.xc_data.specs.declared.undo.Undo.TheVariants.{Overwrite, Append}
 use Rattle.xc_data.specs.declared.private.Place.{Place}
 use Rattle.xc_data.specs.declared.private.Place.TheVariants.{Vacant, File, Pipe, Pair}
 use Rattle.xc_data.specs.declared.private.Private.{Private}
@@ -56,7 +56,7 @@ UndoesOverwrite w bytes p s = BringsBack w s.world (overwrite_record w bytes (do
 put-undoes : (w : World) (num : Num) (at n : ℕ) (bytes written : List ℕ) → is_some (map.get w.files num) ≡ true → length written ≡ n
     → n ≤ length bytes
     → at + n ≤ length (file_of w num)
-    → BringsBack w (with_file w num (overwritten at written (file_of w num))) (Bytes num at (take (length bytes) (drop at (file_of w num))) bytes n ∷ [])
+    → BringsBack w (with_file w num (overwritten at written (file_of w num))) (Overwrite num at (take (length bytes) (drop at (file_of w num))) bytes n ∷ [])
 put-undoes w num at n bytes written there e le inside v back =
     file-back w v num (overwritten at written (file_of w num)) (overwritten at (take n (take (length bytes) (drop at (file_of w num))))) there
     (bytes_restored at n (length bytes) written (file_of w num) e le inside) back
@@ -107,7 +107,7 @@ UndoesAppend w bytes p s = BringsBack w s.world (append_record w bytes (done_of 
 
 -- the old length cuts off what was appended
 appended-undoes : (w : World) (num : Num) (n : ℕ) (bytes written : List ℕ) → is_some (map.get w.files num) ≡ true
-    → BringsBack w (with_file w num (file_of w num ++ written)) (Tail num (length (file_of w num)) bytes n ∷ [])
+    → BringsBack w (with_file w num (file_of w num ++ written)) (Append num (length (file_of w num)) bytes n ∷ [])
 appended-undoes w num n bytes written there v back =
     file-back w v num (file_of w num ++ written) (take (length (file_of w num))) there (take-append_seam (file_of w num) written) back
 

@@ -7,7 +7,7 @@ use Rattle.xc_data.specs.declared.object.Num.{Num}
 use Rattle.xc_data.specs.declared.call.Call.{Call}
 use Rattle.xc_data.specs.Calls.{CallTaking, TakingBytes, TakingMessage, TakingNothing, traits}
 use Rattle.xc_data.specs.declared.undo.Undo.{Undo}
-use Rattle.xc_data.specs.declared.undo.Undo.TheVariants.{Bytes, Tail, Made, Moved, NewPipe, NewPair}
+use Rattle.xc_data.specs.declared.undo.Undo.TheVariants.{Overwrite, Append, Create, Rename, NewPipe, NewPair}
 use Rattle.xc_data.specs.declared.undo.UndoEnd.{UndoEnd}
 use Rattle.xc_data.specs.declared.undo.UndoEnd.TheVariants.{Undone, Failed, Blocked}
 use Rattle.xc_data.specs.declared.private.Private.{Private}
@@ -60,10 +60,10 @@ module _ (w : World) where
 
   -- what each kind of record asks of the world in which it is made
   abbrev pub IsMadeIn : Undo → Type 0
-  IsMadeIn (Bytes file at before after n) = IsOverwriteIn (file, at) before after n
-  IsMadeIn (Tail file from after n) = IsAppendIn file from after n
-  IsMadeIn (Made name num) = IsNewFileIn name num
-  IsMadeIn (Moved from to) = IsRenameIn from to
+  IsMadeIn (Overwrite file at before after n) = IsOverwriteIn (file, at) before after n
+  IsMadeIn (Append file from after n) = IsAppendIn file from after n
+  IsMadeIn (Create name num) = IsNewFileIn name num
+  IsMadeIn (Rename from to) = IsRenameIn from to
   IsMadeIn (NewPipe num) = finite.get w.pipes num ≡ None
   IsMadeIn (NewPair num) = finite.get w.pairs num ≡ None
 
@@ -74,21 +74,21 @@ AreMadeIn w (u ∷ us) = IsMadeIn w u × AreMadeIn (with_effect w u 0) us
 
 -- a record makes no object whose number this private state is still to give
 abbrev pub SparesNew : Private → ℕ → Undo → Type 0
-SparesNew me tx (Made name num) = num.tx ≡ tx → num.k < me.made
+SparesNew me tx (Create name num) = num.tx ≡ tx → num.k < me.made
 SparesNew me tx (NewPipe num) = num.tx ≡ tx → num.k < me.made
 SparesNew me tx (NewPair num) = num.tx ≡ tx → num.k < me.made
-SparesNew me tx (Bytes file at before after n) = Unit {0}
-SparesNew me tx (Tail file from after n) = Unit {0}
-SparesNew me tx (Moved from to) = Unit {0}
+SparesNew me tx (Overwrite file at before after n) = Unit {0}
+SparesNew me tx (Append file from after n) = Unit {0}
+SparesNew me tx (Rename from to) = Unit {0}
 
 -- ---- one record's compensation
 -- the first bytes of an overwrite are the old ones again
 abbrev pub restored : World → Undo → ℕ → World
-restored w (Bytes file at before after n) done =
+restored w (Overwrite file at before after n) done =
     if done == 0 then w else with_file w file (overwritten at (take done before) (file_of w file))
-restored w (Tail file from after n) done = w
-restored w (Made name num) done = w
-restored w (Moved from to) done = w
+restored w (Append file from after n) done = w
+restored w (Create name num) done = w
+restored w (Rename from to) done = w
 restored w (NewPipe num) done = w
 restored w (NewPair num) done = w
 
@@ -101,9 +101,9 @@ undone_to w u (Blocked by) = w
 -- what a record tells of is as the record left it: an overwrite's and an append's bytes are in the file, a new file
 -- has its name, a moved one its new name alone, a new pipe or pair is there
 abbrev pub IsCovered : World → Undo → Type 0
-IsCovered w (Bytes file at before after n) = (is_some (finite.get w.files file) ≡ true) × (at + n ≤ length (file_of w file))
-IsCovered w (Tail file from after n) = (is_some (finite.get w.files file) ≡ true) × (from + n ≤ length (file_of w file))
-IsCovered w (Made name num) = (finite.get w.names name ≡ Some num) × (is_some (finite.get w.files num) ≡ true)
-IsCovered w (Moved from to) = (finite.get w.names from ≡ None) × (is_some (finite.get w.names to) ≡ true)
+IsCovered w (Overwrite file at before after n) = (is_some (finite.get w.files file) ≡ true) × (at + n ≤ length (file_of w file))
+IsCovered w (Append file from after n) = (is_some (finite.get w.files file) ≡ true) × (from + n ≤ length (file_of w file))
+IsCovered w (Create name num) = (finite.get w.names name ≡ Some num) × (is_some (finite.get w.files num) ≡ true)
+IsCovered w (Rename from to) = (finite.get w.names from ≡ None) × (is_some (finite.get w.names to) ≡ true)
 IsCovered w (NewPipe num) = is_some (finite.get w.pipes num) ≡ true
 IsCovered w (NewPair num) = is_some (finite.get w.pairs num) ≡ true

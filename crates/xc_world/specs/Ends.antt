@@ -3,7 +3,7 @@ use Rattle.std.specs.Prelude.{◌≡◌, ℕ, ◌+◌, ◌<◌, Bool, true, fals
 use Rattle.std.specs.declared.option.Option.TheVariants.{None, Some}
 use Rattle.std.specs.List.{list_any, filter_map}
 use Rattle.xc_data.specs.declared.undo.Undo.{Undo}
-use Rattle.xc_data.specs.declared.undo.Undo.TheVariants.{Bytes, Tail, Made, Moved, NewPipe, NewPair}
+use Rattle.xc_data.specs.declared.undo.Undo.TheVariants.{Overwrite, Append, Create, Rename, NewPipe, NewPair}
 use Rattle.xc_data.specs.declared.undo.UndoEnd.{UndoEnd}
 use Rattle.xc_data.specs.declared.undo.UndoEnd.TheVariants.{Undone, Failed, Blocked}
 use Rattle.xc_data.specs.Remaining.{objects_of, remains_from}
@@ -36,10 +36,10 @@ blocker from older (r ∷ newer) = if stands_in_way older r then Some from else 
 
 -- how many bytes a failed compensation may have restored: fewer than are covered, none but of an overwrite
 abbrev pub RestoredFits : Undo → ℕ → Type 0
-RestoredFits (Bytes file at before after n) done = done < n
-RestoredFits (Tail file from after n) done = done ≡ 0
-RestoredFits (Made name num) done = done ≡ 0
-RestoredFits (Moved from to) done = done ≡ 0
+RestoredFits (Overwrite file at before after n) done = done < n
+RestoredFits (Append file from after n) done = done ≡ 0
+RestoredFits (Create name num) done = done ≡ 0
+RestoredFits (Rename from to) done = done ≡ 0
 RestoredFits (NewPipe num) done = done ≡ 0
 RestoredFits (NewPair num) done = done ≡ 0
 

@@ -7,7 +7,7 @@ use Rattle.xc_data.specs.Calls.{Appending, CallChange, Creating, MakingPair, Mak
 use Rattle.xc_data.specs.declared.call.Reply.{Reply}
 use Rattle.xc_data.specs.declared.call.Reply.TheVariants as reply
 use Rattle.xc_data.specs.declared.undo.Undo.{Undo}
-use Rattle.xc_data.specs.declared.undo.Undo.TheVariants.{Bytes, Tail, Made, Moved, NewPipe, NewPair}
+use Rattle.xc_data.specs.declared.undo.Undo.TheVariants.{Overwrite, Append, Create, Rename, NewPipe, NewPair}
 use Rattle.xc_world.specs.Trail.{done_of}
 
 -- ---- of one call
@@ -49,10 +49,10 @@ leaves_record call r = leaves_as (traits call).change r
 
 -- a record of this call with this reply: of the bytes that it wrote, and of so many of them; of its names; or of a new object
 abbrev pub IsRecordOf : Call → Reply → Undo → Type 0
-IsRecordOf (call.XWriteOvr h bytes) r (Bytes file at before after n) = (after ≡ bytes) × (n ≡ done_of (length bytes) r)
-IsRecordOf (call.XWriteSeq h bytes) r (Tail file from after n) = (after ≡ bytes) × (n ≡ done_of (length bytes) r)
-IsRecordOf (call.XCreate name) r (Made named num) = named ≡ name
-IsRecordOf (call.XRename from to) r (Moved was is) = (was ≡ from) × (is ≡ to)
+IsRecordOf (call.XWriteOvr h bytes) r (Overwrite file at before after n) = (after ≡ bytes) × (n ≡ done_of (length bytes) r)
+IsRecordOf (call.XWriteSeq h bytes) r (Append file from after n) = (after ≡ bytes) × (n ≡ done_of (length bytes) r)
+IsRecordOf (call.XCreate name) r (Create named num) = named ≡ name
+IsRecordOf (call.XRename from to) r (Rename was is) = (was ≡ from) × (is ≡ to)
 IsRecordOf call.XPipe r (NewPipe num) = Unit {0}
 IsRecordOf call.XPair r (NewPair num) = Unit {0}
 -- no other call leaves a record, and none of these one of another kind

@@ -9,7 +9,7 @@ use Rattle.xc_data.specs.Calls.{Appending, CallChange, Creating, MakingPair, Mak
 use Rattle.xc_data.specs.declared.call.Reply.{Reply}
 use Rattle.xc_data.specs.declared.call.Reply.TheVariants as reply
 use Rattle.xc_data.specs.declared.undo.Undo.{Undo}
-use Rattle.xc_data.specs.declared.undo.Undo.TheVariants.{Bytes, Tail, Made, Moved, NewPipe, NewPair}
+use Rattle.xc_data.specs.declared.undo.Undo.TheVariants.{Overwrite, Append, Create, Rename, NewPipe, NewPair}
 use Rattle.xc_data.specs.declared.private.Place.{Place}
 use Rattle.xc_data.specs.declared.private.Place.TheVariants as place
 use Rattle.xc_data.specs.declared.private.Private.{Private}
@@ -28,23 +28,23 @@ done_of all _ = 0
 -- an overwrite that did n bytes
 abbrev pub overwrite_record : World → List ℕ → ℕ → Place → List Undo
 overwrite_record w bytes n (place.File num at) =
-    if n == 0 then [] else Bytes num at (take (length bytes) (drop at (file_of w num))) bytes n ∷ []
+    if n == 0 then [] else Overwrite num at (take (length bytes) (drop at (file_of w num))) bytes n ∷ []
 overwrite_record w bytes n _ = []
 
 -- an append that did n bytes
 abbrev pub append_record : World → List ℕ → ℕ → Place → List Undo
-append_record w bytes n (place.File num at) = if n == 0 then [] else Tail num (length (file_of w num)) bytes n ∷ []
+append_record w bytes n (place.File num at) = if n == 0 then [] else Append num (length (file_of w num)) bytes n ∷ []
 append_record w bytes n _ = []
 
 -- the record of a file that was made
 abbrev pub create_record : Private → ℕ → List ℕ → Reply → List Undo
-create_record me tx name (reply.Made h) = Made name (next_num me tx) ∷ []
+create_record me tx name (reply.Made h) = Create name (next_num me tx) ∷ []
 -- with any other reply no file was made
 create_record me tx name _ = []
 
 -- the record of a file that took another name
 abbrev pub rename_record : List ℕ → List ℕ → Reply → List Undo
-rename_record from to reply.Done = Moved from to ∷ []
+rename_record from to reply.Done = Rename from to ∷ []
 -- with any other reply no name was given
 rename_record from to _ = []
 
@@ -81,19 +81,19 @@ move_name w from to (Some num) = with_moved w from to num
 
 -- the world with what a record tells of, from its k-th byte on
 abbrev pub with_effect : World → Undo → ℕ → World
-with_effect w (Bytes file at before after n) k = with_file w file (overwritten (at + k) (drop k (take n after)) (file_of w file))
-with_effect w (Tail file from after n) k = with_file w file (file_of w file ++ drop k (take n after))
-with_effect w (Made name num) k = with_new_file w name num
-with_effect w (Moved from to) k = move_name w from to (map.get w.names from)
+with_effect w (Overwrite file at before after n) k = with_file w file (overwritten (at + k) (drop k (take n after)) (file_of w file))
+with_effect w (Append file from after n) k = with_file w file (file_of w file ++ drop k (take n after))
+with_effect w (Create name num) k = with_new_file w name num
+with_effect w (Rename from to) k = move_name w from to (map.get w.names from)
 with_effect w (NewPipe num) k = with_pipe w num empty_pipe
 with_effect w (NewPair num) k = with_pair w num empty_pair
 
 -- ---- its inverse: the old bytes, the old length, the old name, no object
 abbrev pub undone : World → Undo → World
-undone w (Bytes file at before after n) = with_file w file (overwritten at (take n before) (file_of w file))
-undone w (Tail file from after n) = with_file w file (take from (file_of w file))
-undone w (Made name num) = record w { names = map.remove w.names name; files = map.remove w.files num }
-undone w (Moved from to) = move_name w to from (map.get w.names to)
+undone w (Overwrite file at before after n) = with_file w file (overwritten at (take n before) (file_of w file))
+undone w (Append file from after n) = with_file w file (take from (file_of w file))
+undone w (Create name num) = record w { names = map.remove w.names name; files = map.remove w.files num }
+undone w (Rename from to) = move_name w to from (map.get w.names to)
 undone w (NewPipe num) = record w { pipes = map.remove w.pipes num }
 undone w (NewPair num) = record w { pairs = map.remove w.pairs num }
 

@@ -15,8 +15,8 @@ pub fn remaining_from(undo: &Undo, end: &UndoEnd) -> Option<u32>
         UndoEnd::Undone { .. } => None,
         UndoEnd::Blocked { .. } => Some(0),
         UndoEnd::Failed { done, .. } => match undo {
-            Undo::Bytes { .. } => Some(*done),
-            Undo::Tail { .. } | Undo::Made { .. } | Undo::Moved { .. } => Some(0),
+            Undo::Overwrite { .. } => Some(*done),
+            Undo::Append { .. } | Undo::Create { .. } | Undo::Rename { .. } => Some(0),
             Undo::NewPipe(_) | Undo::NewPair(_) => Some(0),
         },
     }

@@ -65,7 +65,7 @@ impl World {
         ensures { OnOk result (self.new ≡ with_effect self.old undo.now from) }
     {
         match undo {
-            Undo::Bytes {
+            Undo::Overwrite {
                 file,
                 at,
                 after,
@@ -76,11 +76,11 @@ impl World {
                 *at as usize + from as usize,
                 covered(after, from, *n),
             ),
-            Undo::Tail { file, after, n, .. } => {
+            Undo::Append { file, after, n, .. } => {
                 self.put_behind(*file, covered(after, from, *n))
             }
-            Undo::Made { name, num } => self.add_named(*name.value(), *num),
-            Undo::Moved { from, to } => self.give_name(*from.value(), *to.value()),
+            Undo::Create { name, num } => self.add_named(*name.value(), *num),
+            Undo::Rename { from, to } => self.give_name(*from.value(), *to.value()),
             Undo::NewPipe(num) => self.add_pipe(*num),
             Undo::NewPair(num) => self.pairs.insert(*num, MachinePair::empty(self.alloc)),
         }

@@ -50,7 +50,7 @@ impl World {
         let under = front(behind(file.as_slice(), at as usize), bytes.len());
         let before = Chunk::new(self.alloc, under)?;
         let after = bytes.share()?;
-        Ok(Some(Undo::Bytes {
+        Ok(Some(Undo::Overwrite {
             file: num,
             at,
             before,
@@ -73,7 +73,7 @@ impl World {
         }
         let from = self.file_len(num) as u32;
         let after = bytes.share()?;
-        Ok(Some(Undo::Tail {
+        Ok(Some(Undo::Append {
             file: num,
             from,
             after,
@@ -100,11 +100,11 @@ impl World {
             (Call::XWriteSeq { h, bytes }, _) => {
                 self.append_record(bytes, done_of(bytes, reply)?, me.place(*h))
             }
-            (Call::XCreate { name }, Reply::Made(_)) => Ok(Some(Undo::Made {
+            (Call::XCreate { name }, Reply::Made(_)) => Ok(Some(Undo::Create {
                 name: name.again(),
                 num: next_num(me, tx),
             })),
-            (Call::XRename { from, to }, Reply::Done) => Ok(Some(Undo::Moved {
+            (Call::XRename { from, to }, Reply::Done) => Ok(Some(Undo::Rename {
                 from: from.again(),
                 to: to.again(),
             })),

@@ -21,7 +21,7 @@ fn overwrite(alloc: Global) -> Result<Undo, NoMemory>
 {
     let before = Chunk::new(alloc, b"cdefg")?;
     let after = Chunk::new(alloc, b"CDEFG")?;
-    Ok(Undo::Bytes {
+    Ok(Undo::Overwrite {
         file: FILE,
         at: 2,
         before,
@@ -61,28 +61,28 @@ fn faults_of_a_turn_count_together(rt: HostRuntime) -> Result<(), Fail> {
     Ok(())
 }
 
-fn made(alloc: Global) -> Result<Undo, NoMemory>
+fn create(alloc: Global) -> Result<Undo, NoMemory>
     ensures { IfOk result IsRecord }
 {
-    Ok(Undo::Made {
+    Ok(Undo::Create {
         name: shared_name(alloc, b"made")?,
         num: MADE,
     })
 }
 
-fn moved(alloc: Global) -> Result<Undo, NoMemory>
+fn rename(alloc: Global) -> Result<Undo, NoMemory>
     ensures { IfOk result IsRecord }
 {
-    Ok(Undo::Moved {
+    Ok(Undo::Rename {
         from: shared_name(alloc, b"made")?,
         to: shared_name(alloc, b"moved")?,
     })
 }
 
-fn tail(alloc: Global) -> Result<Undo, NoMemory>
+fn append(alloc: Global) -> Result<Undo, NoMemory>
     ensures { IfOk result IsRecord }
 {
-    Ok(Undo::Tail {
+    Ok(Undo::Append {
         file: MADE,
         from: 0,
         after: Chunk::new(alloc, b"hello")?,
@@ -93,9 +93,9 @@ fn tail(alloc: Global) -> Result<Undo, NoMemory>
 // The records of a file that was made, renamed from `made` to `moved`, and appended to.
 fn chain(alloc: Global) -> Result<Stack, NoMemory> {
     let mut stack = Stack::new(alloc);
-    stack.push(made(alloc)?)?;
-    stack.push(moved(alloc)?)?;
-    stack.push(tail(alloc)?)?;
+    stack.push(create(alloc)?)?;
+    stack.push(rename(alloc)?)?;
+    stack.push(append(alloc)?)?;
     Ok(stack)
 }
 
@@ -174,7 +174,7 @@ fn a_new_pipe_is_dropped(rt: HostRuntime) -> Result<(), Fail> {
 fn overwrite_front(alloc: Global) -> Result<Undo, NoMemory>
     ensures { IfOk result IsRecord }
 {
-    Ok(Undo::Bytes {
+    Ok(Undo::Overwrite {
         file: FILE,
         at: 0,
         before: Chunk::new(alloc, b"a")?,

@@ -56,159 +56,159 @@ impl Draft {
         self.keep_call(CallForm::Store { at, value })
     }
 
-    fn open(&mut self, alloc: Global, rest: &[Token]) -> Result<(), Stop>
-        ensures { Gives (λ _. self.new) result (call_stated self.old (name_form named.Open (map lexeme rest.now))) }
+    fn x_open(&mut self, alloc: Global, rest: &[Token]) -> Result<(), Stop>
+        ensures { Gives (λ _. self.new) result (call_stated self.old (name_form named.XOpen (map lexeme rest.now))) }
     {
         let (name, into) = name_into(alloc, &mut self.files, rest)?;
         let into = place_target(&mut self.names, &into)?;
-        self.keep_call(CallForm::Open { name, into })
+        self.keep_call(CallForm::XOpen { name, into })
     }
 
-    fn create(&mut self, alloc: Global, rest: &[Token]) -> Result<(), Stop>
-        ensures { Gives (λ _. self.new) result (call_stated self.old (name_form named.Create (map lexeme rest.now))) }
+    fn x_create(&mut self, alloc: Global, rest: &[Token]) -> Result<(), Stop>
+        ensures { Gives (λ _. self.new) result (call_stated self.old (name_form named.XCreate (map lexeme rest.now))) }
     {
         let (name, into) = name_into(alloc, &mut self.files, rest)?;
         let into = place_target(&mut self.names, &into)?;
-        self.keep_call(CallForm::Create { name, into })
+        self.keep_call(CallForm::XCreate { name, into })
     }
 
-    fn rename(&mut self, alloc: Global, rest: &[Token]) -> Result<(), Stop>
-        ensures { Gives (λ _. self.new) result (call_stated self.old (name_form named.Rename (map lexeme rest.now))) }
+    fn x_rename(&mut self, alloc: Global, rest: &[Token]) -> Result<(), Stop>
+        ensures { Gives (λ _. self.new) result (call_stated self.old (name_form named.XRename (map lexeme rest.now))) }
     {
         let (from, to) = two_names(alloc, &mut self.files, rest)?;
-        self.keep_call(CallForm::Rename { from, to })
+        self.keep_call(CallForm::XRename { from, to })
     }
 
-    fn unlink(&mut self, alloc: Global, rest: &[Token]) -> Result<(), Stop>
-        ensures { Gives (λ _. self.new) result (call_stated self.old (name_form named.Unlink (map lexeme rest.now))) }
+    fn x_unlink(&mut self, alloc: Global, rest: &[Token]) -> Result<(), Stop>
+        ensures { Gives (λ _. self.new) result (call_stated self.old (name_form named.XUnlink (map lexeme rest.now))) }
     {
         let (name, slot) = name_and_slot(alloc, &mut self.files, rest)?;
         let slot = place_ending(&mut self.names, &slot)?;
-        self.keep_call(CallForm::Unlink { name, slot })
+        self.keep_call(CallForm::XUnlink { name, slot })
     }
 
-    fn read_file(&mut self, rest: &[Token]) -> Result<(), Stop>
-        ensures { Gives (λ _. self.new) result (call_stated self.old (handle_form handled.Read (map lexeme rest.now))) }
+    fn x_read(&mut self, rest: &[Token]) -> Result<(), Stop>
+        ensures { Gives (λ _. self.new) result (call_stated self.old (handle_form handled.XRead (map lexeme rest.now))) }
     {
         let (handle, (n, into)) = handle_term_into(rest)?;
         let handle = self.names.variable(&handle)?;
         let (n, into) = place_term_into(&mut self.names, &n, &into)?;
-        self.keep_call(CallForm::Read { handle, n, into })
+        self.keep_call(CallForm::XRead { handle, n, into })
     }
 
-    fn overwrite(&mut self, alloc: Global, rest: &[Token]) -> Result<(), Stop>
-        ensures { Gives (λ _. self.new) result (call_stated self.old (handle_form handled.Overwrite (map lexeme rest.now))) }
+    fn x_write_ovr(&mut self, alloc: Global, rest: &[Token]) -> Result<(), Stop>
+        ensures { Gives (λ _. self.new) result (call_stated self.old (handle_form handled.XWriteOvr (map lexeme rest.now))) }
     {
         let (handle, data) = written(alloc, &self.source, &mut self.names, rest)?;
-        self.keep_call(CallForm::Overwrite { handle, data })
+        self.keep_call(CallForm::XWriteOvr { handle, data })
     }
 
-    fn append(&mut self, alloc: Global, rest: &[Token]) -> Result<(), Stop>
-        ensures { Gives (λ _. self.new) result (call_stated self.old (handle_form handled.Append (map lexeme rest.now))) }
+    fn x_write_seq(&mut self, alloc: Global, rest: &[Token]) -> Result<(), Stop>
+        ensures { Gives (λ _. self.new) result (call_stated self.old (handle_form handled.XWriteSeq (map lexeme rest.now))) }
     {
         let (handle, data) = written(alloc, &self.source, &mut self.names, rest)?;
-        self.keep_call(CallForm::Append { handle, data })
+        self.keep_call(CallForm::XWriteSeq { handle, data })
     }
 
-    fn seek(&mut self, rest: &[Token]) -> Result<(), Stop>
-        ensures { Gives (λ _. self.new) result (call_stated self.old (handle_form handled.Seek (map lexeme rest.now))) }
+    fn x_seek(&mut self, rest: &[Token]) -> Result<(), Stop>
+        ensures { Gives (λ _. self.new) result (call_stated self.old (handle_form handled.XSeek (map lexeme rest.now))) }
     {
         let (handle, to) = handle_and_term(rest)?;
         let handle = self.names.variable(&handle)?;
         let to = place_term(&mut self.names, &to)?;
-        self.keep_call(CallForm::Seek { handle, to })
+        self.keep_call(CallForm::XSeek { handle, to })
     }
 
-    fn length(&mut self, rest: &[Token]) -> Result<(), Stop>
-        ensures { Gives (λ _. self.new) result (call_stated self.old (handle_form handled.Length (map lexeme rest.now))) }
+    fn x_len(&mut self, rest: &[Token]) -> Result<(), Stop>
+        ensures { Gives (λ _. self.new) result (call_stated self.old (handle_form handled.XLen (map lexeme rest.now))) }
     {
         let (handle, into) = handle_into(rest)?;
         let handle = self.names.variable(&handle)?;
         let into = place_target(&mut self.names, &into)?;
-        self.keep_call(CallForm::Length { handle, into })
+        self.keep_call(CallForm::XLen { handle, into })
     }
 
-    fn close(&mut self, rest: &[Token]) -> Result<(), Stop>
-        ensures { Gives (λ _. self.new) result (call_stated self.old (handle_form handled.Close (map lexeme rest.now))) }
+    fn x_close(&mut self, rest: &[Token]) -> Result<(), Stop>
+        ensures { Gives (λ _. self.new) result (call_stated self.old (handle_form handled.XClose (map lexeme rest.now))) }
     {
         let handle = handle_alone(rest)?;
         let handle = self.names.variable(&handle)?;
-        self.keep_call(CallForm::Close { handle })
+        self.keep_call(CallForm::XClose { handle })
     }
 
-    fn sync(&mut self, rest: &[Token]) -> Result<(), Stop>
-        ensures { Gives (λ _. self.new) result (call_stated self.old (handle_form handled.Sync (map lexeme rest.now))) }
+    fn x_sync(&mut self, rest: &[Token]) -> Result<(), Stop>
+        ensures { Gives (λ _. self.new) result (call_stated self.old (handle_form handled.XSync (map lexeme rest.now))) }
     {
         let (handle, slot) = ident_and_slot(rest)?;
         let handle = self.names.variable(&handle)?;
         let slot = place_ending(&mut self.names, &slot)?;
-        self.keep_call(CallForm::Sync { handle, slot })
+        self.keep_call(CallForm::XSync { handle, slot })
     }
 
-    fn make_pipe(&mut self, rest: &[Token]) -> Result<(), Stop>
-        ensures { Gives (λ _. self.new) result (call_stated self.old (pipe_form piped.Make (map lexeme rest.now))) }
+    fn x_pipe(&mut self, rest: &[Token]) -> Result<(), Stop>
+        ensures { Gives (λ _. self.new) result (call_stated self.old (pipe_form piped.XPipe (map lexeme rest.now))) }
     {
         let into = target(rest)?;
         let into = place_target(&mut self.names, &into)?;
-        self.keep_call(CallForm::Pipe { into })
+        self.keep_call(CallForm::XPipe { into })
     }
 
-    fn read_pipe(&mut self, rest: &[Token]) -> Result<(), Stop>
-        ensures { Gives (λ _. self.new) result (call_stated self.old (pipe_form piped.Read (map lexeme rest.now))) }
+    fn x_read_pipe(&mut self, rest: &[Token]) -> Result<(), Stop>
+        ensures { Gives (λ _. self.new) result (call_stated self.old (pipe_form piped.XReadPipe (map lexeme rest.now))) }
     {
         let (handle, (n, into)) = handle_term_into(rest)?;
         let handle = self.names.variable(&handle)?;
         let (n, into) = place_term_into(&mut self.names, &n, &into)?;
-        self.keep_call(CallForm::ReadPipe { handle, n, into })
+        self.keep_call(CallForm::XReadPipe { handle, n, into })
     }
 
-    fn write_pipe(&mut self, alloc: Global, rest: &[Token]) -> Result<(), Stop>
-        ensures { Gives (λ _. self.new) result (call_stated self.old (pipe_form piped.Write (map lexeme rest.now))) }
+    fn x_write_pipe(&mut self, alloc: Global, rest: &[Token]) -> Result<(), Stop>
+        ensures { Gives (λ _. self.new) result (call_stated self.old (pipe_form piped.XWritePipe (map lexeme rest.now))) }
     {
         let ((handle, data), slot) = written_with_slot(alloc, &self.source, &mut self.names, rest)?;
-        self.keep_call(CallForm::WritePipe { handle, data, slot })
+        self.keep_call(CallForm::XWritePipe { handle, data, slot })
     }
 
-    fn shut_down(&mut self, rest: &[Token]) -> Result<(), Stop>
-        ensures { Gives (λ _. self.new) result (call_stated self.old (pipe_form piped.Shutdown (map lexeme rest.now))) }
+    fn x_shutdown(&mut self, rest: &[Token]) -> Result<(), Stop>
+        ensures { Gives (λ _. self.new) result (call_stated self.old (pipe_form piped.XShutdown (map lexeme rest.now))) }
     {
         let (handle, slot) = ident_and_slot(rest)?;
         let handle = self.names.variable(&handle)?;
         let slot = place_ending(&mut self.names, &slot)?;
-        self.keep_call(CallForm::Shutdown { handle, slot })
+        self.keep_call(CallForm::XShutdown { handle, slot })
     }
 
-    fn make_pair(&mut self, rest: &[Token]) -> Result<(), Stop>
-        ensures { Gives (λ _. self.new) result (call_stated self.old (pair_form paired.Make (map lexeme rest.now))) }
+    fn x_pair(&mut self, rest: &[Token]) -> Result<(), Stop>
+        ensures { Gives (λ _. self.new) result (call_stated self.old (pair_form paired.XPair (map lexeme rest.now))) }
     {
         let into = two_targets(rest)?;
         let into = place_targets(&mut self.names, &into)?;
-        self.keep_call(CallForm::Pair { into })
+        self.keep_call(CallForm::XPair { into })
     }
 
-    fn receive(&mut self, rest: &[Token]) -> Result<(), Stop>
-        ensures { Gives (λ _. self.new) result (call_stated self.old (pair_form paired.Receive (map lexeme rest.now))) }
+    fn x_recvmsg(&mut self, rest: &[Token]) -> Result<(), Stop>
+        ensures { Gives (λ _. self.new) result (call_stated self.old (pair_form paired.XRecvmsg (map lexeme rest.now))) }
     {
         let (handle, into) = handle_into(rest)?;
         let handle = self.names.variable(&handle)?;
         let into = place_target(&mut self.names, &into)?;
-        self.keep_call(CallForm::Receive { handle, into })
+        self.keep_call(CallForm::XRecvmsg { handle, into })
     }
 
-    fn send(&mut self, alloc: Global, rest: &[Token]) -> Result<(), Stop>
-        ensures { Gives (λ _. self.new) result (call_stated self.old (pair_form paired.Send (map lexeme rest.now))) }
+    fn x_sendmsg(&mut self, alloc: Global, rest: &[Token]) -> Result<(), Stop>
+        ensures { Gives (λ _. self.new) result (call_stated self.old (pair_form paired.XSendmsg (map lexeme rest.now))) }
     {
         let ((handle, data), slot) = written_with_slot(alloc, &self.source, &mut self.names, rest)?;
-        self.keep_call(CallForm::Send { handle, data, slot })
+        self.keep_call(CallForm::XSendmsg { handle, data, slot })
     }
 
-    fn start(&mut self, alloc: Global, rest: &[Token]) -> Result<(), Stop>
+    fn x_thread_create(&mut self, alloc: Global, rest: &[Token]) -> Result<(), Stop>
         ensures { Gives (λ _. self.new) result (call_stated self.old (thread_form (map lexeme rest.now))) }
     {
         let (block, slot) = ident_and_slot(rest)?;
         let slot = place_ending(&mut self.names, &slot)?;
         let block = Boxed::new(alloc, block.ident())?;
-        self.keep_call(CallForm::Start { block, slot })
+        self.keep_call(CallForm::XThreadCreate { block, slot })
     }
 
     fn word_call(&mut self, call: WordCall, rest: &[Token]) -> Result<(), Stop>
@@ -224,10 +224,10 @@ impl Draft {
         ensures { Gives (λ _. self.new) result (call_stated self.old (name_form call (map lexeme rest.now))) }
     {
         match call {
-            NameCall::Open => self.open(alloc, rest),
-            NameCall::Create => self.create(alloc, rest),
-            NameCall::Rename => self.rename(alloc, rest),
-            NameCall::Unlink => self.unlink(alloc, rest),
+            NameCall::XOpen => self.x_open(alloc, rest),
+            NameCall::XCreate => self.x_create(alloc, rest),
+            NameCall::XRename => self.x_rename(alloc, rest),
+            NameCall::XUnlink => self.x_unlink(alloc, rest),
         }
     }
 
@@ -235,13 +235,13 @@ impl Draft {
         ensures { Gives (λ _. self.new) result (call_stated self.old (handle_form call (map lexeme rest.now))) }
     {
         match call {
-            HandleCall::Read => self.read_file(rest),
-            HandleCall::Overwrite => self.overwrite(alloc, rest),
-            HandleCall::Append => self.append(alloc, rest),
-            HandleCall::Seek => self.seek(rest),
-            HandleCall::Length => self.length(rest),
-            HandleCall::Close => self.close(rest),
-            HandleCall::Sync => self.sync(rest),
+            HandleCall::XRead => self.x_read(rest),
+            HandleCall::XWriteOvr => self.x_write_ovr(alloc, rest),
+            HandleCall::XWriteSeq => self.x_write_seq(alloc, rest),
+            HandleCall::XSeek => self.x_seek(rest),
+            HandleCall::XLen => self.x_len(rest),
+            HandleCall::XClose => self.x_close(rest),
+            HandleCall::XSync => self.x_sync(rest),
         }
     }
 
@@ -249,10 +249,10 @@ impl Draft {
         ensures { Gives (λ _. self.new) result (call_stated self.old (pipe_form call (map lexeme rest.now))) }
     {
         match call {
-            PipeCall::Make => self.make_pipe(rest),
-            PipeCall::Read => self.read_pipe(rest),
-            PipeCall::Write => self.write_pipe(alloc, rest),
-            PipeCall::Shutdown => self.shut_down(rest),
+            PipeCall::XPipe => self.x_pipe(rest),
+            PipeCall::XReadPipe => self.x_read_pipe(rest),
+            PipeCall::XWritePipe => self.x_write_pipe(alloc, rest),
+            PipeCall::XShutdown => self.x_shutdown(rest),
         }
     }
 
@@ -260,9 +260,9 @@ impl Draft {
         ensures { Gives (λ _. self.new) result (call_stated self.old (pair_form call (map lexeme rest.now))) }
     {
         match call {
-            PairCall::Make => self.make_pair(rest),
-            PairCall::Receive => self.receive(rest),
-            PairCall::Send => self.send(alloc, rest),
+            PairCall::XPair => self.x_pair(rest),
+            PairCall::XRecvmsg => self.x_recvmsg(rest),
+            PairCall::XSendmsg => self.x_sendmsg(alloc, rest),
         }
     }
 
@@ -276,7 +276,7 @@ impl Draft {
             CallKind::Handle(call) => self.handle_call(alloc, call, rest),
             CallKind::Pipe(call) => self.pipe_call(alloc, call, rest),
             CallKind::Pair(call) => self.pair_call(alloc, call, rest),
-            CallKind::Thread => self.start(alloc, rest),
+            CallKind::XThreadCreate => self.x_thread_create(alloc, rest),
         }
     }
 
