@@ -17,8 +17,7 @@ use Rattle.xc_meet.specs.Members.{AreAll, AreFirst, HaveEntry, IsSitting, Leaves
 use Rattle.xc_meet.specs.Parts.{IsParted}
 use Rattle.xc_roomy.specs.Room.{Roomy}
 use Rattle.xc_serve.specs.Sessions.{IsSession}
-use Rattle.xc_turnstile.specs.declared.view.View.{View}
-use Rattle.xc_turnstile.specs.Known.{Known}
+use Rattle.xc_station.specs.Passes.{PassView, StationPass}
 use Rattle.xc_turnstile.specs.Views.{BeginsWith, HasPlace, views_met, longer}
 use Rattle.xc_turnstile.proofs.Laws.{starts_self, starts_trans}
 
@@ -78,7 +77,7 @@ module _ {L : Type 0} (told : L → Wire) where
   no_first (Some links) = (links, refl)
 
   -- none was accepted
-  pub none_accepted : (pass : Known) (before after : LinksView L) (list : Roomy (Session L)) (count : ℕ) → list.items ≡ [] → before.faults ≤ after.faults
+  pub none_accepted : (pass : StationPass) (before after : LinksView L) (list : Roomy (Session L)) (count : ℕ) → list.items ≡ [] → before.faults ≤ after.faults
       → (0 ≡ count) ⊎ (counted before.faults ≤ after.faults) → LeavesSessions told (step_of pass pass) (step_of before after) (step_of list list) count
   none_accepted pass before after list count none rose all =
       record {
@@ -93,7 +92,7 @@ module _ {L : Type 0} (told : L → Wire) where
         all = all;
       }
 
-  module _ (old rest own met served new : Known) (before mid after : LinksView L) (list done last : Roomy (Session L)) (left count : ℕ) (x : L)
+  module _ (old rest own met served new : StationPass) (before mid after : LinksView L) (list done last : Roomy (Session L)) (left count : ℕ) (x : L)
       (s : Session L) where
     -- one was accepted and served, and so were others behind it
     pub one_accepted : IsParted old rest own → GivesLink before.left mid.left x → before.faults ≤ mid.faults → IsSession own served (told x) (told s.link) s.end
@@ -106,16 +105,16 @@ module _ {L : Type 0} (told : L → Wire) where
         → LeavesSessions told (step_of old new) (step_of before after) (step_of list last) count
     one_accepted parted gives rose session others at is either apart places items spare counts =
         let with_met : BeginsWith new.view.seen met.view.seen =
-        subst (λ (v : View). BeginsWith v.seen met.view.seen) (sym is) (longer_first met.view.seen served.view.seen either) in
+        subst (λ (v : PassView). BeginsWith v.seen met.view.seen) (sym is) (longer_first met.view.seen served.view.seen either) in
         let with_own : BeginsWith new.view.seen served.view.seen =
-        subst (λ (v : View). BeginsWith v.seen served.view.seen) (sym is) (longer_second met.view.seen served.view.seen either) in
+        subst (λ (v : PassView). BeginsWith v.seen served.view.seen) (sym is) (longer_second met.view.seen served.view.seen either) in
         let sittings = others.are.sittings in
         record {
           together =
               record {
                 table = at ∙ (others.together.table ∙ parted.tables.0);
-                shares = omega (arith, ap (λ (v : View). v.shares) is, others.together.shares, session.gains.goes.shares, parted.shares);
-                origin = ap (λ (v : View). v.origin) is ∙ (others.together.origin ∙ parted.origin);
+                shares = omega (arith, ap (λ (v : PassView). v.shares) is, others.together.shares, session.gains.goes.shares, parted.shares);
+                origin = ap (λ (v : PassView). v.origin) is ∙ (others.together.origin ∙ parted.origin);
                 seen = starts_trans new.view.seen met.view.seen old.view.seen with_met
                     (starts_trans met.view.seen rest.view.seen old.view.seen others.together.seen parted.seen);
               };
@@ -140,7 +139,8 @@ module _ {L : Type 0} (told : L → Wire) where
         }
 
   -- the sessions of a run, from the list that is turned round, with the journal at the end
-  pub all_served : (old new : Known) (before after : LinksView L) (list done : Roomy (Session L)) (count : ℕ) (journal : List Entry) (turned : List (Session L))
+  pub all_served : (old new : StationPass) (before after : LinksView L) (list done : Roomy (Session L)) (count : ℕ)
+      (journal : List Entry) (turned : List (Session L))
       → LeavesSessions told (step_of old new) (step_of before after) (step_of list done) count → BeginsWith journal new.view.seen → turned ≡ reverse done.items
       → AreAll told journal (step_of before after) count turned
   all_served old new before after list done count journal turned h front is =

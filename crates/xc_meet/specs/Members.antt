@@ -11,14 +11,14 @@ use Rattle.xc_meet.specs.declared.session.Session.{Session}
 use Rattle.xc_roomy.specs.Room.{Roomy}
 use Rattle.xc_serve.specs.Sessions.{IsSession}
 use Rattle.xc_turnstile.specs.Insides.{Together}
-use Rattle.xc_turnstile.specs.Known.{Known}
+use Rattle.xc_station.specs.Passes.{StationPass}
 use Rattle.xc_turnstile.specs.Views.{BeginsWith, HasPlace}
 
 -- a link as it was accepted, and what the pass that served it knew at first and at last
 pub record Sitting (L : Type 0) : Type 0 where
   pub link : L
-  pub first : Known
-  pub last : Known
+  pub first : StationPass
+  pub last : StationPass
 
 -- This session came of it, and it meets the theorem of one session. Its pass had no entries at first, so all of the pass's entries
 -- stand in its answers; and they stand at their places in the journal, which goes on from what the pass has seen
@@ -65,8 +65,8 @@ pub record AreAll {L : Type 0} (told : L → Wire) (journal : List Entry) (links
 
 -- ---- as the code has it
 -- so many links were to be accepted, and their sessions were entered backwards
-pub record LeavesSessions {L : Type 0} (told : L → Wire) (pass : Step Known) (links : Step (LinksView L)) (list : Step (Roomy (Session L)))
-    (count : ℕ) : Type 0 where
+pub record LeavesSessions {L : Type 0} (told : L → Wire) (pass : Step StationPass) (links : Step (LinksView L))
+    (list : Step (Roomy (Session L))) (count : ℕ) : Type 0 where
   pub together : Together pass.old pass.new
   pub sessions : List (Session L)
   pub backwards : list.new.items ≡ reverse sessions

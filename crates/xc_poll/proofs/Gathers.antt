@@ -13,7 +13,7 @@ use Rattle.xc_data.specs.declared.entry.Event.TheVariants.{Picked}
 use Rattle.xc_runner.specs.Tries.{HasTried}
 use Rattle.xc_runner.specs.declared.tries.Tried.{Tried}
 use Rattle.xc_runner.specs.declared.tries.Tried.TheVariants.{Answered, Held}
-use Rattle.xc_turnstile.specs.Known.{Known}
+use Rattle.xc_station.specs.Passes.{StationPass}
 use Rattle.xc_turnstile.specs.Views.{BeginsWith, longer}
 use Rattle.xc_poll.specs.Askings.{HasAsked, asked_from}
 use Rattle.xc_poll.specs.Crews.{BeginsWithEvents}
@@ -33,7 +33,7 @@ pub events_further : (a b c : List Event) → BeginsWithEvents b a → BeginsWit
 events_further a b c p q = (p.0 ++ q.0, q.1 ∙ ap (λ (es : List Event). es ++ q.0) p.1 ∙ append_assoc a p.0 q.0)
 
 -- an asking
-pub asked_so : (old new : Known) (tried : Tried (Option ℕ)) → HasTried (λ job. Picked job) old new tried → HasAsked old new (asked_from tried)
+pub asked_so : (old new : StationPass) (tried : Tried (Option ℕ)) → HasTried (λ job. Picked job) old new tried → HasAsked old new (asked_from tried)
 asked_so old new (Answered None) h = h
 asked_so old new (Answered (Some job)) h = h
 asked_so old new (Held word) h = h

@@ -12,7 +12,7 @@ use Rattle.xc_data.specs.declared.entry.Event.TheVariants.{Picked}
 use Rattle.xc_data.specs.declared.entry.JobEnd.{JobEnd}
 use Rattle.xc_data.specs.declared.entry.Turn.{Turn}
 use Rattle.xc_data.specs.declared.entry.Turn.TheVariants as turn
-use Rattle.xc_turnstile.specs.Known.{Known}
+use Rattle.xc_station.specs.Passes.{StationPass}
 use Rattle.xc_poll.specs.Alls.{AllFront, ArePolled, GivesAll, HasMoved, IsAllPolled, IsPolledOnce, is_crew_over}
 use Rattle.xc_poll.specs.Askings.{AreAsked, TellsAsked, asked_events}
 use Rattle.xc_poll.specs.Crews.{Crew, IsGathered, Rise, jobs_of}
@@ -76,7 +76,7 @@ module _ (now : Option Crew) (old mid left : Crew) (last : Asked) (was : Some ol
   asks = subst (λ (crew : Crew). AreAsked crew left last) same asked
 
   -- one pass of what is left is one of what was there
-  gathers_old : (back : Known) → IsGathered left back → IsGathered old back
+  gathers_old : (back : StationPass) → IsGathered left back → IsGathered old back
   gathers_old back h =
       gathers_polled old mid.tasks back polls
       (gathers_back (record old { tasks = mid.tasks }) left _ _ back (by_askings (record old { tasks = mid.tasks }) left last asks) h)
@@ -90,7 +90,7 @@ module _ (now : Option Crew) (old mid left : Crew) (last : Asked) (was : Some ol
       (by_askings (record old { tasks = mid.tasks }) left last asks).stay
 
   -- that pass knows that no job was left
-  knows_none : (back : Known) → is_crew_over left last ≡ true → IsGathered left back → Contains back.view.events (Picked None)
+  knows_none : (back : StationPass) → is_crew_over left last ≡ true → IsGathered left back → Contains back.view.events (Picked None)
   knows_none back over h =
       let one : Contains (Picked None ∷ []) (Picked None) = (0, omega arith, refl) in
       let jobs = map (λ job. Picked (Some job)) told.before in
@@ -103,10 +103,10 @@ module _ (now : Option Crew) (old mid left : Crew) (last : Asked) (was : Some ol
       (Contains-append_right jobs (Picked None ∷ []) (Picked None) one))))
 
   -- where it is over: what is given
-  pub ready_gives : (back : Known) → is_crew_over left last ≡ true → IsGathered left back → IsSomeAnd now (λ crew. GivesAll crew back)
+  pub ready_gives : (back : StationPass) → is_crew_over left last ≡ true → IsGathered left back → IsSomeAnd now (λ crew. GivesAll crew back)
   ready_gives back over h = subst (λ (o : Option Crew). IsSomeAnd o (λ crew. GivesAll crew back)) was (gathers_old back h, knows_none back over h)
 
-  pub ready_polled : (new : Option Crew) (back : Known) → new ≡ None → Rise 0 (jobs_of left.tasks) left.top → is_crew_over left last ≡ true
+  pub ready_polled : (new : Option Crew) (back : StationPass) → new ≡ None → Rise 0 (jobs_of left.tasks) left.top → is_crew_over left last ≡ true
       → IsGathered left back → IsSomeAnd now (λ crew. IsAllPolled crew new (Ready back))
   ready_polled new back gone rise over h =
       let all : IsAllPolled old new (Ready back) =
@@ -123,13 +123,13 @@ module _ (now : Option Crew) (old mid left : Crew) (last : Asked) (was : Some ol
       subst (λ (o : Option Crew). IsSomeAnd o (λ crew. IsAllPolled crew new (Ready back))) was all
 
   -- and where it isn't
-  pub pending_gives : (result : Poll Known) → result ≡ Pending
-      → OnPending result ((back : Known) → GivesAll left back → IsSomeAnd now (λ crew. GivesAll crew back))
+  pub pending_gives : (result : Poll StationPass) → result ≡ Pending
+      → OnPending result ((back : StationPass) → GivesAll left back → IsSomeAnd now (λ crew. GivesAll crew back))
   pending_gives result pending =
-      subst (λ (r : Poll Known). OnPending r ((back : Known) → GivesAll left back → IsSomeAnd now (λ crew. GivesAll crew back))) (sym pending)
+      subst (λ (r : Poll StationPass). OnPending r ((back : StationPass) → GivesAll left back → IsSomeAnd now (λ crew. GivesAll crew back))) (sym pending)
       (λ back h. subst (λ (o : Option Crew). IsSomeAnd o (λ crew. GivesAll crew back)) was (gathers_old back h.0, h.1))
 
-  pub pending_polled : (result : Poll Known) → result ≡ Pending → Rise 0 (jobs_of left.tasks) left.top → is_crew_over left last ≡ false
+  pub pending_polled : (result : Poll StationPass) → result ≡ Pending → Rise 0 (jobs_of left.tasks) left.top → is_crew_over left last ≡ false
       → IsSomeAnd now (λ crew. IsAllPolled crew (Some left) result)
   pending_polled result pending rise over =
       let all : IsAllPolled old (Some left) Pending =
@@ -144,4 +144,4 @@ module _ (now : Option Crew) (old mid left : Crew) (last : Asked) (was : Some ol
         waits = (over, refl);
       } in
       subst (λ (o : Option Crew). IsSomeAnd o (λ crew. IsAllPolled crew (Some left) result)) was
-      (subst (λ (r : Poll Known). IsAllPolled old (Some left) r) (sym pending) all)
+      (subst (λ (r : Poll StationPass). IsAllPolled old (Some left) r) (sym pending) all)

@@ -6,7 +6,7 @@ use Rattle.std.proofs.lemmas.List.{append-nil, drop_all, length-map, map-append,
 use Rattle.std.proofs.lemmas.List.Elements.{All-from_recursion, recursion_from_All}
 use Rattle.std.proofs.lemmas.List.Sums.{sum_by-append, sum_by-cons}
 use Rattle.atomic_table.specs.Seated.{TableId}
-use Rattle.xc_turnstile.specs.Known.{Known}
+use Rattle.xc_station.specs.Passes.{StationPass}
 use Rattle.xc_turnstile.specs.Views.{given_half, kept_half}
 use Rattle.xc_poll.specs.Alls.{AllFront}
 use Rattle.xc_poll.specs.Askings.{IsHalved, IsMost, PartsMost}
@@ -34,7 +34,7 @@ front_trans R S T t (x ∷ xs) (y ∷ ys) (z ∷ zs) h k = (t x y z h.0 k.0, fro
 
 -- ---- passes and tasks that are the same but for shares
 -- a pass is another one but for its shares
-abbrev pub OnlyShares : Known → Known → Type 0
+abbrev pub OnlyShares : StationPass → StationPass → Type 0
 OnlyShares old new = (shares : ℕ) × (new ≡ record old { view = record old.view { shares = shares } })
 
 -- so is a task, but for the shares of its pass
@@ -54,22 +54,22 @@ half_below : (n : ℕ) → n / 2 ≤ n
 half_below n = omega arith
 
 -- the shares of both halves
-halves : (old kept given : Known) → IsHalved old kept given → kept.view.shares + given.view.shares ≡ old.view.shares
+halves : (old kept given : StationPass) → IsHalved old kept given → kept.view.shares + given.view.shares ≡ old.view.shares
 halves old kept given h =
-    omega (arith, ap (λ (k : Known). k.view.shares) h.kept_is, ap (λ (k : Known). k.view.shares) h.given_is, half_below old.view.shares)
+    omega (arith, ap (λ (k : StationPass). k.view.shares) h.kept_is, ap (λ (k : StationPass). k.view.shares) h.given_is, half_below old.view.shares)
 
 middle_sum : (before behind : List Task) (t : Task) → shares_of (before ++ t ∷ behind) ≡ shares_of before + (t.pass.view.shares + shares_of behind)
 middle_sum before behind t =
     let f : Task → ℕ = λ task. task.pass.view.shares in
     sum_by-append f before (t ∷ behind) ∙ ap (λ n. sum_by f before + n) (sum_by-cons f t behind)
 
-module _ (asking left : Known) (tasks rest : List Task) (given : Known) where
+module _ (asking left : StationPass) (tasks rest : List Task) (given : StationPass) where
   -- the pass that asks stays but for its shares
   pub parts_left : PartsMost asking left tasks rest given → OnlyShares asking left
   parts_left (inl h) = (
     left.view.shares,
     h.halved.kept_is ∙ ap (λ n. record asking { view = record asking.view { shares = n } })
-        (sym (ap (λ (k : Known). k.view.shares) h.halved.kept_is)),
+        (sym (ap (λ (k : StationPass). k.view.shares) h.halved.kept_is)),
   )
   parts_left (inr h) = (asking.view.shares, h.same)
 
@@ -82,8 +82,8 @@ module _ (asking left : Known) (tasks rest : List Task) (given : Known) where
       (subst (AllFront OnlySharesOf (h.before ++ h.task ∷ h.behind)) (sym h.are)
       (front_other OnlySharesOf only_self h.before h.behind h.task (record h.task { pass = h.kept }) (
         h.kept.view.shares,
-        ap (λ (k : Known). record h.task { pass = k }) (h.halved.kept_is
-            ∙ ap (λ n. record h.task.pass { view = record h.task.pass.view { shares = n } }) (sym (ap (λ (k : Known). k.view.shares) h.halved.kept_is))),
+        ap (λ (k : StationPass). record h.task { pass = k }) (h.halved.kept_is
+            ∙ ap (λ n. record h.task.pass { view = record h.task.pass.view { shares = n } }) (sym (ap (λ (k : StationPass). k.view.shares) h.halved.kept_is))),
       )))
 
   -- no share is lost
@@ -95,7 +95,7 @@ module _ (asking left : Known) (tasks rest : List Task) (given : Known) where
         halves h.task.pass h.kept given h.halved,
         ap shares_of h.were ∙ middle_sum h.before h.behind h.task,
         ap shares_of h.are ∙ middle_sum h.before h.behind (record h.task { pass = h.kept }),
-        ap (λ (k : Known). k.view.shares) h.same,
+        ap (λ (k : StationPass). k.view.shares) h.same,
       )
 
   -- the jobs stay
@@ -107,7 +107,8 @@ module _ (asking left : Known) (tasks rest : List Task) (given : Known) where
       ∙ (sym (map-append f h.before (h.task ∷ h.behind)) ∙ sym (ap jobs_of h.were)))
 
 -- so there are as many tasks
-pub tasks_length : (asking left : Known) (tasks rest : List Task) (given : Known) → PartsMost asking left tasks rest given → length rest ≡ length tasks
+pub tasks_length : (asking left : StationPass) (tasks rest : List Task) (given : StationPass) → PartsMost asking left tasks rest given
+    → length rest ≡ length tasks
 tasks_length asking left tasks rest given h =
     sym (length-map rest (λ (task : Task). task.job)) ∙ (ap length (parts_jobs asking left tasks rest given h) ∙ length-map tasks (λ (task : Task). task.job))
 
@@ -117,7 +118,7 @@ at_home home [] behind t t' same h = (same ∙ h.0, h.1)
 at_home home (b ∷ before) behind t t' same h = (h.0, at_home home before behind t t' same h.1)
 
 -- their turnstile too
-pub parts_homes : (home : TableId) (asking left : Known) (tasks rest : List Task) (given : Known) → PartsMost asking left tasks rest given
+pub parts_homes : (home : TableId) (asking left : StationPass) (tasks rest : List Task) (given : StationPass) → PartsMost asking left tasks rest given
     → All (λ (task : Task). task.home ≡ home) tasks → All (λ (task : Task). task.home ≡ home) rest
 parts_homes home asking left tasks rest given (inl h) all = subst (All (λ (task : Task). task.home ≡ home)) (sym h.same) all
 parts_homes home asking left tasks rest given (inr h) all =
@@ -127,7 +128,7 @@ parts_homes home asking left tasks rest given (inr h) all =
     (recursion_from_All (λ (task : Task). task.home ≡ home) (h.before ++ h.task ∷ h.behind) (subst at h.were all))))
 
 -- ---- the task with the most shares
-module _ (asking : Known) (tasks : List Task) (at most : ℕ) (task new : Task) (given : Known) where
+module _ (asking : StationPass) (tasks : List Task) (at most : ℕ) (task new : Task) (given : StationPass) where
   pub parts_task : IsMost asking.view.shares tasks (Some at) most → 2 ≤ most → task ≡ get_or tasks at task
       → new ≡ record task { pass = record task.pass { view = kept_half task.pass.view } } → given ≡ record task.pass { view = given_half task.pass.view }
       → PartsMost asking asking tasks (set tasks at new) given

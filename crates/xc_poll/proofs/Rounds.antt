@@ -15,8 +15,7 @@ use Rattle.xc_runner.specs.Tries.{IsHeldOff}
 use Rattle.xc_runner.proofs.Laws.{held_outside, outside_goes}
 use Rattle.xc_turnstile.specs.Insides.{PassGoesOn}
 use Rattle.xc_turnstile.proofs.Laws.{pass_goes_further, starts_self}
-use Rattle.xc_turnstile.specs.declared.view.View.{View}
-use Rattle.xc_turnstile.specs.Known.{Known}
+use Rattle.xc_station.specs.Passes.{PassView, StationPass}
 use Rattle.atomic_table.specs.Seated.{TableId}
 use Rattle.xc_poll.specs.Tasks.{Task, known_of}
 use Rattle.xc_poll.specs.Polls.{AllWent, AllButLastWent, GainsTurn, TookTurns, HasReason, HasStopped, IsPolled, IsRound}
@@ -66,7 +65,7 @@ said_waits share as_ old new waits.Spent h = sym (went_last as_ h.0 None refl)
 said_waits share as_ old new waits.Memory h = sym (ap poll_said h.0)
 
 -- ---- a pass that stays
-pub goes_nowhere : (a : Known) → PassGoesOn a a
+pub goes_nowhere : (a : StationPass) → PassGoesOn a a
 goes_nowhere a =
     record {
       table = refl;
@@ -78,7 +77,7 @@ goes_nowhere a =
     }
 
 -- ---- several
-pub gone_nowhere : (a : Known) (job : ℕ) → TookTurns a a job 0
+pub gone_nowhere : (a : StationPass) (job : ℕ) → TookTurns a a job 0
 gone_nowhere a job =
     record {
       answers = [];
@@ -91,7 +90,7 @@ gone_nowhere a job =
     }
 
 -- one turn more that went
-pub gone_further : (a b c : Known) (job count : ℕ) (answer : Option Turn) → TookTurns a b job count → GainsTurn b c job answer → answer ≡ Some turn.Went
+pub gone_further : (a b c : StationPass) (job count : ℕ) (answer : Option Turn) → TookTurns a b job count → GainsTurn b c job answer → answer ≡ Some turn.Went
     → TookTurns a c job (count + 1)
 gone_further a b c job count answer h k e =
     record {
@@ -123,7 +122,7 @@ stopped_by share as_ (Some turn.NoMemory) at x y l same is = subst (HasStopped s
 stopped_by share as_ (Some (turn.Ended end)) at x y l same is = subst (HasStopped share as_ x y) (ap (stop_there at) is) (l, same)
 
 -- one turn more, behind which they stop
-pub round_stopped : (a b c : Known) (job share count : ℕ) (answer : Option Turn) (at : RoundStop) → TookTurns a b job count → count < share
+pub round_stopped : (a b c : StationPass) (job share count : ℕ) (answer : Option Turn) (at : RoundStop) → TookTurns a b job count → count < share
     → GainsTurn b c job answer
     → stop_of answer ≡ Some at → IsRound a c job share at
 round_stopped a b c job share count answer at h below k is =
@@ -152,21 +151,21 @@ went_on (Some turn.NoMemory) e = absurd (subst IsSome e tt)
 went_on (Some (turn.Ended end)) e = absurd (subst IsSome e tt)
 
 -- turns that stop since another was inside
-pub round_held : (a b c : Known) (job share count word : ℕ) → TookTurns a b job count → count < share → IsHeldOff b c word
+pub round_held : (a b c : StationPass) (job share count word : ℕ) → TookTurns a b job count → count < share → IsHeldOff b c word
     → IsRound a c job share (stop.Waits (waits.Held word))
 round_held a b c job share count word h below k =
     record {
       answers = h.answers;
-      events = ap (λ (v : View). v.events) k.view ∙ h.events;
+      events = ap (λ (v : PassView). v.events) k.view ∙ h.events;
       few = omega (arith, h.long, below);
       went = all_but_self h.answers h.went;
-      won = ap (λ (v : View). v.won) k.view ∙ (h.won ∙ ap (λ n. a.view.won + n) (sym h.long));
+      won = ap (λ (v : PassView). v.won) k.view ∙ (h.won ∙ ap (λ n. a.view.won + n) (sym h.long));
       goes = pass_goes_further a b c h.goes (outside_goes b c (held_outside b c word k));
-      stopped = (h.went, omega (arith, h.long, below), k.odd, ap (λ (v : View). v.lost) k.view ∙ ap (λ n. n + 1) h.lost);
+      stopped = (h.went, omega (arith, h.long, below), k.odd, ap (λ (v : PassView). v.lost) k.view ∙ ap (λ n. n + 1) h.lost);
     }
 
 -- turns that stop since all of the share were taken
-pub round_spent : (a b : Known) (job share count : ℕ) → TookTurns a b job count → count ≡ share → IsRound a b job share (stop.Waits waits.Spent)
+pub round_spent : (a b : StationPass) (job share count : ℕ) → TookTurns a b job count → count ≡ share → IsRound a b job share (stop.Waits waits.Spent)
 round_spent a b job share count h e =
     record {
       answers = h.answers;
@@ -207,12 +206,12 @@ polled_again t share ready why =
     }
 
 -- that has to go on
-pub polled_waits : (home : TableId) (p q : Known) (pass : Option Known) (job share : ℕ) (ready : Bool) (before : Option Waits) (why : Waits)
+pub polled_waits : (home : TableId) (p q : StationPass) (pass : Option StationPass) (job share : ℕ) (ready : Bool) (before : Option Waits) (why : Waits)
     (result : Poll (Option JobEnd)) → known_of pass ≡ p → 1 ≤ share → ready ≡ false → result ≡ Pending → IsRound p q job share (stop.Waits why)
     → IsPolled (record { home = home; pass = known_of pass; job = job; share = share; ready = ready; why = before })
     (record { home = home; pass = q; job = job; share = share; ready = ready; why = Some why }) result
 polled_waits home p q pass job share ready before why result is least unready pending round =
-    let r : IsRound (known_of pass) q job share (stop.Waits why) = subst (λ (k : Known). IsRound k q job share (stop.Waits why)) (sym is) round in
+    let r : IsRound (known_of pass) q job share (stop.Waits why) = subst (λ (k : StationPass). IsRound k q job share (stop.Waits why)) (sym is) round in
     let old : Task = record { home = home; pass = known_of pass; job = job; share = share; ready = ready; why = before } in
     let new : Task = record { home = home; pass = q; job = job; share = share; ready = ready; why = Some why } in
     let polled : IsPolled old new Pending =

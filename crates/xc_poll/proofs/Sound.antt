@@ -8,9 +8,8 @@ use Rattle.std.proofs.lemmas.List.Sums.{sum_by-cons, sum_by_push}
 use Rattle.atomic_table.specs.Seated.{TableId}
 use Rattle.xc_data.specs.declared.entry.Event.{Event}
 use Rattle.xc_data.specs.declared.entry.Event.TheVariants.{Picked}
-use Rattle.xc_turnstile.specs.Known.{Known}
+use Rattle.xc_station.specs.Passes.{PassView, StationPass}
 use Rattle.xc_turnstile.specs.Views.{BeginsWith}
-use Rattle.xc_turnstile.specs.declared.view.View.{View}
 use Rattle.xc_turnstile.proofs.Laws.{starts_self, starts_trans}
 use Rattle.xc_poll.specs.Alls.{AllFront, ArePolled}
 use Rattle.xc_poll.specs.Askings.{AreAsked, EndsAsking, HandOut, HandsOut, HasAsked, PartsMost, TakesIn, TakesInOrLeaves, TellsAsked}
@@ -29,13 +28,13 @@ rise_more low high n [] h lt = (omega (arith, h, lt), omega arith)
 rise_more low high n (m ∷ ms) h lt = (h.0, rise_more m high n ms h.1 lt)
 
 -- the shares, with what an asking leaves
-asked_keeps : (old new : Known) (last : Asked) → HasAsked old new last → (new.table ≡ old.table) × (new.view.shares ≡ old.view.shares)
-asked_keeps old new (asked.Held word) h = (h.table, ap (λ (v : View). v.shares) h.view)
+asked_keeps : (old new : StationPass) (last : Asked) → HasAsked old new last → (new.table ≡ old.table) × (new.view.shares ≡ old.view.shares)
+asked_keeps old new (asked.Held word) h = (h.table, ap (λ (v : PassView). v.shares) h.view)
 asked_keeps old new (asked.Job job) h = (h.gains.goes.table, h.gains.goes.shares)
 asked_keeps old new asked.Nothing h = (h.gains.goes.table, h.gains.goes.shares)
 
 -- behind an asking
-pub sound_asked : (home : TableId) (asking left : Known) (tasks : List Task) (top share : ℕ) (last : Asked)
+pub sound_asked : (home : TableId) (asking left : StationPass) (tasks : List Task) (top share : ℕ) (last : Asked)
     → IsCrewSound (record { home = home; asking = asking; tasks = tasks; top = top; share = share }) → HasAsked asking left last
     → IsCrewSound (record { home = home; asking = left; tasks = tasks; top = top; share = share })
 sound_asked home asking left tasks top share last s h =
@@ -65,7 +64,7 @@ polled_homes home (x ∷ xs) [] h k = absurd h
 polled_homes home (x ∷ xs) (y ∷ ys) h k = (h.0.1.same.0 ∙ k.0, polled_homes home xs ys h.1 k.1)
 
 -- what was true is true
-pub sound_polled : (home : TableId) (asking : Known) (tasks rest : List Task) (top share : ℕ)
+pub sound_polled : (home : TableId) (asking : StationPass) (tasks rest : List Task) (top share : ℕ)
     → IsCrewSound (record { home = home; asking = asking; tasks = tasks; top = top; share = share }) → ArePolled tasks rest
     → IsCrewSound (record { home = home; asking = asking; tasks = rest; top = top; share = share })
 sound_polled home asking tasks rest top share s h =
@@ -105,7 +104,7 @@ module _ (old new : Crew) (job : ℕ) (h : TakesIn old new job) where
       All-push (λ (task : Task). task.home ≡ old.home) h.rest (task_for job old.share h.given)
       (parts_homes old.home old.asking new.asking old.tasks h.rest h.given h.parts s.homes) at in
       record {
-        table = ap (λ (k : Known). k.table) left.1 ∙ (s.table ∙ sym h.same.0);
+        table = ap (λ (k : StationPass). k.table) left.1 ∙ (s.table ∙ sym h.same.0);
         homes = subst (λ (home : TableId). All (λ (task : Task). task.home ≡ home) new.tasks) (sym h.same.0)
             (subst (λ (ts : List Task). All (λ (task : Task). task.home ≡ old.home) ts) (sym h.tasks) homes);
         rise = taken_rises s.rise;
@@ -114,7 +113,7 @@ module _ (old new : Crew) (job : ℕ) (h : TakesIn old new job) where
       }
 
 -- a task that was made for the job and stands behind the others
-pub takes_in : (home : TableId) (asking left given : Known) (tasks rest pushed : List Task) (top share job : ℕ)
+pub takes_in : (home : TableId) (asking left given : StationPass) (tasks rest pushed : List Task) (top share job : ℕ)
     → IsCrewSound (record { home = home; asking = asking; tasks = tasks; top = top; share = share }) → top < job → given.table ≡ asking.table
     → PartsMost asking left tasks rest given → pushed ≡ rest ++ task_for job share given ∷ []
     → TakesIn (record { home = home; asking = asking; tasks = tasks; top = top; share = share })
@@ -167,16 +166,16 @@ by_nothing crew =
     }
 
 -- an asking
-by_asked : (old : Crew) (left : Known) (last : Asked) → HasAsked old.asking left last
+by_asked : (old : Crew) (left : StationPass) (last : Asked) → HasAsked old.asking left last
     → GoesBy old (record old { asking = left }) (asked_events last) (asked_lost last)
 by_asked old left (asked.Held word) h =
     record {
       table = h.table;
-      origin = ap (λ (v : View). v.origin) h.view;
-      seen = subst (λ (es : List _). BeginsWith es old.asking.view.seen) (sym (ap (λ (v : View). v.seen) h.view)) (starts_self old.asking.view.seen);
-      shares = ap (λ (v : View). v.shares + shares_of old.tasks) h.view;
-      gains = ap (λ (v : View). v.events) h.view ∙ sym (append-nil old.asking.view.events);
-      loses = ap (λ (v : View). v.lost) h.view;
+      origin = ap (λ (v : PassView). v.origin) h.view;
+      seen = subst (λ (es : List _). BeginsWith es old.asking.view.seen) (sym (ap (λ (v : PassView). v.seen) h.view)) (starts_self old.asking.view.seen);
+      shares = ap (λ (v : PassView). v.shares + shares_of old.tasks) h.view;
+      gains = ap (λ (v : PassView). v.events) h.view ∙ sym (append-nil old.asking.view.events);
+      loses = ap (λ (v : PassView). v.lost) h.view;
       stay = stay_all old.tasks;
     }
 by_asked old left (asked.Job job) h =
@@ -206,12 +205,13 @@ by_taken old new job (inr same) = subst (λ (c : Crew). GoesBy old c [] 0) (sym 
 by_taken old new job (inl h) =
     let left = parts_left old.asking new.asking old.tasks h.rest h.given h.parts in
     record {
-      table = ap (λ (k : Known). k.table) left.1;
-      origin = ap (λ (k : Known). k.view.origin) left.1;
-      seen = subst (λ (es : List _). BeginsWith es old.asking.view.seen) (sym (ap (λ (k : Known). k.view.seen) left.1)) (starts_self old.asking.view.seen);
+      table = ap (λ (k : StationPass). k.table) left.1;
+      origin = ap (λ (k : StationPass). k.view.origin) left.1;
+      seen = subst (λ (es : List _). BeginsWith es old.asking.view.seen) (sym (ap (λ (k : StationPass). k.view.seen) left.1))
+          (starts_self old.asking.view.seen);
       shares = taken_shares old new job h;
-      gains = ap (λ (k : Known). k.view.events) left.1 ∙ sym (append-nil old.asking.view.events);
-      loses = omega (arith, ap (λ (k : Known). k.view.lost) left.1);
+      gains = ap (λ (k : StationPass). k.view.events) left.1 ∙ sym (append-nil old.asking.view.events);
+      loses = omega (arith, ap (λ (k : StationPass). k.view.lost) left.1);
       stay = subst (AllFront OnlySharesOf old.tasks) (sym h.tasks)
           (front_trans OnlySharesOf OnlySharesOf OnlySharesOf only_trans old.tasks h.rest (h.rest ++ task_for job old.share h.given ∷ [])
           (parts_front old.asking new.asking old.tasks h.rest h.given h.parts)
@@ -262,7 +262,8 @@ hand_more old mid new (j ∷ jobs) job h k = (h.0, h.1, hand_more h.0 mid new jo
 
 -- ---- a round
 -- one pass of what is left is one of what was there
-pub gathers_back : (old left : Crew) (events : List Event) (lost : ℕ) (back : Known) → GoesBy old left events lost → IsGathered left back → IsGathered old back
+pub gathers_back : (old left : Crew) (events : List Event) (lost : ℕ) (back : StationPass) → GoesBy old left events lost → IsGathered left back
+    → IsGathered old back
 gathers_back old left events lost back by h =
     record {
       table = h.table ∙ by.table;
@@ -273,7 +274,7 @@ gathers_back old left events lost back by h =
     }
 
 -- polls change nothing of it
-pub gathers_polled : (old : Crew) (polled : List Task) (back : Known) → ArePolled old.tasks polled → IsGathered (record old { tasks = polled }) back
+pub gathers_polled : (old : Crew) (polled : List Task) (back : StationPass) → ArePolled old.tasks polled → IsGathered (record old { tasks = polled }) back
     → IsGathered old back
 gathers_polled old polled back h k =
     record {

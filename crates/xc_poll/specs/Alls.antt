@@ -8,7 +8,7 @@ use Rattle.xc_data.specs.declared.entry.Event.{Event}
 use Rattle.xc_data.specs.declared.entry.Event.TheVariants.{Picked, Turned}
 use Rattle.xc_data.specs.declared.entry.JobEnd.{JobEnd}
 use Rattle.xc_data.specs.declared.entry.Turn.{Turn}
-use Rattle.xc_turnstile.specs.Known.{Known}
+use Rattle.xc_station.specs.Passes.{StationPass}
 use Rattle.xc_poll.specs.Askings.{AreAsked, TellsAsked}
 use Rattle.xc_poll.specs.Crews.{Crew, IsGathered, Rise, jobs_of}
 use Rattle.xc_poll.specs.Polls.{IsPolled}
@@ -52,7 +52,7 @@ is_crew_over crew asked.Nothing = list_all (λ (task : Task). task.ready) crew.t
 
 -- ---- a poll
 -- one poll is a round. It is Ready exactly where the round is over, with one pass of all that are left, and Pending exactly where it isn't
-pub record IsAllPolled (old : Crew) (new : Option Crew) (result : Poll Known) : Type 0 where
+pub record IsAllPolled (old : Crew) (new : Option Crew) (result : Poll StationPass) : Type 0 where
   -- what the round leaves, and what its last asking was answered
   pub left : Crew
   pub last : Asked
@@ -66,5 +66,5 @@ pub record IsAllPolled (old : Crew) (new : Option Crew) (result : Poll Known) : 
   pub waits : OnPending result ((is_crew_over left last ≡ false) × (new ≡ Some left))
 
 -- what a poll that is ready gives: one pass that goes on from the one that asks, with all shares, and that knows that no job was left
-abbrev pub GivesAll : Crew → Known → Type 0
+abbrev pub GivesAll : Crew → StationPass → Type 0
 GivesAll crew back = IsGathered crew back × Contains back.view.events (Picked None)

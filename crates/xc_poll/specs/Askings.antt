@@ -6,7 +6,7 @@ use Rattle.xc_data.specs.declared.entry.Event.TheVariants.{Picked}
 use Rattle.xc_runner.specs.Tries.{GainsOnce, IsHeldOff}
 use Rattle.xc_runner.specs.declared.tries.Tried.{Tried}
 use Rattle.xc_runner.specs.declared.tries.Tried.TheVariants.{Answered, Held}
-use Rattle.xc_turnstile.specs.Known.{Known}
+use Rattle.xc_station.specs.Passes.{StationPass}
 use Rattle.xc_turnstile.specs.Views.{given_half, kept_half}
 use Rattle.xc_poll.specs.Crews.{Crew}
 use Rattle.xc_poll.specs.Tasks.{Task}
@@ -15,7 +15,7 @@ use Rattle.xc_poll.specs.declared.asking.Asked.TheVariants as asked
 
 -- ---- one asking
 -- another was inside; or a job was handed out; or none is left
-abbrev pub HasAsked : Known → Known → Asked → Type 0
+abbrev pub HasAsked : StationPass → StationPass → Asked → Type 0
 HasAsked old new (asked.Held word) = IsHeldOff old new word
 HasAsked old new (asked.Job job) = GainsOnce old new (Picked (Some job))
 HasAsked old new asked.Nothing = GainsOnce old new (Picked None)
@@ -28,13 +28,13 @@ asked_from (Held word) = asked.Held word
 
 -- ---- a pass for a job
 -- half of a pass, which has two shares at least, is given away
-pub record IsHalved (old kept given : Known) : Type 0 where
+pub record IsHalved (old kept given : StationPass) : Type 0 where
   pub enough : 2 ≤ old.view.shares
   pub kept_is : kept ≡ record old { view = kept_half old.view }
   pub given_is : given ≡ record old { view = given_half old.view }
 
 -- no pass has more shares than so many
-abbrev pub HaveAtMost : ℕ → Known → List Task → Type 0
+abbrev pub HaveAtMost : ℕ → StationPass → List Task → Type 0
 HaveAtMost most asking tasks = (asking.view.shares ≤ most) × All (λ (task : Task). task.pass.view.shares ≤ most) tasks
 
 -- the task at this place has so many shares
@@ -48,17 +48,17 @@ pub record IsMost (asking : ℕ) (tasks : List Task) (place : Option ℕ) (most 
   pub at : MatchOption place (most ≡ asking) (HasShares tasks most)
 
 -- half of the pass that asks is given away, and no pass has more shares
-pub record PartsAsking (asking left : Known) (tasks rest : List Task) (given : Known) : Type 0 where
+pub record PartsAsking (asking left : StationPass) (tasks rest : List Task) (given : StationPass) : Type 0 where
   pub halved : IsHalved asking left given
   pub most : HaveAtMost asking.view.shares asking tasks
   pub same : rest ≡ tasks
 
 -- half of a task's pass is given away, and no pass has more shares
-pub record PartsTask (asking left : Known) (tasks rest : List Task) (given : Known) : Type 0 where
+pub record PartsTask (asking left : StationPass) (tasks rest : List Task) (given : StationPass) : Type 0 where
   pub before : List Task
   pub task : Task
   pub behind : List Task
-  pub kept : Known
+  pub kept : StationPass
   pub were : tasks ≡ before ++ task ∷ behind
   pub halved : IsHalved task.pass kept given
   pub most : HaveAtMost task.pass.view.shares asking tasks
@@ -66,18 +66,18 @@ pub record PartsTask (asking left : Known) (tasks rest : List Task) (given : Kno
   pub same : left ≡ asking
 
 -- half of a pass with the most shares is given away
-abbrev pub PartsMost : Known → Known → List Task → List Task → Known → Type 0
+abbrev pub PartsMost : StationPass → StationPass → List Task → List Task → StationPass → Type 0
 PartsMost asking left tasks rest given = PartsAsking asking left tasks rest given ⊎ PartsTask asking left tasks rest given
 
 -- ---- a job that was handed out
 -- a task that hasn't been polled
-abbrev pub task_for : ℕ → ℕ → Known → Task
+abbrev pub task_for : ℕ → ℕ → StationPass → Task
 task_for job share pass = record { home = pass.table; pass = pass; job = job; share = share; ready = false; why = None }
 
 -- it is taken in
 pub record TakesIn (old new : Crew) (job : ℕ) : Type 0 where
   pub above : old.top < job
-  pub given : Known
+  pub given : StationPass
   pub rest : List Task
   pub parts : PartsMost old.asking new.asking old.tasks rest given
   pub tasks : new.tasks ≡ rest ++ task_for job old.share given ∷ []
@@ -90,7 +90,7 @@ TakesInOrLeaves old new job = TakesIn old new job ⊎ (new ≡ old)
 
 -- an asking that was answered a job
 pub record HandsOut (old new : Crew) (job : ℕ) : Type 0 where
-  pub left : Known
+  pub left : StationPass
   pub gains : GainsOnce old.asking left (Picked (Some job))
   pub taken : TakesInOrLeaves (record old { asking = left }) new job
 
@@ -130,7 +130,7 @@ asked_lost (asked.Job job) = 0
 asked_lost asked.Nothing = 0
 
 -- so the pass that asks tells what it was answered: one event for each answer, in their order, and one more lost where it didn't enter
-pub record TellsAsked (old new : Known) (last : Asked) : Type 0 where
+pub record TellsAsked (old new : StationPass) (last : Asked) : Type 0 where
   pub before : List ℕ
   pub few : length before ≤ 1000
   pub events : new.view.events ≡ old.view.events ++ (map (λ job. Picked (Some job)) before ++ asked_events last)

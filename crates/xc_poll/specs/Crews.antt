@@ -3,14 +3,14 @@ use Rattle.std.specs.Prelude.{◌≡◌, ℕ, ◌+◌, ◌^◌, ◌<◌, ◌≤�
 use Rattle.std.specs.List.{sum_by}
 use Rattle.atomic_table.specs.Seated.{TableId}
 use Rattle.xc_data.specs.declared.entry.Event.{Event}
-use Rattle.xc_turnstile.specs.Known.{Known}
+use Rattle.xc_station.specs.Passes.{StationPass}
 use Rattle.xc_turnstile.specs.Views.{BeginsWith}
 use Rattle.xc_poll.specs.Tasks.{Task}
 
 -- its turnstile, the pass that asks, the tasks, a number that no job of them is above, and how many turns a poll of each takes
 pub record Crew : Type 0 where
   pub home : TableId
-  pub asking : Known
+  pub asking : StationPass
   pub tasks : List Task
   pub top : ℕ
   pub share : ℕ
@@ -45,7 +45,7 @@ abbrev pub BeginsWithEvents : List Event → List Event → Type 0
 BeginsWithEvents whole front = (more : List Event) × (whole ≡ front ++ more)
 
 -- one pass of those of a crew: it has their shares, and goes on from the one that asks
-pub record IsGathered (crew : Crew) (back : Known) : Type 0 where
+pub record IsGathered (crew : Crew) (back : StationPass) : Type 0 where
   pub table : back.table ≡ crew.asking.table
   pub shares : back.view.shares ≡ all_shares crew
   pub origin : back.view.origin ≡ crew.asking.view.origin

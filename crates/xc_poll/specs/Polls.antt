@@ -12,7 +12,7 @@ use Rattle.xc_data.specs.declared.entry.JobEnd.{JobEnd}
 use Rattle.xc_data.specs.declared.entry.Turn.{Turn}
 use Rattle.xc_data.specs.declared.entry.Turn.TheVariants as turn
 use Rattle.xc_turnstile.specs.Insides.{PassGoesOn}
-use Rattle.xc_turnstile.specs.Known.{Known}
+use Rattle.xc_station.specs.Passes.{StationPass}
 use Rattle.xc_runner.specs.Tries.{GainsOnce}
 use Rattle.xc_poll.specs.Tasks.{Task}
 use Rattle.xc_poll.specs.declared.round.RoundStop.{RoundStop}
@@ -88,11 +88,11 @@ stop_of (Some turn.NoMemory) = Some (stop.Waits waits.Memory)
 stop_of (Some (turn.Ended end)) = Some (stop.Ended (Some end))
 
 -- with one turn
-abbrev pub GainsTurn : Known → Known → ℕ → Option Turn → Type 0
+abbrev pub GainsTurn : StationPass → StationPass → ℕ → Option Turn → Type 0
 GainsTurn old new job answer = GainsOnce old new (Turned job answer)
 
 -- so many turns were taken, and each went
-pub record TookTurns (old new : Known) (job count : ℕ) : Type 0 where
+pub record TookTurns (old new : StationPass) (job count : ℕ) : Type 0 where
   pub answers : List (Option Turn)
   pub went : AllWent answers
   pub long : length answers ≡ count
@@ -112,7 +112,7 @@ HasStopped share answers old new (stop.Ended end) = (last_of answers ≡ Some (e
 HasStopped share answers old new (stop.Waits why) = HasReason share answers old new why
 
 -- the turns of a poll
-pub record IsRound (old new : Known) (job share : ℕ) (at : RoundStop) : Type 0 where
+pub record IsRound (old new : StationPass) (job share : ℕ) (at : RoundStop) : Type 0 where
   pub answers : List (Option Turn)
   pub events : new.view.events ≡ old.view.events ++ events_of_turns job answers
   pub few : length answers ≤ share

@@ -3,7 +3,7 @@ ghost use Rattle.futures.specs.Task.{Covers, Keeps};
 ghost use Rattle.futures.specs.Poll.{IfReady, OnPending};
 ghost use Rattle.xc_poll.specs.Alls.{GivesAll, IsAllPolled};
 ghost use Rattle.xc_poll.specs.Crews.{Crew as Seen};
-ghost use Rattle.xc_turnstile.specs.Known.{Known};
+ghost use Rattle.xc_station.specs.Passes.{StationPass};
 
 use crate::crew::Crew;
 use futures::Future;
@@ -64,7 +64,7 @@ impl<H: Host> Future for All<'_, H> {
         requires { IsSome self.old }
         ensures value { IfReady result (λ back. IsSomeAnd self.old (λ crew. GivesAll crew back)) }
         ensures again { OnPending result (IsSome self.new) }
-        ensures same { OnPending result ((back : Known) → IsSomeAnd self.new (λ crew. GivesAll crew back)
+        ensures same { OnPending result ((back : StationPass) → IsSomeAnd self.new (λ crew. GivesAll crew back)
             → IsSomeAnd self.old (λ crew. GivesAll crew back)) }
         ensures registered { OnPending result (Covers cx.new (λ _. ⊤)) }
         ensures kept { Keeps cx.old cx.new }

@@ -6,7 +6,7 @@ use Rattle.xc_data.specs.declared.entry.Event.{Event}
 use Rattle.xc_data.specs.declared.entry.Event.TheVariants.{Turned, Picked, Looked}
 use Rattle.xc_data.specs.declared.entry.Turn.{Turn}
 use Rattle.xc_turnstile.specs.Insides.{GainsEvent}
-use Rattle.xc_turnstile.specs.Known.{Known}
+use Rattle.xc_station.specs.Passes.{StationPass}
 use Rattle.xc_runner.specs.Walks.{Stage, Leads, FindsNoneLeft, is_last, picked, picking, turning, over, astray, walk, walk_all}
 
 walk_more : (s : Stage) (es fs : List Event) → walk_all s (es ++ fs) ≡ walk_all (walk_all s es) fs
@@ -14,7 +14,7 @@ walk_more s [] fs = refl
 walk_more s (e ∷ es) fs = walk_more (walk s e) es fs
 
 -- one way after another
-pub leads_further : (r s t : Stage) (old mid new : Known) → Leads r old mid s → Leads s mid new t → Leads r old new t
+pub leads_further : (r s t : Stage) (old mid new : StationPass) → Leads r old mid s → Leads s mid new t → Leads r old new t
 leads_further r s t old mid new p q =
     record {
       gained = p.gained ++ q.gained;
@@ -24,17 +24,17 @@ leads_further r s t old mid new p q =
     }
 
 -- one event
-leads_once : (s t : Stage) (event : Event) (old new : Known) → GainsEvent old new event → walk s event ≡ t → Leads s old new t
+leads_once : (s t : Stage) (event : Event) (old new : StationPass) → GainsEvent old new event → walk s event ≡ t → Leads s old new t
 leads_once s t event old new gained way = record { gained = event ∷ []; events = gained.gains.gained; won = gained.won; leads = way }
 
 -- a turn of the job that was taken: the worker goes on with the job, or takes the next one
-pub leads_turn : (job : ℕ) (answer : Option Turn) (last : Bool) (old new : Known) → GainsEvent old new (Turned job answer) → last ≡ is_last answer
+pub leads_turn : (job : ℕ) (answer : Option Turn) (last : Bool) (old new : StationPass) → GainsEvent old new (Turned job answer) → last ≡ is_last answer
     → Leads (turning job) old new (if last then picking else turning job)
 leads_turn job answer last old new gained which =
     leads_once (turning job) (if last then picking else turning job) (Turned job answer) old new gained (rw (eq-eqb job job refl, which) refl)
 
 -- a pick
-pub leads_pick : (job : Option ℕ) (to : Stage) (old new : Known) → GainsEvent old new (Picked job) → picked job ≡ to → Leads picking old new to
+pub leads_pick : (job : Option ℕ) (to : Stage) (old new : StationPass) → GainsEvent old new (Picked job) → picked job ≡ to → Leads picking old new to
 leads_pick job to old new gained which = leads_once picking to (Picked job) old new gained which
 
 -- no event of a worker that takes turns ends it
@@ -63,7 +63,7 @@ ends_found s (event ∷ es) e =
     (ends_found (walk s event) es e)
 
 -- a worker that came to its end found no job left
-pub finds_none : (old new : Known) → Leads picking old new over → FindsNoneLeft old new
+pub finds_none : (old new : StationPass) → Leads picking old new over → FindsNoneLeft old new
 finds_none old new leads =
     record {
       gained = leads.gained;
@@ -72,7 +72,7 @@ finds_none old new leads =
     }
 
 -- where one side found none, both together did
-pub finds_none_together : (old kept a b met : Known) → kept.view.events ≡ old.view.events → FindsNoneLeft kept a
+pub finds_none_together : (old kept a b met : StationPass) → kept.view.events ≡ old.view.events → FindsNoneLeft kept a
     → met.view.events ≡ a.view.events ++ b.view.events → FindsNoneLeft old met
 finds_none_together old kept a b met same left both =
     record {

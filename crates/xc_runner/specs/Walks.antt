@@ -5,7 +5,7 @@ use Rattle.xc_data.specs.declared.entry.Event.{Event}
 use Rattle.xc_data.specs.declared.entry.Event.TheVariants.{Turned, Picked, Looked}
 use Rattle.xc_data.specs.declared.entry.Turn.{Turn}
 use Rattle.xc_data.specs.declared.entry.Turn.TheVariants as turn
-use Rattle.xc_turnstile.specs.Known.{Known}
+use Rattle.xc_station.specs.Passes.{StationPass}
 
 -- where a worker stands: it picks a job next, or takes turns of this job, or is done; none of them comes to be astray
 pub data Stage : Type 0 where
@@ -52,14 +52,14 @@ walk_all s [] = s
 walk_all s (e ∷ es) = walk_all (walk s e) es
 
 -- the pass gained events, one at each entering, and they lead a worker from one stage to the other
-pub record Leads (from : Stage) (old new : Known) (to : Stage) : Type 0 where
+pub record Leads (from : Stage) (old new : StationPass) (to : Stage) : Type 0 where
   pub gained : List Event
   pub events : new.view.events ≡ old.view.events ++ gained
   pub won : new.view.won ≡ old.view.won + length gained
   pub leads : walk_all from gained ≡ to
 
 -- the pass gained events, and somebody found no job left: a pick with none is among them
-pub record FindsNoneLeft (old new : Known) : Type 0 where
+pub record FindsNoneLeft (old new : StationPass) : Type 0 where
   pub gained : List Event
   pub events : new.view.events ≡ old.view.events ++ gained
   pub found : Contains gained (Picked None)

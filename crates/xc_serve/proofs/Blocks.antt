@@ -24,7 +24,7 @@ use Rattle.xc_script.specs.Blocks.{kept_calls}
 use Rattle.xc_text.specs.declared.script.Script.{Script}
 use Rattle.xc_turns.proofs.Laws.{get_front}
 use Rattle.xc_model.specs.declared.origin.Origin.{Origin}
-use Rattle.xc_turnstile.specs.declared.view.View.{View}
+use Rattle.xc_station.specs.Passes.{PassView}
 use Rattle.xc_turnstile.specs.Views.{BeginsWith}
 use Rattle.xc_station.specs.Events.{IsTurnTried}
 use Rattle.xc_station.specs.declared.job.Job.{Job}
@@ -119,14 +119,14 @@ own_by None xs ys h job b last own = own
 own_by (Some from) xs ys h job b last own = own_stays from.script xs ys h job b last own
 
 -- of a pass that goes on
-pub own_longer : (v w : View) → w.origin ≡ v.origin → BeginsWith w.seen v.seen → (job : ℕ) (b : List ℕ) (last : Option Turn) → IsOwnIn v job b last
+pub own_longer : (v w : PassView) → w.origin ≡ v.origin → BeginsWith w.seen v.seen → (job : ℕ) (b : List ℕ) (last : Option Turn) → IsOwnIn v job b last
     → IsOwnIn w job b last
 own_longer v w same h job b last own =
     subst (λ (o : Option Origin). IsSomeAnd o (λ (from : Origin). IsOwnBlock from.script w.seen job b last)) (sym same)
     (own_by v.origin v.seen w.seen h job b last own)
 
 -- a pass that knows a station's journal and origin knows the job's own
-pub own_known : (v : View) (from : Origin) (journal : List Entry) → v.origin ≡ Some from → v.seen ≡ journal → (job : ℕ) (b : List ℕ) (last : Option Turn)
+pub own_known : (v : PassView) (from : Origin) (journal : List Entry) → v.origin ≡ Some from → v.seen ≡ journal → (job : ℕ) (b : List ℕ) (last : Option Turn)
     → IsOwnBlock from.script journal job b last → IsOwnIn v job b last
 own_known v from journal origin seen job b last own =
     subst (λ (o : Option Origin). IsSomeAnd o (λ (f : Origin). IsOwnBlock f.script v.seen job b last)) (sym origin)

@@ -5,10 +5,9 @@ use Rattle.std.proofs.Math.ListN.{drop_of_length-le}
 use Rattle.std.proofs.lemmas.List.{append-nil}
 use Rattle.xc_data.specs.declared.entry.Entry.{Entry}
 use Rattle.xc_data.specs.declared.entry.Event.{Event}
-use Rattle.xc_turnstile.specs.declared.view.View.{View}
+use Rattle.xc_station.specs.Passes.{PassView, StationMeaning, StationPass}
 use Rattle.xc_turnstile.specs.Insides.{Gains, GainsEvent, IsInside, IsNext}
-use Rattle.xc_turnstile.specs.Known.{Known}
-use Rattle.xc_turnstile.specs.Meanings.{Meaning, boxed}
+use Rattle.xc_turnstile.specs.Meanings.{boxed}
 use Rattle.xc_turnstile.specs.Views.{AreAtPlaces, added, entered_view, left_view, numbered}
 use Rattle.xc_turnstile.proofs.Laws.{gains_at, pass_goes_further, numbered_stands, stands_append, stands_longer, starts_self}
 use Rattle.xc_print.specs.Entries.{journal_text}
@@ -17,11 +16,11 @@ use Rattle.xc_serve.specs.Answers.{entry_texts}
 -- ---- one entering
 
 -- a value that was handed out in its box
-pub unboxed : {X Z : Type 0} (m : Meaning X) (pass hold : Known) (b : Box X Z) → IsInside (boxed m) pass hold b → IsInside m pass hold b.value
+pub unboxed : {X Z : Type 0} (m : StationMeaning X) (pass hold : StationPass) (b : Box X Z) → IsInside (boxed m) pass hold b → IsInside m pass hold b.value
 unboxed m pass hold b h = record { table = h.table; begins = h.begins; origin = h.origin; lost = h.lost; more = h.more; view = h.view }
 
-module _ {X : Type 0} (m : Meaning X) (pass hold : Known) (x y : X) (event : Event) (inside : IsInside m pass hold x) (next : IsNext m x y event)
-    (left : Known) (table : left.table ≡ hold.table) (view : left.view ≡ left_view (m.journal y) (m.count y) (m.last y) hold.view) where
+module _ {X : Type 0} (m : StationMeaning X) (pass hold : StationPass) (x y : X) (event : Event) (inside : IsInside m pass hold x) (next : IsNext m x y event)
+    (left : StationPass) (table : left.table ≡ hold.table) (view : left.view ≡ left_view (m.journal y) (m.count y) (m.last y) hold.view) where
   -- the event alone, where no entry was added
   pub gains_quietly : m.journal y ≡ m.journal x → Gains pass left (event ∷ []) []
   gains_quietly same =
@@ -31,13 +30,13 @@ module _ {X : Type 0} (m : Meaning X) (pass hold : Known) (x y : X) (event : Eve
       (gains_at m pass hold x y event inside next left table view)
 
 -- the same, by what it has of its own
-pub gains_no_entry : (old new : Known) (event : Event) → GainsEvent old new event → new.view.mine ≡ old.view.mine → Gains old new (event ∷ []) []
+pub gains_no_entry : (old new : StationPass) (event : Event) → GainsEvent old new event → new.view.mine ≡ old.view.mine → Gains old new (event ∷ []) []
 gains_no_entry old new event g mine =
     record { goes = g.gains.goes; gained = g.gains.gained; mine = mine ∙ sym (append-nil old.view.mine); stand = tt }
 
 -- ---- several
 -- nothing is gained
-pub gains_nothing : (a : Known) → Gains a a [] []
+pub gains_nothing : (a : StationPass) → Gains a a [] []
 gains_nothing a =
     record {
       goes = record {
@@ -54,7 +53,7 @@ gains_nothing a =
     }
 
 -- what is gained one after the other
-pub gains_further : (a b c : Known) (es fs : List Event) (ps qs : List (ℕ × Entry)) → Gains a b es ps → Gains b c fs qs → Gains a c (es ++ fs) (ps ++ qs)
+pub gains_further : (a b c : StationPass) (es fs : List Event) (ps qs : List (ℕ × Entry)) → Gains a b es ps → Gains b c fs qs → Gains a c (es ++ fs) (ps ++ qs)
 gains_further a b c es fs ps qs p q =
     record {
       goes = pass_goes_further a b c p.goes q.goes;

@@ -16,8 +16,7 @@ use Rattle.xc_data.specs.declared.entry.Event.{Event}
 use Rattle.xc_links.specs.Lines.{IsCut, IsWithin}
 use Rattle.xc_edge.specs.View.{HasFailed}
 use Rattle.xc_links.specs.Wires.{Wire, giving}
-use Rattle.xc_turnstile.specs.Known.{Known}
-use Rattle.xc_turnstile.specs.declared.view.View.{View}
+use Rattle.xc_station.specs.Passes.{PassView, StationPass}
 use Rattle.xc_turnstile.specs.Views.{BeginsWith}
 use Rattle.xc_data.specs.Counts.{counted}
 use Rattle.xc_serve.specs.declared.answer.ServeAnswer.{ServeAnswer}
@@ -61,12 +60,12 @@ longer_within : (seen longer : List Entry) (n : ℕ) → BeginsWith longer seen 
 longer_within seen longer n h le = omega (arith, ap length h.1, length-append seen h.0)
 
 -- the view of a pass that goes on
-record Longer (v w : View) : Type 0 where
+record Longer (v w : PassView) : Type 0 where
   origin : w.origin ≡ v.origin
   seen : BeginsWith w.seen v.seen
 
 -- an answer stays right
-answer_longer : (v w : View) (o : Order) (es : List Event) (ps : List (ℕ × Entry)) (answer : List ℕ) → Longer v w
+answer_longer : (v w : PassView) (o : Order) (es : List Event) (ps : List (ℕ × Entry)) (answer : List ℕ) → Longer v w
     → IsServeAnswer v o es ps answer → IsServeAnswer w o es ps answer
 answer_longer v w order.Work es ps answer h (inl k) = inl k
 answer_longer v w order.Work es ps answer h (inr k) =
@@ -96,7 +95,7 @@ answer_longer v w order.Bad es ps answer h k = k
 answer_longer v w order.TooLong es ps answer h k = k
 
 -- each of them
-each_longer : (v w : View) (xs : List Exchange) → Longer v w → All (IsExchange v) xs → All (IsExchange w) xs
+each_longer : (v w : PassView) (xs : List Exchange) → Longer v w → All (IsExchange v) xs → All (IsExchange w) xs
 each_longer v w [] h each = All-nil (IsExchange w)
 each_longer v w (x ∷ xs) h each =
     let first : IsExchange v x = All-head (IsExchange v) x xs each in
@@ -109,7 +108,7 @@ one_more : {A : Type 0} (f : Exchange → List A) (xs : List Exchange) (x : Exch
 one_more f xs x = flat_map-append f xs (x ∷ []) ∙ ap (λ ys. flat_map f xs ++ ys) (append-nil (f x))
 
 -- no line yet
-pub serving_nothing : (a : Known) (w : Wire) → IsServing a a w w
+pub serving_nothing : (a : StationPass) (w : Wire) → IsServing a a w w
 serving_nothing a w =
     record {
       lines = [];
@@ -139,7 +138,7 @@ front_took : (a b c : Option (List ℕ)) (xs ys : List ℕ) (n : ℕ) → Append
 front_took a b c xs ys n p q = subst (Appends a c) (sym (take-append-add xs ys n)) (Appends-trans a b c xs (take n ys) p q)
 
 -- ---- a line that was read, and followed
-module _ (a b c : Known) (w0 w1 w2 : Wire) (h : IsServing a b w0 w1) (o : Order) (asked : IsAsked w1 w2 (Some o)) (kept : Keeps w1.taken w2.taken)
+module _ (a b c : StationPass) (w0 w1 w2 : Wire) (h : IsServing a b w0 w1) (o : Order) (asked : IsAsked w1 w2 (Some o)) (kept : Keeps w1.taken w2.taken)
     (later : w1.faults ≤ w2.faults) (told : Option ServeAnswer) (k : IsOrderFollowed b c o told) where
   -- with what came of it
   abbrev line : Exchange
@@ -267,7 +266,7 @@ module _ (a b c : Known) (w0 w1 w2 : Wire) (h : IsServing a b w0 w1) (o : Order)
       ends_long is = ends_by end.TooLong line_answered.took is
 
 -- ---- no line came
-module _ (a b : Known) (w0 w1 w2 : Wire) (h : IsServing a b w0 w1) (kept : Keeps w1.taken w2.taken) (later : w1.faults ≤ w2.faults) where
+module _ (a b : StationPass) (w0 w1 w2 : Wire) (h : IsServing a b w0 w1) (kept : Keeps w1.taken w2.taken) (later : w1.faults ≤ w2.faults) where
   -- the session ends behind the lines so far
   no_line : (e : SessionEnd) (rest : List ℕ) → length rest < 65 → IsWithin rest → Consumes w1.left w2.left rest
       → TakesAnswers e w0 w2 (answers_of h.lines) → EndsIn None e w0 w2 → IsSession a b w0 w2 e
@@ -305,11 +304,11 @@ module _ (a b : Known) (w0 w1 w2 : Wire) (h : IsServing a b w0 w1) (kept : Keeps
 
 -- ---- a line that was served
 -- where the session stands behind it
-abbrev pub SessionStands : Known → Known → Wire → Wire → Next → Type 0
+abbrev pub SessionStands : StationPass → StationPass → Wire → Wire → Next → Type 0
 SessionStands old new before after next.Line = IsServing old new before after
 SessionStands old new before after (next.End e) = IsSession old new before after e
 
-module _ (a b c : Known) (w0 w1 w2 w3 : Wire) (h : IsServing a b w0 w1) (o : Order) (asked : IsAsked w1 w2 (Some o)) (kept : Keeps w1.taken w2.taken)
+module _ (a b c : StationPass) (w0 w1 w2 w3 : Wire) (h : IsServing a b w0 w1) (o : Order) (asked : IsAsked w1 w2 (Some o)) (kept : Keeps w1.taken w2.taken)
     (later : w1.faults ≤ w2.faults) where
   -- where there was an answer
   by_next : (ans : ServeAnswer) (k : IsOrderFollowed b c o (Some ans)) (to : Next) → IsSaid w2 w3 o k.answer to → SessionStands a c w0 w3 to

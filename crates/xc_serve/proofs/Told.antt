@@ -12,7 +12,7 @@ use Rattle.xc_data.specs.declared.entry.Entry.{Entry}
 use Rattle.xc_data.specs.declared.entry.Event.{Event}
 use Rattle.xc_data.specs.declared.entry.Event.TheVariants.{Turned, Looked}
 use Rattle.xc_data.specs.declared.entry.Turn.{Turn}
-use Rattle.xc_turnstile.specs.Known.{Known}
+use Rattle.xc_station.specs.Passes.{StationPass}
 use Rattle.xc_runner.specs.Walks.{is_last}
 use Rattle.xc_turnstile.specs.Views.{added}
 use Rattle.xc_print.specs.Entries.{entry_text, journal_text}
@@ -102,7 +102,7 @@ turns_more : (job : ℕ) (before : List (Option Turn)) (last : Option Turn)
 turns_more job before last = map-append (λ (answer : Option Turn). Turned job answer) before (last ∷ [])
 
 -- no turn yet
-pub gone_nowhere : (a : Known) (job : ℕ) → HasGone a a job (Some [])
+pub gone_nowhere : (a : StationPass) (job : ℕ) → HasGone a a job (Some [])
 gone_nowhere a job =
     record {
       before = [];
@@ -112,7 +112,7 @@ gone_nowhere a job =
       text = refl;
     }
 
-module _ (a b c : Known) (job : ℕ) (answer : Option Turn) (told after : Option (List ℕ)) (h : HasGone a b job told)
+module _ (a b c : StationPass) (job : ℕ) (answer : Option Turn) (told after : Option (List ℕ)) (h : HasGone a b job told)
     (k : IsToldTurn b c job answer (record { old = told; new = after })) where
   -- what the turns so far and this one gained
   both_gain : Gains a c (turn_events job (h.before ++ answer ∷ [])) (h.entries ++ k.entries)

@@ -15,7 +15,7 @@ use Rattle.xc_runner.specs.Walks.{is_last}
 use Rattle.xc_station.specs.Names.{block_name_at, told_blocks}
 use Rattle.xc_text.specs.declared.script.Script.{Script}
 use Rattle.xc_model.specs.declared.origin.Origin.{Origin}
-use Rattle.xc_turnstile.specs.declared.view.View.{View}
+use Rattle.xc_station.specs.Passes.{PassView}
 use Rattle.xc_serve.specs.declared.answer.ServeAnswer.{ServeAnswer}
 use Rattle.xc_serve.specs.declared.answer.ServeAnswer.TheVariants as answer
 use Rattle.xc_serve.specs.declared.order.Order.{Order}
@@ -75,11 +75,11 @@ IsOwnBlock script journal job block (Some (turn.Ended end)) = block_name_at (tol
 IsOwnBlock script journal job block _ = Unit {0}
 
 -- the same, as a pass knows the journal
-abbrev pub IsOwnIn : View → ℕ → List ℕ → Option Turn → Type 0
+abbrev pub IsOwnIn : PassView → ℕ → List ℕ → Option Turn → Type 0
 IsOwnIn v job block last = IsSomeAnd v.origin (λ (from : Origin). IsOwnBlock from.script v.seen job block last)
 
 -- a job was picked and its turns were taken, up to the first answer after which it takes none: the entries, and how it ended
-pub record IsWorked (v : View) (events : List Event) (entries : List (ℕ × Entry)) (answer : List ℕ) : Type 0 where
+pub record IsWorked (v : PassView) (events : List Event) (entries : List (ℕ × Entry)) (answer : List ℕ) : Type 0 where
   pub job : ℕ
   pub before : List (Option Turn)
   pub last : Option Turn
@@ -122,7 +122,7 @@ pub record IsPlainAnswer (say : List ℕ) (events : List Event) (entries : List 
 
 -- ---- any line
 -- what it is answered, from the events and the entries that the pass gained for it, and what the pass knows by then
-abbrev pub IsServeAnswer : View → Order → List Event → List (ℕ × Entry) → List ℕ → Type 0
+abbrev pub IsServeAnswer : PassView → Order → List Event → List (ℕ × Entry) → List ℕ → Type 0
 IsServeAnswer v order.Work events entries answer = IsIdle events entries answer ⊎ IsWorked v events entries answer
 IsServeAnswer v order.Seen events entries answer = IsLook v.seen seen_line events entries answer
 IsServeAnswer v (order.Entry place) events entries answer = IsLook v.seen (λ count. looked_up v.seen count place) events entries answer

@@ -8,7 +8,7 @@ use Rattle.xc_data.specs.declared.entry.Event.TheVariants.{Turned}
 use Rattle.xc_data.specs.declared.entry.Turn.{Turn}
 use Rattle.xc_text.specs.declared.script.Script.{Script}
 use Rattle.xc_turnstile.specs.Insides.{Gains}
-use Rattle.xc_turnstile.specs.Known.{Known}
+use Rattle.xc_station.specs.Passes.{StationPass}
 use Rattle.xc_turnstile.specs.Views.{added}
 use Rattle.xc_runner.specs.Walks.{is_last}
 use Rattle.xc_data.specs.declared.memory.NoMemory.{NoMemory}
@@ -43,7 +43,7 @@ pub record TellsTurn (script : Script) (journal : Step (List Entry)) (job : ℕ)
       (entry_texts (added (length journal.old) journal.new) ++ closing_if (is_last answer) job block answer)
 
 -- one turn of a job, with the text of the entries that it made and of how the job ended
-pub record IsToldTurn (old new : Known) (job : ℕ) (answer : Option Turn) (text : Texts) : Type 0 where
+pub record IsToldTurn (old new : StationPass) (job : ℕ) (answer : Option Turn) (text : Texts) : Type 0 where
   pub entries : List (ℕ × Entry)
   pub block : List ℕ
   pub gains : Gains old new (Turned job answer ∷ []) entries
@@ -51,7 +51,7 @@ pub record IsToldTurn (old new : Known) (job : ℕ) (answer : Option Turn) (text
   pub grows : Grows text.old text.new (entry_texts entries ++ closing_if (is_last answer) job block answer)
 
 -- all turns of a job, with their text
-pub record IsToldJob (old new : Known) (job : ℕ) (told : Option (List ℕ)) : Type 0 where
+pub record IsToldJob (old new : StationPass) (job : ℕ) (told : Option (List ℕ)) : Type 0 where
   pub before : List (Option Turn)
   pub last : Option Turn
   pub block : List ℕ
@@ -63,7 +63,7 @@ pub record IsToldJob (old new : Known) (job : ℕ) (told : Option (List ℕ)) : 
   pub text : IsText told (entry_texts entries ++ job_closing job block last)
 
 -- turns of a job that goes on, with the text of their entries
-pub record HasGone (old new : Known) (job : ℕ) (told : Option (List ℕ)) : Type 0 where
+pub record HasGone (old new : StationPass) (job : ℕ) (told : Option (List ℕ)) : Type 0 where
   pub before : List (Option Turn)
   pub entries : List (ℕ × Entry)
   pub gains : Gains old new (turn_events job before) entries
@@ -80,7 +80,7 @@ IsMade (Ok text) told = told ≡ Some (answer.Told text)
 IsMade (Err e) told = told ≡ None
 
 -- an order was followed
-pub record IsOrderFollowed (old new : Known) (asked : Order) (told : Option ServeAnswer) : Type 0 where
+pub record IsOrderFollowed (old new : StationPass) (asked : Order) (told : Option ServeAnswer) : Type 0 where
   pub events : List Event
   pub entries : List (ℕ × Entry)
   pub answer : List ℕ

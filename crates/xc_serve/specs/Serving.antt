@@ -5,7 +5,7 @@ use Rattle.std.specs.Io.KnownBytes.{Appends, Keeps}
 use Rattle.xc_data.specs.Step.{Step}
 use Rattle.xc_edge.specs.View.{HasFailed}
 use Rattle.xc_links.specs.Wires.{Wire, giving}
-use Rattle.xc_turnstile.specs.Known.{Known}
+use Rattle.xc_station.specs.Passes.{StationPass}
 use Rattle.xc_serve.specs.declared.answer.ServeAnswer.{ServeAnswer}
 use Rattle.xc_serve.specs.declared.order.Order.{Order}
 use Rattle.xc_serve.specs.declared.order.Order.TheVariants as order
@@ -37,7 +37,7 @@ IsSaidIf before after asked None to = (to ≡ next.End end.NoMemory) × (after �
 IsSaidIf before after asked (Some answer) to = IsSaid before after asked (answer_bytes answer) to
 
 -- an order was followed and answered
-pub record IsServed (old new : Known) (link : Step Wire) (asked : Order) (to : Next) : Type 0 where
+pub record IsServed (old new : StationPass) (link : Step Wire) (asked : Order) (to : Next) : Type 0 where
   pub told : Option ServeAnswer
   pub followed : IsOrderFollowed old new asked told
   pub said : IsSaidIf link.old link.new asked told to

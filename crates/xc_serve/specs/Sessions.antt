@@ -8,8 +8,7 @@ use Rattle.xc_data.specs.declared.entry.Event.{Event}
 use Rattle.xc_links.specs.Lines.{IsWithin}
 use Rattle.xc_edge.specs.View.{HasFailed}
 use Rattle.xc_links.specs.Wires.{Wire, giving}
-use Rattle.xc_turnstile.specs.Known.{Known}
-use Rattle.xc_turnstile.specs.declared.view.View.{View}
+use Rattle.xc_station.specs.Passes.{PassView, StationPass}
 use Rattle.xc_serve.specs.declared.order.Order.{Order}
 use Rattle.xc_serve.specs.declared.order.Order.TheVariants as order
 use Rattle.xc_serve.specs.declared.serve.SessionEnd.{SessionEnd}
@@ -45,7 +44,7 @@ abbrev pub Asks : List ℕ → Order → Type 0
 Asks read asked = IsWholeLine read asked ⊎ IsLongLine read asked
 
 -- the line asks for this, and this is its answer, by what the pass knows
-abbrev pub IsExchange : View → Exchange → Type 0
+abbrev pub IsExchange : PassView → Exchange → Type 0
 IsExchange v x = Asks x.read x.order × IsServeAnswer v x.order x.events x.entries x.answer
 
 -- a list of this one, where there is one
@@ -74,7 +73,7 @@ abbrev pub SessionGoesOn : Order → Type 0
 SessionGoesOn asked = (asked ≢ order.Quit) × (asked ≢ order.TooLong)
 
 -- these lines were read, the pass gained what they gained, and these of them were answered
-pub record HasServed (old new : Known) (link : Step Wire) (lines answered : List Exchange) : Type 0 where
+pub record HasServed (old new : StationPass) (link : Step Wire) (lines answered : List Exchange) : Type 0 where
   pub each : All (IsExchange new.view) lines
   pub gains : Gains old new (events_of lines) (entries_of lines)
   pub consumed : Consumes link.old.left link.new.left (reads lines)
@@ -82,7 +81,7 @@ pub record HasServed (old new : Known) (link : Step Wire) (lines answered : List
   pub later : link.old.faults ≤ link.new.faults
 
 -- lines that go on were read and answered
-pub record IsServing (old new : Known) (before after : Wire) : Type 0 where
+pub record IsServing (old new : StationPass) (before after : Wire) : Type 0 where
   pub lines : List Exchange
   pub served : HasServed old new (record { old = before; new = after }) lines lines
   pub going : All (λ (x : Exchange). SessionGoesOn x.order) lines
@@ -110,7 +109,7 @@ EndsIn (Some x) end.LinkFault before after = HasFailed (giving before) (giving a
 EndsIn (Some x) end.NoMemory before after = SessionGoesOn x.order
 
 -- a whole session
-pub record IsSession (old new : Known) (before after : Wire) (end : SessionEnd) : Type 0 where
+pub record IsSession (old new : StationPass) (before after : Wire) (end : SessionEnd) : Type 0 where
   -- the lines that were read, in order, each with what came of it, and what was read behind them
   pub lines : List Exchange
   pub rest : List ℕ

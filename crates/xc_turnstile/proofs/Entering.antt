@@ -8,9 +8,7 @@ use mathlib.Core.Option.{Option as Maybe, some, none, some-injective, some-ne-no
 use lib.ListN.{get_elem?}
 use Rattle.atomic_table.specs.Table.{Me, takes, gives, keeps, rest, opening, Allows}
 use Rattle.atomic_table.proofs.Lists.{at_set, set_here, set_else}
-use Rattle.xc_data.specs.declared.entry.Entry.{Entry}
 use Rattle.xc_turnstile.specs.declared.view.View.{View}
-use Rattle.xc_model.specs.declared.origin.Origin.{Origin}
 use Rattle.xc_turnstile.specs.Meanings.{Meaning}
 use Rattle.xc_turnstile.specs.Views.{BeginsWith, AreAtPlaces, PlacesRise, HasPlace, added, entered_view, lost_view, left_view, first_view}
 use Rattle.xc_turnstile.specs.Rules.{IsTrueView, AreTrueViews, IsOpen, IsTaken, IsRuled, IsEntering, IsLeaving}
@@ -18,7 +16,7 @@ use Rattle.xc_turnstile.proofs.Fronts.{starts_self, starts_trans, stands_longer,
 use Rattle.xc_turnstile.proofs.Fronts.{numbered_rises, has_append, rises_append, or_even, or_odd, total_set}
 
 -- what a pass knows stays true where the journal grows
-pub true_longer : (log log' : List Entry) (from : Origin) (v : View) → BeginsWith log' log → IsTrueView log from v → IsTrueView log' from v
+pub true_longer : {E V O : Type 0} → (log log' : List E) (from : O) (v : View E V O) → BeginsWith log' log → IsTrueView log from v → IsTrueView log' from v
 true_longer log log' from v p f =
     record {
       seen = starts_trans log' log v.seen p f.seen;
@@ -29,18 +27,18 @@ true_longer log log' from v p f =
     }
 
 -- one pass moves: the journal may have grown, and what the pass has of its own is its old part or new
-pub one_moved : (log log' : List Entry) (from : Origin) (views : List View) (id : ℕ) (v w : View) → AreTrueViews log from views
+pub one_moved : {E V O : Type 0} → (log log' : List E) (from : O) (views : List (View E V O)) (id : ℕ) (v w : View E V O) → AreTrueViews log from views
     → get_elem? views id ≡ some v → BeginsWith log' log
     → w.shares ≡ v.shares → 0 < v.shares → IsTrueView log' from w → ((k : ℕ) → HasPlace k w.mine → HasPlace k v.mine ⊎ (length log ≤ k))
     → AreTrueViews log' from (set views id w)
-one_moved log log' from views id v w c at grows same pos fit own =
-    let below : (i k : ℕ) (u : View) → get_elem? views i ≡ some u → HasPlace k u.mine → k < length log = λ i k u e h. dite (ℕ_discrete u.shares 0)
-    (λ (z : u.shares ≡ 0). let none : HasPlace k [] = subst (HasPlace k) (c.spent i u e z).1 h in absurd none)
+one_moved {E = E} {V = V} {O = O} log log' from views id v w c at grows same pos fit own =
+    let below : (i k : ℕ) (u : View E V O) → get_elem? views i ≡ some u → HasPlace k u.mine → k < length log = λ i k u e h. dite (ℕ_discrete u.shares 0)
+    (λ (z : u.shares ≡ 0). let none : HasPlace {E = E} k [] = subst (HasPlace k) (c.spent i u e z).1 h in absurd none)
     (λ (nz : u.shares ≢ 0). stands_below u.mine log k (c.true_view i u e (omega arith)).mine h) in
     record {
       true_view = λ i u e p. ⊎_elim (λ (t : (i ≡ id) × (w ≡ u)). subst (IsTrueView log' from) t.1 fit)
           (λ (t : (i ≢ id) × (get_elem? views i ≡ some u)). true_longer log log' from u grows (c.true_view i u t.1 p)) (at_set views id i w u e);
-      spent = λ i u e z. ⊎_elim (λ (t : (i ≡ id) × (w ≡ u)). absurd (omega (arith, ap (λ (x : View). x.shares) t.1)))
+      spent = λ i u e z. ⊎_elim (λ (t : (i ≡ id) × (w ≡ u)). absurd (omega (arith, ap (λ (x : View E V O). x.shares) t.1)))
           (λ (t : (i ≢ id) × (get_elem? views i ≡ some u)). c.spent i u t.1 z) (at_set views id i w u e);
       apart = λ i j k u x ei ej hu hx.
           ⊎_elim
@@ -48,12 +46,12 @@ one_moved log log' from views id v w c at grows same pos fit own =
           (λ (b : (j ≡ id) × (w ≡ x)). a.0 ∙ sym b.0)
           (λ (b : (j ≢ id) × (get_elem? views j ≡ some x)).
           ⊎_elim (λ old. absurd (b.0 (sym (c.apart id j k v x at b.1 old hx)))) (λ new. absurd (let lt = below j k x b.1 hx in omega arith))
-          (own k (subst (λ (y : View). HasPlace k y.mine) (sym a.1) hu)))
+          (own k (subst (λ (y : View E V O). HasPlace k y.mine) (sym a.1) hu)))
           (at_set views id j w x ej))
           (λ (a : (i ≢ id) × (get_elem? views i ≡ some u)). ⊎_elim
           (λ (b : (j ≡ id) × (w ≡ x)).
           ⊎_elim (λ old. absurd (a.0 (c.apart i id k u v a.1 at hu old))) (λ new. absurd (let lt = below i k u a.1 hu in omega arith))
-          (own k (subst (λ (y : View). HasPlace k y.mine) (sym b.1) hx)))
+          (own k (subst (λ (y : View E V O). HasPlace k y.mine) (sym b.1) hx)))
           (λ (b : (j ≢ id) × (get_elem? views j ≡ some x)). c.apart i j k u x a.1 b.1 hu hx)
           (at_set views id j w x ej))
           (at_set views id i w u ei);
@@ -66,29 +64,29 @@ not_inside true h = absurd (h refl)
 not_inside false h = refl
 
 -- the only view of a list of one
-at_one : (v : View) (i : ℕ) (u : View) → get_elem? (v ∷ []) i ≡ some u → (i ≡ 0) × (v ≡ u)
+at_one : {E V O : Type 0} → (v : View E V O) (i : ℕ) (u : View E V O) → get_elem? (v ∷ []) i ≡ some u → (i ≡ 0) × (v ≡ u)
 at_one v zero u e = (refl, some-injective v u e)
 at_one v (suc i) u e = absurd (some-ne-none u (sym e))
 
 -- a view in a list stands below its length
-here_inside : (views : List View) (i : ℕ) (v : View) → get_elem? views i ≡ some v → i < length views
+here_inside : {E V O : Type 0} → (views : List (View E V O)) (i : ℕ) (v : View E V O) → get_elem? views i ≡ some v → i < length views
 here_inside [] i v e = absurd (some-ne-none v (sym e))
 here_inside (x ∷ xs) zero v e = omega arith
 here_inside (x ∷ xs) (suc i) v e = let r = here_inside xs i v e in omega arith
 
-module _ {X : Type 0} (m : Meaning X) where
+module _ {X E V O : Type 0} (m : Meaning X E V O) where
   -- the rule holds of a new turnstile
   pub new_ruled : (x : X) (word : ℕ) (slots : List (Option X)) → word ≡ 2 * length (m.journal x) → slots ≡ Some x ∷ []
       → IsRuled m (opening (word ∷ []) slots (first_view (m.origin x) (m.journal x)))
   new_ruled x word slots is one =
       let v = first_view (m.origin x) (m.journal x) in
-      let only : (i : ℕ) (u : View) → get_elem? (v ∷ []) i ≡ some u → (i ≡ 0) × (v ≡ u) = λ i u e. at_one v i u e in (
+      let only : (i : ℕ) (u : View E V O) → get_elem? (v ∷ []) i ≡ some u → (i ≡ 0) × (v ≡ u) = λ i u e. at_one v i u e in (
         m.journal x,
         m.origin x,
         record {
           true_view = λ i u e p. subst (IsTrueView (m.journal x) (m.origin x)) (only i u e).1
               (record { seen = starts_self (m.journal x); beside = (m.journal x, refl); mine = tt; rises = tt; origin = refl });
-          spent = λ i u e z. absurd (let q = ap (λ (y : View). y.shares) (only i u e).1 in omega arith);
+          spent = λ i u e z. absurd (let q = ap (λ (y : View E V O). y.shares) (only i u e).1 in omega arith);
           apart = λ i j k u w ei ej hu hw. (only i u ei).0 ∙ sym (only j w ej).0;
           whole = refl;
         },
@@ -98,12 +96,12 @@ module _ {X : Type 0} (m : Meaning X) where
           home = ap (map some) one;
           log_is = refl;
           from_is = refl;
-          outside = λ i u e. sym (ap (λ (y : View). y.inside) (only i u e).1);
+          outside = λ i u e. sym (ap (λ (y : View E V O). y.inside) (only i u e).1);
         }),
       )
 
   -- it stays true of a pass that knows the same
-  true_as : (log : List Entry) (from : Origin) (v w : View) → IsTrueView log from v → w.seen ≡ v.seen → w.beside ≡ v.beside → w.mine ≡ v.mine
+  true_as : (log : List E) (from : O) (v w : View E V O) → IsTrueView log from v → w.seen ≡ v.seen → w.beside ≡ v.beside → w.mine ≡ v.mine
       → w.origin ≡ v.origin → IsTrueView log from w
   true_as log from v w f a b c d =
       record {
@@ -115,14 +113,14 @@ module _ {X : Type 0} (m : Meaning X) where
       }
 
   -- a pass outside is none that is inside
-  outside_else : (views : List View) (id seat : ℕ) (v holder : View) → get_elem? views id ≡ some v → get_elem? views seat ≡ some holder → v.inside ≡ false
-      → holder.inside ≡ true → id ≢ seat
+  outside_else : (views : List (View E V O)) (id seat : ℕ) (v holder : View E V O) → get_elem? views id ≡ some v
+      → get_elem? views seat ≡ some holder → v.inside ≡ false → holder.inside ≡ true → id ≢ seat
   outside_else views id seat v holder a b out in' e =
       let same : v ≡ holder = some-injective v holder (sym a ∙ (ap (get_elem? views) e ∙ b)) in
-      let q : false ≡ true = sym out ∙ (ap (λ (y : View). y.inside) same ∙ in') in absurd cc
+      let q : false ≡ true = sym out ∙ (ap (λ (y : View E V O). y.inside) same ∙ in') in absurd cc
 
   -- a try to enter keeps the rule: the pass is then inside, or has lost
-  pub enter_allows : (slots id : ℕ) (v : View) → v.inside ≡ false → 0 < v.shares
+  pub enter_allows : (slots id : ℕ) (v : View E V O) → v.inside ≡ false → 0 < v.shares
       → Allows (IsRuled m) slots id (v, []) 0 (λ n. bit_or n 1) (λ n. IsEntering m (n % 2 == 0) (v, []))
   enter_allows slots id v out alive s law len at small =
       let log = law.0 in
@@ -158,7 +156,7 @@ module _ {X : Type 0} (m : Meaning X) where
           }),
         ),
         subst (λ (b : Bool). IsEntering m b (v, []) (w, (0, Some x) ∷ [])) (sym even)
-            (x, refl, subst (λ (l : List Entry). BeginsWith l v.seen) (sym f.log_is) fit.seen, fit.origin ∙ sym (ap Some f.from_is), refl),
+            (x, refl, subst (λ (l : List E). BeginsWith l v.seen) (sym f.log_is) fit.seen, fit.origin ∙ sym (ap Some f.from_is), refl),
       ))
       (λ (t : IsTaken m log s).
       let w = lost_view v in
@@ -182,7 +180,7 @@ module _ {X : Type 0} (m : Meaning X) where
             there = set_else s.views id t.seat w (λ e. other (sym e)) ∙ t.there;
             inside = t.inside;
             given = t.given;
-            alone = λ i u e on. ⊎_elim (λ (q : (i ≡ id) × (w ≡ u)). let z : false ≡ true = sym out ∙ (ap (λ (y : View). y.inside) q.1 ∙ on) in absurd cc)
+            alone = λ i u e on. ⊎_elim (λ (q : (i ≡ id) × (w ≡ u)). let z : false ≡ true = sym out ∙ (ap (λ (y : View E V O). y.inside) q.1 ∙ on) in absurd cc)
                 (λ (q : (i ≢ id) × (get_elem? s.views i ≡ some u)). t.alone i u q.1 on) (at_set s.views id i w u e);
           }),
         ),
@@ -191,7 +189,7 @@ module _ {X : Type 0} (m : Meaning X) where
       law.3
 
   -- the same, for a pass as the seat has it
-  pub may_enter : (slots id : ℕ) (me : Me (Option X) View) → me.1 ≡ [] → me.0.inside ≡ false → 0 < me.0.shares
+  pub may_enter : (slots id : ℕ) (me : Me (Option X) (View E V O)) → me.1 ≡ [] → me.0.inside ≡ false → 0 < me.0.shares
       → Allows (IsRuled m) slots id me 0 (λ n. bit_or n 1) (λ n. IsEntering m (n % 2 == 0) me)
   may_enter slots id me empty out alive =
       subst (λ (xs : List (ℕ × Option X)). Allows (IsRuled m) slots id (me.0, xs) 0 (λ n. bit_or n 1) (λ n. IsEntering m (n % 2 == 0) (me.0, xs)))
@@ -199,7 +197,7 @@ module _ {X : Type 0} (m : Meaning X) where
       (enter_allows slots id me.0 out alive)
 
   -- a pass that found an even word has the slot
-  pub has_slot : (found : ℕ) (me me' : Me (Option X) View) → IsEntering m (found % 2 == 0) me me' → found % 2 ≡ 0
+  pub has_slot : (found : ℕ) (me me' : Me (Option X) (View E V O)) → IsEntering m (found % 2 == 0) me me' → found % 2 ≡ 0
       → (x : Option X) × (me'.1 ≡ (0, x) ∷ rest me'.1)
   has_slot found me me' h even =
       let b : (found % 2 == 0) ≡ true = grind (arith, nat_tests) in
@@ -207,7 +205,7 @@ module _ {X : Type 0} (m : Meaning X) where
       (Some e.0, subst (λ (xs : List (ℕ × Option X)). xs ≡ (0, Some e.0) ∷ rest xs) (sym e.1) refl)
 
   -- a leaving keeps the rule: the journal that was handed out is a front of the value that comes back
-  leave_allows : (slots id : ℕ) (v : View) (x : X) (word : ℕ) → v.inside ≡ true → 0 < v.shares
+  leave_allows : (slots id : ℕ) (v : View E V O) (x : X) (word : ℕ) → v.inside ≡ true → 0 < v.shares
       → BeginsWith (m.journal x) v.given → v.origin ≡ Some (m.origin x) → word ≡ 2 * length (m.journal x)
       → Allows (IsRuled m) slots id (v, (0, Some x) ∷ []) 0 (λ n. word) (λ n. IsLeaving m (v, (0, Some x) ∷ []))
   leave_allows slots id v x word in' alive grows from_x is s law len at small =
@@ -221,7 +219,7 @@ module _ {X : Type 0} (m : Meaning X) where
       let w = left_view (m.journal x) (m.count x) (m.last x) v in
       let me : id ≡ t.seat = t.alone id v at in' in
       let same : v ≡ t.holder = some-injective v t.holder (sym at ∙ (ap (get_elem? s.views) me ∙ t.there)) in
-      let given : v.given ≡ log = ap (λ (y : View). y.given) same ∙ t.given in
+      let given : v.given ≡ log = ap (λ (y : View E V O). y.given) same ∙ t.given in
       let grows' : BeginsWith (m.journal x) log = subst (BeginsWith (m.journal x)) given grows in
       let n = length v.given in
       let first : length log ≡ n = ap length (sym given) in
@@ -249,7 +247,7 @@ module _ {X : Type 0} (m : Meaning X) where
             home = ap (λ (h : List (Maybe (Option X))). set h 0 (some (Some x))) t.home;
             log_is = refl;
             from_is = (let q : Some (m.origin x) ≡ Some from = sym from_x ∙ fit.origin in cc);
-            outside = λ i u e. ⊎_elim (λ (q : (i ≡ id) × (w ≡ u)). ap (λ (y : View). y.inside) (sym q.1))
+            outside = λ i u e. ⊎_elim (λ (q : (i ≡ id) × (w ≡ u)). ap (λ (y : View E V O). y.inside) (sym q.1))
                 (λ (q : (i ≢ id) × (get_elem? s.views i ≡ some u)). not_inside u.inside (λ on. q.0 (t.alone i u q.1 on ∙ sym me)))
                 (at_set s.views id i w u e);
           }),
@@ -259,7 +257,7 @@ module _ {X : Type 0} (m : Meaning X) where
       law.3
 
   -- the same, for a hold as the seat has it
-  pub may_leave : (slots id : ℕ) (me : Me (Option X) View) (x : X) (word : ℕ) → me.1 ≡ (0, Some x) ∷ [] → me.0.inside ≡ true → 0 < me.0.shares
+  pub may_leave : (slots id : ℕ) (me : Me (Option X) (View E V O)) (x : X) (word : ℕ) → me.1 ≡ (0, Some x) ∷ [] → me.0.inside ≡ true → 0 < me.0.shares
       → BeginsWith (m.journal x) me.0.given → me.0.origin ≡ Some (m.origin x) → word ≡ 2 * length (m.journal x)
       → Allows (IsRuled m) slots id me 0 (λ n. word) (λ n. IsLeaving m me)
   may_leave slots id me x word has in' alive grows from_x is =

@@ -2,8 +2,6 @@
 use Rattle.std.proofs.Common.{◌≡◌, ◌≢◌, ℕ, ◌+◌, ◌%◌, ◌^◌, ◌≤◌, ◌==◌, Bool, false, List, [], ◌∷◌, ◌++◌, Option, length, drop, refl, sym, ap, ◌∙◌, subst}
 use Rattle.std.proofs.Common.{arith, append_assoc, if◌then◌else◌}
 use Rattle.std.proofs.lemmas.Bool.{ne_eqb}
-use Rattle.xc_data.specs.declared.entry.Entry.{Entry}
-use Rattle.xc_data.specs.declared.entry.Event.{Event}
 use Rattle.xc_turnstile.specs.declared.view.View.{View}
 use Rattle.xc_turnstile.specs.Insides.{IsInside, IsOutside, IsNext, PassGoesOn, Gains, GainsEvent}
 use Rattle.xc_turnstile.specs.Known.{Known}
@@ -16,9 +14,10 @@ counts_on : (n : ℕ) → (n + 1) % 2 ^ 64 ≢ n
 counts_on n e = omega (arith, e)
 
 -- an event leads on from what was handed out
-module _ {X : Type 0} (m : Meaning X) (pass hold : Known) (x y : X) (event : Event) (inside : IsInside m pass hold x) (next : IsNext m x y event) where
+module _ {X E V O : Type 0} (m : Meaning X E V O) (pass hold : Known E V O) (x y : X) (event : V)
+    (inside : IsInside m pass hold x) (next : IsNext m x y event) where
   -- what the pass gains by a leaving with y
-  pub gains_at : (left : Known) → left.table ≡ hold.table → left.view ≡ left_view (m.journal y) (m.count y) (m.last y) hold.view
+  pub gains_at : (left : Known E V O) → left.table ≡ hold.table → left.view ≡ left_view (m.journal y) (m.count y) (m.last y) hold.view
       → Gains pass left (event ∷ []) (added (length (m.journal x)) (m.journal y))
   gains_at left table view =
       let was : left.view ≡ left_view (m.journal y) (m.count y) (m.last y)
@@ -29,23 +28,23 @@ module _ {X : Type 0} (m : Meaning X) (pass hold : Known) (x y : X) (event : Eve
       record {
         goes = record {
           table = table ∙ inside.table;
-          shares = ap (λ (v : View). v.shares) was;
-          origin = ap (λ (v : View). v.origin) was;
-          seen = subst (λ (es : List Entry). BeginsWith es pass.view.seen) (sym (ap (λ (v : View). v.seen) was))
+          shares = ap (λ (v : View E V O). v.shares) was;
+          origin = ap (λ (v : View E V O). v.origin) was;
+          seen = subst (λ (es : List E). BeginsWith es pass.view.seen) (sym (ap (λ (v : View E V O). v.seen) was))
               (starts_trans (m.journal y) (m.journal x) pass.view.seen next.front inside.begins);
           added = added n (m.journal y);
-          mine = ap (λ (v : View). v.mine) was;
+          mine = ap (λ (v : View E V O). v.mine) was;
         };
-        gained = ap (λ (v : View). v.events) was
+        gained = ap (λ (v : View E V O). v.events) was
             ∙ (ap (λ (b : Bool). if b then pass.view.events else pass.view.events ++ event_of (m.last y)) new
-            ∙ ap (λ (o : Option Event). pass.view.events ++ event_of o) next.last);
-        mine = ap (λ (v : View). v.mine) was;
-        stand = subst (λ (es : List Entry). AreAtPlaces es (added n (m.journal y))) (sym (ap (λ (v : View). v.seen) was))
+            ∙ ap (λ (o : Option V). pass.view.events ++ event_of o) next.last);
+        mine = ap (λ (v : View E V O). v.mine) was;
+        stand = subst (λ (es : List E). AreAtPlaces es (added n (m.journal y))) (sym (ap (λ (v : View E V O). v.seen) was))
             (numbered_stands (drop n (m.journal y)) (m.journal y) n refl);
       }
 
   -- the pass after it
-  pub gains : (left : Known) → left.table ≡ hold.table → left.view ≡ left_view (m.journal y) (m.count y) (m.last y) hold.view → GainsEvent pass left event
+  pub gains : (left : Known E V O) → left.table ≡ hold.table → left.view ≡ left_view (m.journal y) (m.count y) (m.last y) hold.view → GainsEvent pass left event
   gains left table view =
       let was : left.view ≡ left_view (m.journal y) (m.count y) (m.last y)
       (entered_view (m.journal x) (m.count x) (record pass.view { lost = inside.lost })) =
@@ -53,24 +52,24 @@ module _ {X : Type 0} (m : Meaning X) (pass hold : Known) (x y : X) (event : Eve
       record {
         entries = added (length (m.journal x)) (m.journal y);
         gains = gains_at left table view;
-        won = ap (λ (v : View). v.won) was;
-        lost = subst (λ n. pass.view.lost ≤ n) (sym (ap (λ (v : View). v.lost) was)) inside.more;
+        won = ap (λ (v : View E V O). v.won) was;
+        lost = subst (λ n. pass.view.lost ≤ n) (sym (ap (λ (v : View E V O). v.lost) was)) inside.more;
       }
 
 -- a pass that goes on waiting
-pub outside_further : (a b c : Known) → IsOutside a b → IsOutside b c → IsOutside a c
-outside_further a b c p q =
+pub outside_further : {E V O : Type 0} → (a b c : Known E V O) → IsOutside a b → IsOutside b c → IsOutside a c
+outside_further {E = E} {V = V} {O = O} a b c p q =
     record {
       table = q.table ∙ p.table;
       lost = q.lost;
-      more = omega (arith, p.more, q.more, ap (λ (v : View). v.lost) p.view);
-      view = q.view ∙ ap (λ (v : View). record v { lost = q.lost }) p.view;
+      more = omega (arith, p.more, q.more, ap (λ (v : View E V O). v.lost) p.view);
+      view = q.view ∙ ap (λ (v : View E V O). record v { lost = q.lost }) p.view;
     }
 
 -- ---- several
 
 -- one way after another
-pub pass_goes_further : (a b c : Known) → PassGoesOn a b → PassGoesOn b c → PassGoesOn a c
+pub pass_goes_further : {E V O : Type 0} → (a b c : Known E V O) → PassGoesOn a b → PassGoesOn b c → PassGoesOn a c
 pass_goes_further a b c p q =
     record {
       table = q.table ∙ p.table;

@@ -17,11 +17,11 @@ pub record Changes {F X : Type 0} (g : Mut F (MutBor X × Unit {0}) (Unit {0} ×
   pub leaves : left.now ≡ y
 
 -- each call of the closure keeps what `leave` asks
-abbrev pub KeepsLeave : {F X : Type 0} → Meaning X → Mut F (MutBor X × Unit {0}) (Unit {0} × (MutBor X × Unit {0})) → Type 0
+abbrev pub KeepsLeave : {F X E V O : Type 0} → Meaning X E V O → Mut F (MutBor X × Unit {0}) (Unit {0} × (MutBor X × Unit {0})) → Type 0
 KeepsLeave {F = F} {X = X} m g = (f f' : F) (x y : X) → Changes g f f' x y → MayFollow m x y
 
 -- the pass entered once, and what it was handed was changed so before it left; its own entries go on with those that were added
-pub record EntersOnce {X : Type 0} (m : Meaning X) (by : X → X → Type 0) (old new : Known) : Type 0 where
+pub record EntersOnce {X E V O : Type 0} (m : Meaning X E V O) (by : X → X → Type 0) (old new : Known E V O) : Type 0 where
   pub found : X
   pub put : X
   pub changed : by found put
@@ -32,16 +32,16 @@ pub record EntersOnce {X : Type 0} (m : Meaning X) (by : X → X → Type 0) (ol
   pub mine : new.view.mine ≡ old.view.mine ++ added (length (m.journal found)) (m.journal put)
 
 -- the pass found another inside: it lost once more, and is else as it was
-pub record LosesOnce (old new : Known) : Type 0 where
+pub record LosesOnce {E V O : Type 0} (old new : Known E V O) : Type 0 where
   pub table : new.table ≡ old.table
   pub view : new.view ≡ lost_view old.view
 
 -- the pass tried once: it found another inside, or entered
-abbrev pub TriesOnce : {X : Type 0} → Meaning X → (X → X → Type 0) → Known → Known → Type 0
+abbrev pub TriesOnce : {X E V O : Type 0} → Meaning X E V O → (X → X → Type 0) → Known E V O → Known E V O → Type 0
 TriesOnce m by old new = LosesOnce old new ⊎ EntersOnce m by old new
 
 -- one pass of two, whose places are those of both, each once
-pub record MeetsBoth (a b met : Known) : Type 0 where
+pub record MeetsBoth {E V O : Type 0} (a b met : Known E V O) : Type 0 where
   pub table : met.table ≡ a.table
   pub view : met.view ≡ views_met a.view b.view
   pub places : (k : ℕ) → HasPlace k met.view.mine ↔ (HasPlace k a.view.mine ⊎ HasPlace k b.view.mine)

@@ -1,11 +1,16 @@
 ghost use Rattle.std.specs.Prelude.{◌≡◌, length};
 ghost use Rattle.xc_turnstile.specs.Meanings.{Meaning, boxed};
 
-use xc_data::Event;
-
 /// A value with a journal that only grows, an origin, a count of its events modulo 2^64, and the last of them.
 pub trait Chronicle {
-    ghost meaning: { Meaning Self };
+    /// What its journal has.
+    type Entry;
+    /// What it tells of its last event.
+    type Event;
+    /// What it was started with. Contracts alone name it.
+    type Origin;
+
+    ghost meaning: { Meaning Self Self.Entry Self.Event Self.Origin };
 
     /// The length of its journal.
     fn len(&self) -> u64
@@ -16,12 +21,18 @@ pub trait Chronicle {
         ensures { result ≡ meaning.count self.now };
 
     /// Its last event.
-    fn last(&self) -> Option<Event>
+    fn last(&self) -> Option<Self::Event>
         ensures { result ≡ meaning.last self.now };
 }
 
 /// A chronicle behind a box means what it means itself.
 impl<V: Chronicle> Chronicle for Box<V> {
+    type Entry = V::Entry;
+
+    type Event = V::Event;
+
+    type Origin = V::Origin;
+
     ghost meaning = { boxed V.meaning };
 
     fn len(&self) -> u64 {
@@ -32,7 +43,7 @@ impl<V: Chronicle> Chronicle for Box<V> {
         self.as_ref().events()
     }
 
-    fn last(&self) -> Option<Event> {
+    fn last(&self) -> Option<V::Event> {
         self.as_ref().last()
     }
 }

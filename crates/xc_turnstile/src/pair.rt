@@ -42,7 +42,8 @@ pub fn enter_two<V: Chronicle, F: FnMut(&mut V), G: FnMut(&mut V)>(
     requires second_callable { G.IsAlwaysCallable second.old }
     requires first_keeps { KeepsLeave V.meaning F.FnMut }
     requires second_keeps { KeepsLeave V.meaning G.FnMut }
-    ensures ok { IfOk result (λ met. (left : Known) × (right : Known) × EntersOnce V.meaning (Changes F.FnMut first.old first.new) a left
+    ensures ok { IfOk result (λ met. (left : Known V.Entry V.Event V.Origin) × (right : Known V.Entry V.Event V.Origin)
+        × EntersOnce V.meaning (Changes F.FnMut first.old first.new) a left
         × EntersOnce V.meaning (Changes G.FnMut second.old second.new) b right × MeetsBoth left right met) }
     ensures err { IfErr result (λ back. (LosesOnce a back.0 × TriesOnce V.meaning (Changes G.FnMut second.old second.new) b back.1)
         ⊎ (EntersOnce V.meaning (Changes F.FnMut first.old first.new) a back.0 × LosesOnce b back.1)) }

@@ -16,22 +16,22 @@ use std::snapshot::Snapshot;
 /// None of its calls waits. `new` alone takes memory. It is not let go, but ended by `close` or `abandon`.
 /// A worker that finds another inside learns how long the journal was.
 pub struct Turnstile<V: Chronicle> {
-    table: Table<Option<V>, View, Snapshot<V>, Rule<V>, Global>,
+    table: Table<Option<V>, View<V::Entry, V::Event, V::Origin>, Snapshot<V>, Rule<V>, Global>,
     ghost sized: { (table.shared.table_id.words ≡ 1) × (table.shared.table_id.slots ≡ 1) },
 }
 
 /// The right to try to enter, and what was seen by it.
 #[derive(Drop)]
-pub struct Pass<V> {
+pub struct Pass<V: Chronicle> {
     shares: u64,
-    seat: Seat<Option<V>, View>,
+    seat: Seat<Option<V>, View<V::Entry, V::Event, V::Origin>>,
 }
 
-impl<V> Model for Pass<V> {
+impl<V: Chronicle> Model for Pass<V> {
     ghost use Rattle.std.specs.Prelude.{◌≡◌, ◌<◌, false, []};
     ghost use Rattle.xc_turnstile.specs.Known.{Known};
 
-    ghost Value = { Known };
+    ghost Value = { Known V.Entry V.Event V.Origin };
 
     ghost view = { λ p. record { table = p.seat.table_id; view = p.seat.me.0 } };
 
@@ -39,16 +39,16 @@ impl<V> Model for Pass<V> {
 }
 
 /// The duty to leave, which is not let go, and what the pass knew when it entered.
-pub struct Hold<V> {
+pub struct Hold<V: Chronicle> {
     shares: u64,
-    seat: Seat<Option<V>, View>,
+    seat: Seat<Option<V>, View<V::Entry, V::Event, V::Origin>>,
 }
 
-impl<V> Model for Hold<V> {
+impl<V: Chronicle> Model for Hold<V> {
     ghost use Rattle.std.specs.Prelude.{◌≡◌, ◌<◌, true, [], ◌∷◌, None};
     ghost use Rattle.xc_turnstile.specs.Known.{Known};
 
-    ghost Value = { Known };
+    ghost Value = { Known V.Entry V.Event V.Origin };
 
     ghost view = { λ p. record { table = p.seat.table_id; view = p.seat.me.0 } };
 
@@ -57,14 +57,14 @@ impl<V> Model for Hold<V> {
 }
 
 /// Whether a pass entered.
-pub enum Entered<V> {
+pub enum Entered<V: Chronicle> {
     /// It did: the value.
     Inside(V, Hold<V>),
     /// Another is inside: the word that was found.
     Held(Pass<V>, u64),
 }
 
-impl<V> Pass<V> {
+impl<V: Chronicle> Pass<V> {
     /// Its part of the right to close. The first pass has 2^32 shares, which are all that there are.
     pub fn shares(&self) -> u64
         ensures { result ≡ self.now.view.shares }

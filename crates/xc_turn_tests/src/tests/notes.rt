@@ -19,6 +19,12 @@ pub struct Notes {
 }
 
 impl Chronicle for Notes {
+    type Entry = Entry;
+
+    type Event = Event;
+
+    type Origin = Origin;
+
     ghost meaning = { record { journal = λ n. n.journal; origin = λ n. n.origin; count = λ n. n.events; last = λ n. n.last } };
 
     fn len(&self) -> u64 {

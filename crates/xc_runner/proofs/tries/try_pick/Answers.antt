@@ -1,7 +1,8 @@
 use Rattle.std.proofs.Common.{refl, arith, ap, subst, ◌∙◌}
 use Rattle.xc_data.specs.declared.entry.Event.TheVariants.{Picked}
 use Rattle.xc_model.specs.Moment.{Moment}
-use Rattle.xc_station.specs.Events.{IsEvent, meaning_of}
+use Rattle.xc_station.specs.Events.{IsEvent}
+use Rattle.xc_station.specs.Passes.{meaning_of}
 use Rattle.xc_station.specs.Stations.{StationView}
 use Rattle.xc_turnstile.specs.Insides.{IsInside}
 use Rattle.xc_runner.proofs.Steps.{event_next, gains_once, mine_quietly}

@@ -1,6 +1,7 @@
 use Rattle.std.proofs.Common.{refl, arith, subst}
 use Rattle.xc_data.specs.declared.entry.Event.TheVariants.{Turned}
-use Rattle.xc_station.specs.Events.{IsEvent, meaning_of}
+use Rattle.xc_station.specs.Events.{IsEvent}
+use Rattle.xc_station.specs.Passes.{meaning_of}
 use Rattle.xc_station.specs.Stations.{StationView}
 use Rattle.xc_turnstile.specs.Insides.{IsInside}
 use Rattle.xc_runner.proofs.Steps.{event_next, gains_once}

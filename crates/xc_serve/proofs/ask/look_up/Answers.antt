@@ -1,8 +1,8 @@
 use Rattle.std.proofs.Common.{[], ◌∷◌, ap, subst, ◌∙◌, slice_get, length}
 use Rattle.xc_data.specs.declared.entry.Event.TheVariants.{Looked}
-use Rattle.xc_station.specs.Events.{IsEvent, meaning_of}
+use Rattle.xc_station.specs.Events.{IsEvent}
+use Rattle.xc_station.specs.Passes.{PassView, meaning_of}
 use Rattle.xc_station.specs.Stations.{StationView}
-use Rattle.xc_turnstile.specs.declared.view.View.{View}
 use Rattle.xc_serve.specs.Answers.{text_at}
 use Rattle.xc_serve.specs.Gains.{IsTold}
 use Rattle.xc_serve.proofs.Gained.{gains_quietly, unboxed}
@@ -19,7 +19,7 @@ returns g c =
     let did = c.look_for-length.ensures in
     let at = c.deref_mut.ensures.value in
     let same = did.same ∙ ap (λ (s : StationView g.row.H.Denot). s.journal) at in
-    let seen = ap (λ (v : View). v.seen) c.leave.ensures.view ∙ same in
+    let seen = ap (λ (v : PassView). v.seen) c.leave.ensures.view ∙ same in
     record {
       events = Looked n ∷ [];
       entries = [];

@@ -1,10 +1,10 @@
 use Rattle.std.proofs.Common.{ap, length, subst, sym, ◌∙◌}
 use Rattle.std.specs.declared.option.Option.TheVariants.{Some}
 use Rattle.xc_data.specs.declared.entry.Event.TheVariants.{Turned}
-use Rattle.xc_station.specs.Events.{IsEvent, meaning_of}
+use Rattle.xc_station.specs.Events.{IsEvent}
+use Rattle.xc_station.specs.Passes.{PassView, meaning_of}
 use Rattle.xc_station.specs.Stations.{StationView}
 use Rattle.xc_model.specs.declared.origin.Origin.{Origin}
-use Rattle.xc_turnstile.specs.declared.view.View.{View}
 use Rattle.xc_turnstile.specs.Views.{added}
 use Rattle.xc_serve.specs.Gains.{TellsTurn}
 use Rattle.xc_serve.proofs.Blocks.{own_known}
@@ -28,7 +28,7 @@ returns g c =
     let gained = gains_at meaning_of c.args.pass entered.1 was is event (unboxed meaning_of c.args.pass entered.1 entered.0 c.enter-station.ensures) next left
     c.leave.ensures.table c.leave.ensures.view in
     let origin = gained.goes.origin ∙ (c.enter-station.ensures.origin ∙ ap (λ (o : Origin). Some o) (sym next.origin)) in
-    let seen = ap (λ (v : View). v.seen) c.leave.ensures.view in
+    let seen = ap (λ (v : PassView). v.seen) c.leave.ensures.view in
     record {
       entries = added (length was.journal) is.journal;
       block = tells.block;

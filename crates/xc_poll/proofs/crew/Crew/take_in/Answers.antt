@@ -1,5 +1,5 @@
 use Rattle.std.proofs.Common.{◌≡◌, List, [], ◌∷◌, ◌++◌, ap, arith, inl, length, refl, subst, sym, ◌∙◌}
-use Rattle.xc_turnstile.specs.Known.{Known}
+use Rattle.xc_station.specs.Passes.{StationPass}
 use Rattle.xc_poll.specs.Askings.{PartsMost, TakesIn, TakesInOrLeaves, task_for}
 use Rattle.xc_poll.specs.Crews.{Crew, IsCrewSound}
 use Rattle.xc_poll.specs.Tasks.{Task, known_of}
@@ -32,7 +32,7 @@ parts : (g : given.Over) (c : goal.After-self-3-1 g)
 parts g c =
     let left = c.part_most-given.new.asking in
     let rest = c.part_most-given.new.tasks in
-    subst (λ (k : Known). PartsMost k left c.self.inside.tasks.items rest c.in-Some-given.given) (sym (ap known_of c.in-Some.is))
+    subst (λ (k : StationPass). PartsMost k left c.self.inside.tasks.items rest c.in-Some-given.given) (sym (ap known_of c.in-Some.is))
     (subst (λ (ts : List Task). PartsMost c.in-Some.asking left ts rest c.in-Some-given.given) (c.as_mut_slice.ensures.value ∙ c.reserve.ensures.items)
     c.in-Some-given.ensures.1)
 
@@ -51,7 +51,7 @@ taken g c =
     let i = c.self.inside in
     takes_in i.shop.now.table.shared.table_id (known_of i.asking) c.part_most-given.new.asking c.in-Some-given.given i.tasks.items
     c.part_most-given.new.tasks c.push_reserved.new.self.items i.top i.share c.args.job c.self.invariant.1 (omega (arith, c.if-job-self.false))
-    (c.in-Some-given.ensures.0 ∙ ap (λ (k : Known). k.table) (sym (ap known_of c.in-Some.is))) (parts g c) (pushed g c)
+    (c.in-Some-given.ensures.0 ∙ ap (λ (k : StationPass). k.table) (sym (ap known_of c.in-Some.is))) (parts g c) (pushed g c)
 
 pub invariant_of-self-2 : goal.invariant_of-self-2
 invariant_of-self-2 g c = (refl, (taken g c).1)

@@ -6,8 +6,8 @@ use Rattle.xc_turnstile.proofs.turnstile.Turnstile.split.Goals as goal
 pub split_seat-seat-requires : goal.split_seat-seat-requires
 split_seat-seat-requires g c =
     let i = c.pass.invariant in (
-      ap (λ (k : Known). k.table) c.pass.view_is ∙ c.requires.table,
+      ap (λ (k : Known _ _ _). k.table) c.pass.view_is ∙ c.requires.table,
       omega (arith, c.args.self.now.sized.0),
       may_split g.V.Chronicle.meaning c.pass.inside.seat.id c.pass.inside.seat.me.0 i.2
-          (omega (arith, c.requires.shares, ap (λ (k : Known). k.view.shares) c.pass.view_is)),
+          (omega (arith, c.requires.shares, ap (λ (k : Known _ _ _). k.view.shares) c.pass.view_is)),
     )
