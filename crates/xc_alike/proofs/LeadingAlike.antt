@@ -148,7 +148,7 @@ asked_bare script jobs last e h =
     record {
       asking = h.asking;
       started = h.started;
-      asked = record { left = h.asked.left; calls = h.asked.calls; after = h.asked.after };
+      asked = record { left = h.asked.left; scripted = λ own. let block = h.asked.scripted own in record { calls = block.calls; after = block.after } };
       starts = starts_bare script (map (λ (j : ScriptJob). j.block) jobs) e e.outcome h.starts;
     }
 
@@ -158,7 +158,7 @@ asked_whole script jobs last e h =
     record {
       asking = h.asking;
       started = h.started;
-      asked = record { left = h.asked.left; calls = h.asked.calls; after = h.asked.after };
+      asked = record { left = h.asked.left; scripted = λ own. let block = h.asked.scripted own in record { calls = block.calls; after = block.after } };
       starts = starts_whole script (map (λ (j : ScriptJob). j.block) jobs) e e.outcome h.starts;
     }
 

@@ -1,9 +1,12 @@
 -- A transaction at its begin.
 use Rattle.std.proofs.Common.{◌≡◌, ℕ, zero, suc, ◌<◌, ◌≤◌, ◌^◌, true, false, List, [], ◌∷◌, length, Option, refl, ap, sym, ◌∙◌, subst, arith}
-use Rattle.std.specs.Prelude.{All, OnOk, Result, Ok, Err, is_some, slice_get, unwrap_or}
+use Rattle.std.specs.Bool.{Decides}
+use Rattle.std.specs.Prelude.{All, IfOk, IsSome, OnOk, Result, Ok, Err, is_some, slice_get, unwrap_or}
 use Rattle.std.specs.declared.option.Option.TheVariants.{None, Some}
 use Rattle.std.proofs.lemmas.List.Elements.{All-head, All-tail}
 use Rattle.xc_data.specs.declared.call.Reply.{Reply}
+use Rattle.xc_data.specs.declared.entry.Entry.{Entry}
+use Rattle.xc_data.specs.declared.memory.NoMemory.{NoMemory}
 use Rattle.xc_text.specs.declared.script.Block.{Block}
 use Rattle.xc_text.specs.declared.script.Script.{Script}
 use Rattle.xc_text.specs.Scripts.{IsBlock, IsScript}
@@ -16,8 +19,10 @@ use Rattle.xc_script.specs.Blocks.{BlockWalk, IsInner, after_ask, all_replied, b
 use Rattle.xc_script.specs.Position.{Position, at_begin, job_of}
 use Rattle.xc_script.specs.Values.{Variables}
 use Rattle.xc_script.specs.Walks.{past_silent}
-use Rattle.xc_script.proofs.Laws.{begins_inner}
-use Rattle.xc_model.specs.Asked.{asked_after}
+use Rattle.xc_script.proofs.Laws.{begins_inner, scripted_body}
+use Rattle.xc_model.specs.Asked.{AsksEach, IsAskedBy, asked_after}
+use Rattle.xc_model.specs.Live.{IsScripted}
+use Rattle.xc_asked.specs.declared.script_job.Followed.{Followed}
 use Rattle.xc_asked.specs.Walking.{walk_there}
 
 -- ---- where a transaction begins
@@ -67,12 +72,27 @@ some_within (x ∷ xs) zero is = omega arith
 some_within (x ∷ xs) (suc i) is = let less = some_within xs i is in omega (arith, less)
 
 -- where a transaction is left
-pub few_next : (script : Script) (job : Job) (next : ℕ) → IsScript script → is_some (next_body script job) ≡ true → next ≡ job.next
-    → next < 2 ^ 32
-few_next script job next read left same =
-    let less = some_within (transactions_at script job.block) job.next left in
+pub few_next : (script : Script) (job : Job) (next : ℕ) → IsScript script → IsScripted script → is_some (next_body script job) ≡ true
+    → next ≡ job.next → next < 2 ^ 32
+few_next script job next read own left same =
+    let less = some_within (transactions_at script job.block) job.next (sym (ap is_some (scripted_body script job own)) ∙ left) in
     let few = few_there script.blocks job.block read.each_block in
     omega (arith, less, few, same)
+
+-- ---- what is decided of an entry
+some_left : (o : Option (List Statement)) → is_some o ≡ true → IsSome o
+some_left None is = absurd (let no : false ≡ true = is in cc)
+some_left (Some body) is = refl
+
+-- of a script whose blocks ask it is asked just where its calls are
+pub decided_asked : (script : Script) (job : Job) (e : Entry) (r : Result Followed NoMemory) → IsScripted script → is_some (next_body script job) ≡ true
+    → IfOk r (λ f. f.last ≡ asked_after script job e.replies) → IfOk r (λ f. Decides f.is_asked (AsksEach (block_from script job) e.calls e.replies))
+    → IfOk r (λ f. Decides f.is_asked (IsAskedBy script job f.last e))
+decided_asked script job e (Ok f) own left last asked = (
+  λ yes. record { left = some_left (next_body script job) left; scripted = λ _. record { calls = asked.0 yes; after = last } },
+  λ is. asked.1 (is.scripted own).calls,
+)
+decided_asked script job e (Err n) own left last asked = tt
 
 -- ---- results
 pub from_ok : {A E : Type 0} (r : Result A E) (x : A) (P : Type 0) → r ≡ Ok x → OnOk r P → P

@@ -1,6 +1,7 @@
 ghost use Rattle.std.specs.Bool.{Decides};
 ghost use Rattle.std.specs.Prelude.{◌≡◌, ◌+◌, ◌<◌, ◌^◌, if◌then◌else◌, IfOk, IsSome, OnOk, is_some, true};
 ghost use Rattle.xc_asked.specs.Walking.{IsBehindReplies, job_outcome};
+ghost use Rattle.xc_model.specs.Live.{IsScripted};
 ghost use Rattle.xc_model.specs.Asked.{AsksEach, IsAskedBy, asked_after, job_abort, script_started};
 ghost use Rattle.xc_script.specs.Ask.{Job, block_place, fresh_job, next_body};
 ghost use Rattle.xc_script.specs.Blocks.{block_from};
@@ -137,7 +138,8 @@ impl ScriptJob {
 
     /// Follows an entry of the job. Where a call isn't the script's it goes back to where it was.
     pub(crate) fn follow(&mut self, script: &Script, entry: &Entry) -> Result<Followed, NoMemory>
-        requires { IsScript script.now }
+        requires read { IsScript script.now }
+        requires scripted { IsScripted script.now }
         ensures last { IfOk result (λ f. f.last ≡ asked_after script.now self.old.job entry.now.replies) }
         ensures asked { IfOk result (λ f. Decides f.is_asked (IsAskedBy script.now self.old.job f.last entry.now)) }
         ensures after { IfOk result (λ f. f.is_asked ≡ true

@@ -2,6 +2,7 @@ ghost use Rattle.std.specs.Bool.{Decides};
 ghost use Rattle.std.specs.Prelude.{◌≡◌, ◌<◌, [], ◌∷◌, ◌++◌, List, ℕ, IfOk, OnOk, is_some, length, map, slice_get, slice_set, true};
 ghost use Rattle.std.specs.declared.option.Option.TheVariants.{Some};
 ghost use Rattle.xc_asked.specs.Walking.{children, job_entered, opened_script_job};
+ghost use Rattle.xc_model.specs.Live.{IsScripted};
 ghost use Rattle.xc_model.specs.Asked.{IsAskedBy, IsAskedEntry, ScriptJob as PlainJob, StartsJobs, after_jobs, asked_after, last_asked};
 ghost use Rattle.xc_model.specs.Asked.{opening_jobs, script_job_of, script_started};
 ghost use Rattle.xc_script.specs.Ask.{next_body};
@@ -87,6 +88,7 @@ fn follow_at(
     entry: &Entry,
 ) -> Result<Followed, NoMemory>
     requires read { IsScript script.now }
+    requires scripted { IsScripted script.now }
     requires place { at < length jobs.old.items }
     ensures count { length jobs.new.items ≡ length jobs.old.items }
     ensures followed { (j : PlainJob) → slice_get jobs.old.items at ≡ Some j
@@ -167,7 +169,8 @@ impl ScriptJobs {
     /// Follows an entry: what was asked last, whether the script asked each call, and on to what the entry leads to. Where the script
     /// didn't, the jobs may stand anywhere.
     pub fn follow(&mut self, script: &Script, entry: &Entry) -> Result<Followed, NoMemory>
-        requires { IsScript script.now }
+        requires read { IsScript script.now }
+        requires scripted { IsScripted script.now }
         ensures last { IfOk result (λ f. f.last ≡ last_asked script.now (script_job_of self.old entry.now) entry.now.replies) }
         ensures asked { IfOk result (λ f. Decides f.is_asked (IsAskedEntry script.now self.old f.last entry.now)) }
         ensures after { IfOk result (λ f. f.is_asked ≡ true → self.new ≡ after_jobs script.now self.old entry.now) }

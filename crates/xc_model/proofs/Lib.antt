@@ -1,3 +1,6 @@
+pub mod CallCounts
+pub mod LiveWalks
 pub mod RecordsPlayed
 pub mod StartedCalls
+pub mod HandedAsks
 pub mod Laws

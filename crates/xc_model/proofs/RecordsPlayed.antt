@@ -1,5 +1,5 @@
 -- On the plain machine a body leaves the records of its calls, and the records of an aborted one are those of a report.
-use Rattle.std.proofs.Common.{◌≡◌, inl, inr, ℕ, ◌≤◌, List, [], ◌∷◌, ◌++◌, length, refl, ap, sym, ◌∙◌, subst, arith, append-nil}
+use Rattle.std.proofs.Common.{inl, inr, ℕ, ◌≤◌, List, ◌++◌, length, refl, ap, sym, subst, arith, append-nil}
 use Rattle.std.specs.Prelude.{Option, unwrap_or}
 use Rattle.std.specs.declared.option.Option.TheVariants.{None, Some}
 use Rattle.xc_data.specs.declared.call.Answer.{Answer}
@@ -14,7 +14,7 @@ use Rattle.xc_script.specs.declared.ask.Ask.{Ask}
 use Rattle.xc_script.specs.declared.ask.Ask.TheVariants as ask
 use Rattle.xc_world.specs.Act.{act}
 use Rattle.xc_world.specs.RecordOf.{AreRecordsOf, left_by}
-use Rattle.xc_world.specs.Run.{BlockState, BodyResult, back_from, block_step, marked, opens, step}
+use Rattle.xc_world.specs.Run.{BlockState, BodyResult, back_from, block_step, opens, step}
 use Rattle.xc_world.specs.Trail.{recorded}
 use Rattle.xc_world.specs.World.{World}
 use Rattle.xc_world.proofs.Laws.{acted_of, as_many, more_records, one_left}

@@ -16,6 +16,7 @@ use Rattle.xc_script.specs.declared.ask.Ask.TheVariants as ask
 use Rattle.xc_script.specs.Ask.{Job, next_body, fresh_job, block_place}
 use Rattle.xc_script.specs.Asking.{asks}
 use Rattle.xc_script.specs.Blocks.{BlockWalk, replied, all_replied, block_from, kept_calls}
+use Rattle.xc_model.specs.Live.{IsScripted}
 use Rattle.xc_model.specs.Progress.{Following, started_blocks, started_from, committed_job}
 use Rattle.xc_model.specs.Starts.{AreStarts}
 
@@ -82,11 +83,15 @@ abbrev pub StartsJobs : Script → List (List ℕ) → Entry → Outcome → Typ
 StartsJobs script blocks e (Committed late) = AreStarts script blocks (map thread_asked (kept_calls e.calls e.replies)) late
 StartsJobs script blocks e (Aborted report) = Unit {0}
 
--- a transaction of this job is left, its calls are the script's, and after them `last` is asked
-pub record IsAskedBy (script : Script) (job : Job) (last : Ask) (e : Entry) : Type 0 where
-  pub left : IsSome (next_body script job)
+-- an entry of a script's block: its calls are the script's, and so is what was asked last
+pub record IsOfBlock (script : Script) (job : Job) (last : Ask) (e : Entry) : Type 0 where
   pub calls : AsksEach (block_from script job) e.calls e.replies
   pub after : last ≡ asked_after script job e.replies
+
+-- a transaction of this job is left; of a script it is what its block asks
+pub record IsAskedBy (script : Script) (job : Job) (last : Ask) (e : Entry) : Type 0 where
+  pub left : IsSome (next_body script job)
+  pub scripted : IsScripted script → IsOfBlock script job last e
 
 -- its job is started, and the commit starts jobs as the script has it
 pub record IsAskedEntry (script : Script) (jobs : List ScriptJob) (last : Ask) (e : Entry) : Type 0 where

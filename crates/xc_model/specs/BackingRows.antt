@@ -22,10 +22,11 @@ use Rattle.xc_world.specs.Effects.{undone_to}
 use Rattle.xc_data.specs.declared.entry.Mark.{Mark}
 use Rattle.xc_model.specs.declared.phase.Phase.{Phase}
 use Rattle.xc_model.specs.declared.phase.Phase.TheVariants.{Running, Undoing, Backing}
+use Rattle.xc_model.specs.Live.{IsScripted}
 use Rattle.xc_model.specs.Moment.{TxView, SavedView, Moment, GivesBack, Touches, kept_between, with_job}
 use Rattle.xc_data.specs.declared.call.LateCall.{LateCall}
 use Rattle.xc_script.specs.declared.ask.Ask.TheVariants as ask
-use Rattle.xc_model.specs.Movers.{asked_at, with_tx, Mover, HasCalled, IsSameBegin}
+use Rattle.xc_model.specs.Movers.{asked_at, answered_with, with_tx, Mover, HasCalled, IsSameBegin}
 use Rattle.xc_model.specs.RunningRows.{Revokes}
 
 -- where a compensation of the record of this number failed, the whole transaction undoes
@@ -72,13 +73,14 @@ module _ (m : Mover) (tx : TxView) where
     pub begin : IsSameBegin m.job.place place
     pub walk : walk_of m.setting.script place ≡ back_to (walk_of m.setting.script m.job.place) m.job.place.saved
     pub closed : place.saved ≡ None
-    pub nearer : m.job.place.at < place.at
+    pub nearer : IsScripted m.setting.script → m.job.place.at < place.at
     -- the back is asked there
-    pub asked : asked_at m.setting m.job.place ≡ ask.Call call.Back
+    pub asked : asked_at m.setting m.job ≡ ask.Call call.Back
     -- the late calls of the block are cut off
     pub more : List LateCall
     pub cut : tx.late ≡ kept.late ++ more
-    pub behind : new ≡ record (with_job m.old m.at (with_tx m.job place (backed tx kept))) { contents = new.contents; kept = new.kept }
+    pub behind : new
+        ≡ record (with_job m.old m.at (answered_with m.job place (backed tx kept))) { contents = new.contents; kept = new.kept }
     -- over every host, in front of what was kept
     pub given : GivesBack (drop (length kept.taken) tx.taken) (kept_between m.old new)
     pub returned : IsTrue m.setting.tells → new.contents ≡ with_kept m.old.contents (drop (length kept.taken) tx.taken)

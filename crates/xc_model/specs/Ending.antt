@@ -16,6 +16,7 @@ use Rattle.xc_host.specs.Contents.{Contents, contents_of}
 use Rattle.xc_text.specs.declared.script.Script.{Script}
 use Rattle.xc_script.specs.Ask.{next_body, transactions_at}
 use Rattle.xc_world.specs.World.{State}
+use Rattle.xc_model.specs.Live.{IsScripted}
 use Rattle.xc_model.specs.Setting.{Setting}
 use Rattle.xc_model.specs.Progress.{Following, Progress, opening_progress, after_entry, following_of, progress_of}
 use Rattle.xc_model.specs.EntryEnds.{AreUnrevoked, is_tried_again}
@@ -26,10 +27,10 @@ use Rattle.xc_model.specs.Serial.{is_final, is_asked}
 abbrev pub HasGivenUp : Setting → Following → Cause → Type 0
 HasGivenUp s f c = (s.rules.attempts ≤ length f.failed) × (before : List Cause) × (f.failed ≡ before ++ c ∷ [])
 
--- done where no transaction is left; given up after so many attempts as the rules allow; ended by a full journal
--- where an attempt was left, and so many entries there are; without memory wherever a transaction is left
+-- done where no transaction of a script is left, or where its client says so; given up after so many attempts as the rules allow;
+-- ended by a full journal where an attempt was left, and so many entries there are; without memory wherever a transaction is left
 abbrev pub IsEnd : Setting → ℕ → Following → JobEnd → Type 0
-IsEnd s entries f job_end.Done = (f.starved ≡ false) × (next_body s.script f.job ≡ None)
+IsEnd s entries f job_end.Done = (f.starved ≡ false) × (IsScripted s.script → next_body s.script f.job ≡ None)
 IsEnd s entries f (job_end.GaveUp c) = (f.starved ≡ false) × IsSome (next_body s.script f.job) × HasGivenUp s f c
 IsEnd s entries f job_end.JournalFull =
     (f.starved ≡ false) × IsSome (next_body s.script f.job) × (length f.failed < s.rules.attempts) × (10000 ≤ entries)
@@ -139,4 +140,4 @@ pub record IsTrueEnd (s : Setting) (entries : List Entry) (final : Final) : Type
   pub words : final.words ≡ (progress_of s.script entries).words
   pub state : IsTrue s.tells → IsFinalState (progress_of s.script entries).state final
   pub ends : AreEnds s (length entries) (progress_of s.script entries).jobs final.lines
-  pub complete : all_done final.lines ≡ true → IsComplete s.script entries
+  pub complete : IsScripted s.script → all_done final.lines ≡ true → IsComplete s.script entries

@@ -45,6 +45,7 @@ behind_commit job tx =
         next = job.place.next + 1;
         variables = with_ends job.place.variables (kept_calls tx.calls tx.replies) tx.ends;
       });
+      handed = None;
       attempts = None;
       busy = 0;
       doing = Idle;
@@ -60,6 +61,7 @@ abbrev pub behind_abort : JobView → TxView → Cause → JobView
 behind_abort job tx cause.Asked =
     record job {
       place = at_begin (record { block = job.place.block; next = job.place.next + 1; variables = job.place.begun });
+      handed = None;
       attempts = None;
       busy = 0;
       doing = Idle;
@@ -67,14 +69,16 @@ behind_abort job tx cause.Asked =
 behind_abort job tx (cause.Stuck failed) =
     record job {
       place = at_begin (record { block = job.place.block; next = job.place.next + 1; variables = job.place.begun });
+      handed = None;
       attempts = None;
       busy = 0;
       doing = Idle;
     }
-behind_abort job tx cause.NoMemory = record job { busy = 0; doing = Starved }
+behind_abort job tx cause.NoMemory = record job { handed = None; busy = 0; doing = Starved }
 behind_abort job tx c =
     record job {
       place = at_begin (record { block = job.place.block; next = job.place.next; variables = job.place.begun });
+      handed = None;
       attempts = Some (attempts_with job.attempts tx c);
       busy = 0;
       doing = Idle;
@@ -87,6 +91,7 @@ started_job script starter block =
       block = block;
       me = starter.me;
       place = at_begin (started_from script starter.place.variables block);
+      handed = None;
       attempts = None;
       busy = 0;
       doing = Idle;

@@ -38,7 +38,7 @@ pub record HasMade (s : Setting) (job : JobView) (tx : TxView) (made : List Host
   pub backs : List HostCallKind
   pub lates : List HostCallKind
   pub calls : HandlesCalls tx.number tx.calls tx.replies (handled_anew job.me.places) (handled_in tx body)
-  pub stopped : StopsIn tx.phase (asked_at s job.place) stops
+  pub stopped : StopsIn tx.phase (asked_at s job) stops
   pub undone : BacksMake tx.undo.ended backs
   pub ended : LatesMake tx.late tx.ends lates
   pub all : made ≡ body ++ stops ++ backs ++ lates

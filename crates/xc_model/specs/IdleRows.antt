@@ -1,6 +1,6 @@
 -- The rows of an idle job: it ends, waits, or begins its next transaction.
 use Rattle.std.specs.Prelude.{◌≡◌, ℕ, ◌+◌, ◌<◌, ◌≤◌, List, [], length}
-use Rattle.std.specs.Prelude.{IsSome}
+use Rattle.std.specs.Prelude.{IsSome, Bool, true, false}
 use Rattle.std.specs.Prelude.{Option}
 use Rattle.std.specs.declared.option.Option.TheVariants.{None, Some}
 use Rattle.xc_data.specs.declared.object.Object.{Object}
@@ -11,13 +11,15 @@ use Rattle.xc_data.specs.declared.entry.JobEnd.TheVariants as job_end
 use Rattle.xc_data.specs.declared.entry.Turn.{Turn}
 use Rattle.xc_data.specs.declared.entry.Turn.TheVariants as turn
 use Rattle.xc_data.specs.declared.private.Private.{Private}
+use Rattle.xc_script.specs.declared.ask.Ask.TheVariants as ask
 use Rattle.xc_model.specs.declared.phase.Attempts.{Attempts}
 use Rattle.xc_model.specs.declared.phase.Phase.TheVariants.{Running}
+use Rattle.xc_model.specs.Live.{has_clients}
 use Rattle.xc_model.specs.Setting.{Setting}
 use Rattle.xc_model.specs.Moment.{TxView, JobView, Ended, Moment}
 use Rattle.xc_model.specs.Moment.{begun_count, failures, rank_of, with_job}
 use Rattle.xc_model.specs.Moment.{unmarked, asked_to_wait}
-use Rattle.xc_model.specs.Movers.{body_at, with_tx, IsActiveAt, Mover}
+use Rattle.xc_model.specs.Movers.{body_at, answered_with, IsActiveAt, Mover}
 
 -- ---- an idle job
 -- this cause names this transaction, for this object
@@ -49,9 +51,15 @@ pub record IsWaiting (s : Setting) (now : Moment) (job : JobView) (object : Obje
 abbrev pub WaitsForNobody : Setting → Moment → JobView → Type 0
 WaitsForNobody s now job = (object : Object) (number : ℕ) → IsWaiting s now job object number → ⊥
 
+-- its client has handed in its end; of a script no transaction is left
+abbrev pub IsOver : Bool → Setting → JobView → Type 0
+IsOver true s job = job.handed ≡ Some ask.End
+IsOver false s job = body_at s job.place ≡ None
+
 -- its next transaction may begin
 pub record MayBegin (s : Setting) (now : Moment) (job : JobView) : Type 0 where
   pub left : IsSome (body_at s job.place)
+  pub more : IsOver (has_clients s.script) s job → ⊥
   pub attempts : failures job.attempts < s.rules.attempts
   pub free : WaitsForNobody s now job
   pub room : begun_count now < 10000
@@ -81,7 +89,7 @@ abbrev pub beginning_job : Moment → JobView → JobView
 beginning_job now job =
     let number = begun_count now + 1 in
     let tx = new_tx number (rank_of job.attempts number) (length now.journal) job.me in
-    record (with_tx job (record job.place { begun = job.place.variables }) tx) { busy = 0 }
+    record (answered_with job (record job.place { begun = job.place.variables }) tx) { busy = 0 }
 
 -- the station after a begin: the new transaction has no mark
 abbrev pub beginning_at : Moment → ℕ → JobView → Moment
@@ -95,7 +103,7 @@ IsSpent s (Some a) c = (s.rules.attempts ≤ a.failed) × (a.last ≡ c)
 
 -- it ends like this; for lack of memory it may wherever a transaction is left
 abbrev pub IsEnding : Setting → Moment → JobView → JobEnd → Type 0
-IsEnding s now job job_end.Done = body_at s job.place ≡ None
+IsEnding s now job job_end.Done = IsOver (has_clients s.script) s job
 IsEnding s now job (job_end.GaveUp c) = IsSome (body_at s job.place) × IsSpent s job.attempts c
 IsEnding s now job job_end.JournalFull =
     IsSome (body_at s job.place) × (failures job.attempts < s.rules.attempts) × WaitsForNobody s now job × (10000 ≤ begun_count now)

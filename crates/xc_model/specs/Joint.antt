@@ -8,13 +8,14 @@ use Rattle.xc_data.specs.declared.entry.Outcome.TheVariants.{Committed, Aborted}
 use Rattle.xc_script.specs.declared.ask.Ask.{Ask}
 use Rattle.xc_script.specs.declared.ask.Ask.TheVariants as ask
 use Rattle.xc_script.specs.Ask.{next_body}
-use Rattle.xc_script.specs.Blocks.{block_from, kept_calls}
+use Rattle.xc_script.specs.Blocks.{kept_calls}
 use Rattle.xc_world.specs.Run.{body_fits, asked_of}
-use Rattle.xc_model.specs.Asked.{AsksEach, StartsJobs, next_of}
+use Rattle.xc_model.specs.Asked.{IsOfBlock, StartsJobs}
 use Rattle.xc_model.specs.EntryEnds.{AreRecords, HasAbortCause, IsCommit, IsHeld, IsReport, failures_with}
 use Rattle.xc_model.specs.Grounds.{Part, AreGrounded, scene_of}
 use Rattle.xc_model.specs.Handles.{IsHandledJournal}
 use Rattle.xc_model.specs.InTime.{AreInTime}
+use Rattle.xc_model.specs.Live.{IsScripted}
 use Rattle.xc_model.specs.Machine.{BeginInOrder, counting, machine_part, numbers_of}
 use Rattle.xc_model.specs.Progress.{Following, Progress, opening_progress, private_of}
 use Rattle.xc_model.specs.Progress.{body_of, following_of, after_entry}
@@ -42,9 +43,8 @@ pub record IsStory (s : Setting) (p : Progress) (f : Following) (last : Ask) (e 
   -- the rank is the number of the first attempt, and so many attempts may fail
   pub rank : e.rank ≡ unwrap_or f.first e.tx
   pub failures : failures_with f.failed e.outcome ≤ s.rules.attempts
-  -- its calls are the script's
-  pub calls : AsksEach (block_from s.script f.job) e.calls e.replies
-  pub after : last ≡ next_of s.script f e.replies
+  -- of a script its calls and what was asked last are the script's
+  pub scripted : IsScripted s.script → IsOfBlock s.script f.job last e
   pub asked : IsAskedFor s.rules.undo_tries e last e.outcome
   -- a way back tells of no more faults than its block's records can have met
   pub faults : AreFewFaults s.rules.undo_tries no_records e.calls e.replies

@@ -7,6 +7,7 @@ pub mod Counted
 pub mod Ending
 pub mod Entering
 pub mod Grounds
+pub mod HandedIn
 pub mod Handles
 pub mod Handling
 pub mod Holding
@@ -33,6 +34,7 @@ pub mod Starts
 pub mod Stories
 pub mod Truth
 pub mod Joint
+pub mod Live
 pub mod Machine
 pub mod Asked
 pub mod Course

@@ -19,6 +19,7 @@ use Rattle.xc_data.specs.declared.script.HostCallKind.{HostCallKind}
 use Rattle.xc_compensate.specs.Records.{Records}
 use Rattle.xc_deferred.specs.Queue.{Queue, late_calls_left}
 use Rattle.xc_host.specs.Contents.{Contents}
+use Rattle.xc_script.specs.declared.ask.Ask.{Ask}
 use Rattle.xc_script.specs.Position.{Position}
 use Rattle.xc_world.specs.Run.{given_back}
 use Rattle.xc_world.specs.World.{World}
@@ -74,6 +75,8 @@ pub record JobView : Type 0 where
   -- its handles, as its next transaction begins with them, or the active one began
   pub me : Private
   pub place : Position
+  -- what its client has handed in, until it is answered, or its transaction begins or has ended
+  pub handed : Option Ask
   -- the attempts at its next transaction that met a holder or were revoked, if there were some
   pub attempts : Option Attempts
   -- how often it was told to wait since its last begin or entry

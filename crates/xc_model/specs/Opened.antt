@@ -16,6 +16,7 @@ opened_job script block =
       block = block;
       me = beginning (opening_handles script.outline);
       place = at_begin (fresh_job script (block_place script block));
+      handed = None;
       attempts = None;
       busy = 0;
       doing = Idle;

@@ -1,5 +1,5 @@
 -- Where no job may wait, no transaction is revoked: only an older one that waits marks a younger one.
-use Rattle.std.specs.Prelude.{◌≡◌, ℕ, Option}
+use Rattle.std.specs.Prelude.{◌≡◌, ℕ}
 use Rattle.std.specs.declared.option.Option.TheVariants.{None}
 use Rattle.xc_model.specs.EntryEnds.{AreUnrevoked, IsUnrevoked}
 use Rattle.xc_model.specs.Moment.{Moment, TxView}

@@ -32,11 +32,12 @@ use Rattle.xc_world.specs.RecordOf.{AreRecordsOf, left_by}
 use Rattle.xc_data.specs.declared.entry.Mark.{Mark}
 use Rattle.xc_model.specs.declared.phase.Phase.{Phase}
 use Rattle.xc_model.specs.declared.phase.Phase.TheVariants.{Running, Committing, Undoing, Backing}
+use Rattle.xc_model.specs.Live.{IsScripted}
 use Rattle.xc_model.specs.WordCalls.{IsWordStep}
 use Rattle.xc_model.specs.Moment.{TxView, Moment}
 use Rattle.xc_model.specs.Moment.{with_job}
 use Rattle.xc_model.specs.Moment.{revoked, asked_to_wait, kept_between, TouchesData}
-use Rattle.xc_model.specs.Movers.{asked_at, IsSameBegin, IsSamePosition, with_tx, Mover, HasCalled}
+use Rattle.xc_model.specs.Movers.{asked_at, answered_with, IsSameBegin, IsSamePosition, with_tx, Mover, HasCalled}
 use Rattle.xc_model.specs.Rivals.{HasNoRival, IsFirstRival}
 use Rattle.xc_model.specs.PlainSteps.{Parts, StepsAsPlainIn, tx_parts, noting, stored_by, claims_at, IsReplyInTime, StopsAt, saved_by}
 use Rattle.xc_model.specs.PlainSteps.{IsLeft, wanting}
@@ -80,11 +81,11 @@ module _ (m : Mover) (tx : TxView) where
     pub reply : Reply
     pub place : Position
     pub parts : Parts
-    pub behind : TouchesData m.old m.at (with_tx m.job place (noting tx call reply (claims_at m.old tx call) parts)) new
+    pub behind : TouchesData m.old m.at (answered_with m.job place (noting tx call reply (claims_at m.old tx call) parts)) new
     -- the job stands after the reply
     pub begin : IsSameBegin m.job.place place
     pub walk : walk_of m.setting.script place ≡ answered (walk_of m.setting.script m.job.place) reply
-    pub nearer : m.job.place.at < place.at
+    pub nearer : IsScripted m.setting.script → m.job.place.at < place.at
     -- a save keeps what the variables held where it was asked
     pub saved : place.saved ≡ saved_by call m.job.place.saved (values_at m)
     -- it is kept for the commit or done now
@@ -131,7 +132,7 @@ module _ (m : Mover) (tx : TxView) where
   -- a claim of the call meets a younger holder, and patience is left: the transaction waits, and the holder is marked
   pub record Waits (object : Object) (holder : ℕ) (new : Moment) : Type 0 where
     pub call : Call
-    pub asked : asked_at m.setting m.job.place ≡ ask.Call call
+    pub asked : asked_at m.setting m.job ≡ ask.Call call
     pub met : IsFirstRival m.old.jobs m.at (claims_at m.old tx call) object holder
     pub younger : tx.rank < met.rival.rival.rank
     pub patient : m.job.busy < m.setting.rules.patience
@@ -194,17 +195,17 @@ module _ (m : Mover) (tx : TxView) where
     pub left : List Undo
     pub one : length left ≤ 1
     pub held : List Claim
-    pub holds : HoldsWanting m tx (asked_at m.setting m.job.place) left held
+    pub holds : HoldsWanting m tx (asked_at m.setting m.job) left held
     pub behind : new
         ≡ record (with_job m.old m.at (with_tx m.job place (wanting tx left held))) {
           contents = new.contents;
           calls = new.calls;
           kept = new.kept;
         }
-    pub kept : KeepsWanting m tx (asked_at m.setting m.job.place) (kept_between m.old new)
+    pub kept : KeepsWanting m tx (asked_at m.setting m.job) (kept_between m.old new)
     -- the host was called for no more than the asked call
-    pub uses : HasCalled (StopsAt (asked_at m.setting m.job.place)) m.old new
-    pub contents : IsTrue m.setting.tells → IsLeft m.old new (tx_parts tx) (asked_at m.setting m.job.place) left
+    pub uses : HasCalled (StopsAt (asked_at m.setting m.job)) m.old new
+    pub contents : IsTrue m.setting.tells → IsLeft m.old new (tx_parts tx) (asked_at m.setting m.job) left
 
   -- by the call that is asked
   abbrev pub CalledTurn : Call → Moment → Type 0
@@ -220,7 +221,7 @@ module _ (m : Mover) (tx : TxView) where
 
   -- a running transaction does what is asked, waits, or memory runs out
   abbrev pub RunningTurn : Turn → Moment → Type 0
-  RunningTurn turn.Went new = AskedTurn (asked_at m.setting m.job.place) new
+  RunningTurn turn.Went new = AskedTurn (asked_at m.setting m.job) new
   RunningTurn (turn.Busy object holder) new = Waits m tx object holder new
   RunningTurn turn.NoMemory new = Wants new
   RunningTurn _ new = ⊥

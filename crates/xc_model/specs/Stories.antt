@@ -9,12 +9,13 @@ use Rattle.xc_data.specs.declared.entry.Cause.{Cause}
 use Rattle.xc_data.specs.declared.entry.Entry.{Entry}
 use Rattle.xc_script.specs.declared.ask.Ask.{Ask}
 use Rattle.xc_script.specs.declared.ask.Ask.TheVariants as ask
-use Rattle.xc_script.specs.Blocks.{KeptCalls, all_replied, block_from, none_kept, all_kept}
+use Rattle.xc_script.specs.Blocks.{KeptCalls, all_replied, ask_fits, block_from, none_kept, all_kept}
 use Rattle.xc_data.specs.declared.call.Call.{Call}
 use Rattle.xc_data.specs.declared.call.Call.TheVariants as call
 use Rattle.xc_data.specs.declared.call.LateCall.{LateCall}
 use Rattle.xc_data.specs.declared.call.Reply.{Reply}
 use Rattle.xc_script.specs.Ask.{next_body}
+use Rattle.xc_script.specs.Values.{Values}
 use Rattle.xc_script.specs.Position.{Position, at_begin, walk_of, IsPastSilent}
 use Rattle.xc_world.specs.World.{beginning}
 use Rattle.xc_world.specs.Ends.{AreLegal, is_undone}
@@ -37,6 +38,7 @@ use Rattle.xc_model.specs.Recorded.{Recorded, no_records, all_records, AreFewFau
 use Rattle.xc_data.specs.Calls.{thread_asked, thread_in}
 use Rattle.xc_data.specs.Private.{IsSided}
 use Rattle.xc_model.specs.Moment.{TxView, SavedView, JobView, Doing, Idle, Active, Starved, Ended, actives, active_of, revoked}
+use Rattle.xc_model.specs.Live.{IsScripted, has_clients}
 use Rattle.xc_model.specs.Movers.{asked_at}
 
 -- ---- an active transaction, as a part of its job's story
@@ -62,24 +64,21 @@ IsSidedSave None = Unit {0}
 IsSidedSave (Some kept) = All IsSided kept.places
 
 -- a running one: no compensation was tried
-pub record IsRunning (s : Setting) (f : Following) (place : Position) (tx : TxView) : Type 0 where
-  pub ahead : StandsAfterReplies s f place tx
+pub record IsRunning (tx : TxView) : Type 0 where
   pub none : tx.undo.ended ≡ []
   pub no_ends : tx.ends ≡ []
   pub within : IsWithinSave tx.saved tx.undo.pending
 
 -- a committing one: its commit was asked, and the job stands where its walk does
-pub record IsCommitting (s : Setting) (f : Following) (place : Position) (tx : TxView) : Type 0 where
-  pub ahead : StandsAfterReplies s f place tx
-  pub asked : asked_at s place ≡ ask.Commit
+pub record IsCommitting (s : Setting) (place : Position) (last : Ask) (tx : TxView) : Type 0 where
+  pub asked : last ≡ ask.Commit
   pub settled : IsPastSilent s.script place
   pub none : tx.undo.ended ≡ []
   pub few_ends : length tx.ends ≤ length tx.late
 
--- an undoing one: the job still stands where it was asked what led to it, and the compensations so far have legal ends
-pub record IsUndoing (s : Setting) (f : Following) (place : Position) (tx : TxView) (c : Cause) : Type 0 where
-  pub ahead : StandsAfterReplies s f place tx
-  pub caused : IsCauseOf c (asked_at s place)
+-- an undoing one: where the job stands what led to it was asked, and the compensations so far have legal ends
+pub record IsUndoing (s : Setting) (last : Ask) (tx : TxView) (c : Cause) : Type 0 where
+  pub caused : IsCauseOf c last
   pub legal : AreLegal s.rules.undo_tries (length tx.undo.pending + 1) tx.undo.ended
   pub stuck : IsStuckIn (saved_records (all_records no_records tx.calls tx.replies)) (length tx.undo.pending + 1) tx.undo.ended c
   pub no_ends : tx.ends ≡ []
@@ -90,9 +89,8 @@ IsAboveSave None pending = ⊥
 IsAboveSave (Some kept) pending = length kept.trail ≤ length pending
 
 -- one whose block goes back: the back is asked, and each compensation so far undid its record
-pub record IsBacking (s : Setting) (f : Following) (place : Position) (tx : TxView) : Type 0 where
-  pub ahead : StandsAfterReplies s f place tx
-  pub asked : asked_at s place ≡ ask.Call call.Back
+pub record IsBacking (s : Setting) (place : Position) (last : Ask) (tx : TxView) : Type 0 where
+  pub asked : last ≡ ask.Call call.Back
   pub settled : IsPastSilent s.script place
   pub legal : AreLegal s.rules.undo_tries (length tx.undo.pending + 1) tx.undo.ended
   pub undone : All (λ e. is_undone e.1 ≡ true) tx.undo.ended
@@ -101,11 +99,11 @@ pub record IsBacking (s : Setting) (f : Following) (place : Position) (tx : TxVi
   pub no_ends : tx.ends ≡ []
 
 -- by its phase
-abbrev pub IsInPhase : Setting → Following → Position → TxView → Phase → Type 0
-IsInPhase s f place tx Running = IsRunning s f place tx
-IsInPhase s f place tx Committing = IsCommitting s f place tx
-IsInPhase s f place tx (Undoing c) = IsUndoing s f place tx c
-IsInPhase s f place tx Backing = IsBacking s f place tx
+abbrev pub IsInPhase : Setting → Position → Ask → TxView → Phase → Type 0
+IsInPhase s place last tx Running = IsRunning tx
+IsInPhase s place last tx Committing = IsCommitting s place last tx
+IsInPhase s place last tx (Undoing c) = IsUndoing s last tx c
+IsInPhase s place last tx Backing = IsBacking s place last tx
 
 -- those at a save start the same blocks as the calls that were kept there
 abbrev pub AreKeptAtSave : Option SavedView → Option (List Call) → Type 0
@@ -135,8 +133,24 @@ pub record IsCounted (tx : TxView) (k : Recorded) : Type 0 where
   pub now : HasRecordsIn k tx.phase (tx.undo.pending ++ map (λ r. r.0) tx.undo.ended)
   pub saved : IsCountedSave tx.saved k.saved
 
--- the active transaction of a job that the journal tells so far as f
-pub record IsUnderway (s : Setting) (f : Following) (place : Position) (tx : TxView) : Type 0 where
+-- what an open block's save keeps is this
+abbrev pub IsKeptSo : Option Values → Values → Type 0
+IsKeptSo None values = Unit {0}
+IsKeptSo (Some kept) values = kept ≡ values
+
+-- where clients ask no reply is kept in a variable, nor at a save
+pub record IsOfClient (s : Setting) (f : Following) (place : Position) : Type 0 where
+  pub variables : (walk_of s.script place).variables ≡ f.job.variables
+  pub saved : IsKeptSo place.saved f.job.variables.values
+
+-- a running one is asked what fits its open block: no save in one, and a keep and a back in one alone
+abbrev pub FitsWhereItRuns : Phase → Option SavedView → Ask → Type 0
+FitsWhereItRuns Running saved last = ask_fits (is_some saved) last ≡ true
+-- in any other phase its calls are over, or its block goes back
+FitsWhereItRuns _ saved last = Unit {0}
+
+-- the active transaction of a job that the journal tells so far as f; `last` is asked where it stands
+pub record IsUnderway (s : Setting) (f : Following) (place : Position) (last : Ask) (tx : TxView) : Type 0 where
   pub goes_on : f.starved ≡ false
   pub left : IsSome (next_body s.script f.job)
   pub attempts : length f.failed < s.rules.attempts
@@ -144,8 +158,12 @@ pub record IsUnderway (s : Setting) (f : Following) (place : Position) (tx : TxV
   -- it began after its job's entry before
   pub since : f.since ≤ tx.began
   pub standing : IsInNextTx f place
-  -- its calls are the script's, and its late calls are as many as were kept for the commit, and start the same blocks
-  pub asked : AsksEach (block_from s.script f.job) tx.calls tx.replies
+  -- of a script its calls are the script's, and its job stands after its replies
+  pub asked : IsScripted s.script → AsksEach (block_from s.script f.job) tx.calls tx.replies
+  pub ahead : IsScripted s.script → StandsAfterReplies s f place tx
+  pub client : has_clients s.script ≡ true → IsOfClient s f place
+  pub fits : has_clients s.script ≡ true → FitsWhereItRuns tx.phase tx.saved last
+  -- its late calls are as many as were kept for the commit, and start the same blocks
   pub kept : AreKeptSo tx.late tx.saved (all_kept none_kept tx.calls tx.replies)
   -- those replied late, and no others
   pub in_time : AreInTime tx.calls tx.replies
@@ -157,7 +175,7 @@ pub record IsUnderway (s : Setting) (f : Following) (place : Position) (tx : TxV
   pub together : is_some place.saved ≡ is_some tx.saved
   pub counted : IsCounted tx (all_records no_records tx.calls tx.replies)
   pub faults : AreFewFaults s.rules.undo_tries no_records tx.calls tx.replies
-  pub phase : IsInPhase s f place tx tx.phase
+  pub phase : IsInPhase s place last tx tx.phase
 
 -- ---- a job
 -- the attempts are those that the journal tells
@@ -169,7 +187,7 @@ AreAttempts f (Some a) =
 -- what it does; `begun` transactions have begun in all
 abbrev pub IsDoing : Setting → ℕ → Following → JobView → Doing → Type 0
 IsDoing s begun f job Idle = (f.starved ≡ false) × (job.place ≡ at_begin f.job)
-IsDoing s begun f job (Active tx) = IsUnderway s f job.place tx
+IsDoing s begun f job (Active tx) = IsUnderway s f job.place (asked_at s job) tx
 IsDoing s begun f job Starved = (f.starved ≡ true) × IsSome (next_body s.script f.job)
 IsDoing s begun f job (Ended end) = IsEnd s begun f end
 
@@ -228,28 +246,28 @@ abbrev pub reading : Setting → ℕ → (ℕ → Option Mark) → Reading
 reading s words marks = record { setting = s; words = words; marks = marks }
 
 module _ (r : Reading) where
-  -- an active transaction of the job of this number, which stands in this place
-  abbrev pub part_under_way : ℕ → Position → TxView → Part
-  part_under_way number place tx =
+  -- an active transaction of this job, of this number
+  abbrev pub part_under_way : ℕ → JobView → TxView → Part
+  part_under_way number job tx =
       record {
         number = tx.number;
         job = number;
         rank = tx.rank;
         began = tx.began;
         held = tx.held;
-        wanted = wanted_by r.words tx (asked_at r.setting place);
+        wanted = wanted_by r.words tx (asked_at r.setting job);
         cause = cause_of_phase (r.marks tx.number) tx.phase;
       }
 
   -- a job's active transaction, where it has one
-  abbrev pub active_part : ℕ → Position → Option TxView → Option Part
-  active_part number place None = None
-  active_part number place (Some tx) = Some (part_under_way number place tx)
+  abbrev pub active_part : ℕ → JobView → Option TxView → Option Part
+  active_part number job None = None
+  active_part number job (Some tx) = Some (part_under_way number job tx)
 
   -- of each job, from this number on
   abbrev pub active_parts : ℕ → List JobView → List (Option Part)
   active_parts number [] = []
-  active_parts number (job ∷ jobs) = active_part number job.place (active_of job) ∷ active_parts (number + 1) jobs
+  active_parts number (job ∷ jobs) = active_part number job (active_of job) ∷ active_parts (number + 1) jobs
 
 -- what they are judged against, after this journal
 abbrev pub scene_at : Reading → List Ask → List Entry → List JobView → Scene

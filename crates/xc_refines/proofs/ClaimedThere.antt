@@ -76,7 +76,7 @@ module _ (s : Setting) (now : Moment) (all : AreInFlight s now) (at : ℕ) (job 
   flies = flies_there s now all at job tx there active
 
   held : tx.held ≡ held_of (ran_at w job.me tx).touched
-  held = subst (λ ph. HoldsFor (ran_at w job.me tx) (asked_at s job.place) ph tx.held) runs
+  held = subst (λ ph. HoldsFor (ran_at w job.me tx) (asked_at s job) ph tx.held) runs
       (all.holds at job tx there active)
 
   same : HoldTheSame all_held (tx.held ++ claims)

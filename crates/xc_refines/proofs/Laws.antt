@@ -5,6 +5,9 @@ pub use Rattle.xc_refines.proofs.AtRest.{at_rest}
 -- ---- ClaimedThere: What a call of a running transaction has open and may claim is there.
 -- its object is there
 pub use Rattle.xc_refines.proofs.ClaimedThere.{claimed_there}
+-- ---- HandedFlight: What a client hands in keeps the flights of all: what its transaction did and holds is as it was.
+-- what is handed in keeps the flights of all
+pub use Rattle.xc_refines.proofs.HandedFlight.{handed_flies}
 -- ---- NewEmpty: What the newest record without an end made is empty, and nobody has taken from it: nothing was put there.
 -- so it is
 pub use Rattle.xc_refines.proofs.NewEmpty.{made_empty}

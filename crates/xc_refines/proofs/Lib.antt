@@ -4,6 +4,7 @@ pub mod ClaimedThere
 pub mod FlownJobs
 pub mod FlownLists
 pub mod Grown
+pub mod HandedFlight
 pub mod NewEmpty
 pub mod NewNumbers
 pub mod NextLate

@@ -107,12 +107,12 @@ module _ (s : Setting) (now : Moment) (told : StoriesHold s (length now.words) n
   private = fresh ∙ ap beginning (sym handles)
 
   -- it is played so far
-  pub played_there : IsPlayedSoFar (asked_at s job.place) (length now.words) (progress_of s.script now.journal) at tx
+  pub played_there : IsPlayedSoFar (asked_at s job) (length now.words) (progress_of s.script now.journal) at tx
   played_there =
       let i = (flight_there s now all at job tx there active).inside in
       let w = (state_of s now).world in
       let asked = asked_of tx.calls tx.replies in
-      let next = asked_at s job.place in
+      let next = asked_at s job in
       let ended = subst (λ me. EndSo (body w me tx.number asked) tx) private (end_so w job.me (all.unnoted at) tx tx.phase i.phase) in
       let records = tx.undo.pending ++ map (λ (r : Ending). r.0) tx.undo.ended in
       record {

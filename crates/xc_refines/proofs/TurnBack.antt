@@ -107,7 +107,7 @@ module _ (s : Setting) (p : Progress) (words : List ℕ) (contents : Contents) (
   ran = ran_at p.state.world job.me tx
 
   abbrev asked_next : Ask
-  asked_next = asked_at s job.place
+  asked_next = asked_at s job
 
   active : IsActive flight_now at tx_flown
   active = flown_there f.unnoted jobs at job tx there doing
@@ -128,8 +128,8 @@ module _ (s : Setting) (p : Progress) (words : List ℕ) (contents : Contents) (
   back_keeps c runs =
       flies_on s p words words contents contents started started jobs next at (f.unnoted at) job place tx (record tx { phase = Undoing c }) there doing refl f
       (turns_back flight_now at tx_flown f.flies active (running runs) (f.sound at tx_flown active))
-      (none_unnoted (Undoing c) (asked_at s place) (f.unnoted at) (noted_so runs))
-      (holds_at ran (asked_at s place) (Undoing c) tx.held (held runs))
+      (none_unnoted (Undoing c) (asked_at s (with_tx job place tx)) (f.unnoted at) (noted_so runs))
+      (holds_at ran (asked_at s (with_tx job place tx)) (Undoing c) tx.held (held runs))
 
   -- its block goes back
   pub begins_back_keeps : tx.phase ≡ Running
@@ -137,7 +137,7 @@ module _ (s : Setting) (p : Progress) (words : List ℕ) (contents : Contents) (
   begins_back_keeps runs =
       flies_on s p words words contents contents started started jobs next at (f.unnoted at) job place tx (record tx { phase = Backing }) there doing refl f
       (turns_back flight_now at tx_flown f.flies active (running runs) (f.sound at tx_flown active))
-      (none_unnoted Backing (asked_at s place) (f.unnoted at) (noted_so runs))
+      (none_unnoted Backing (asked_at s (with_tx job place tx)) (f.unnoted at) (noted_so runs))
       (held runs)
 
   -- it commits
@@ -147,13 +147,13 @@ module _ (s : Setting) (p : Progress) (words : List ℕ) (contents : Contents) (
       flies_on s p words (overlaid words tx.writes) contents contents started started jobs next at (f.unnoted at) job place tx
       (record tx { phase = Committing }) there
       doing refl f (commits flight_now at tx_flown f.flies active (running runs))
-      (none_unnoted Committing (asked_at s place) (f.unnoted at) (noted_so runs))
+      (none_unnoted Committing (asked_at s (with_tx job place tx)) (f.unnoted at) (noted_so runs))
       (held runs)
 
   -- a record is tried
   pub tried_keeps : (c : Cause) (older : List Undo) (u : Undo) (end : UndoEnd) (contents' : Contents) → tx.phase ≡ Undoing c
       → tx.undo.pending ≡ older ++ u ∷ [] → IsLegalEnd s.rules.undo_tries u end (way_of older u tx.undo)
-      → contents' ≡ contents_of (undone_to (world_of contents) u end) → asked_at s place ≡ asked_at s job.place
+      → contents' ≡ contents_of (undone_to (world_of contents) u end) → asked_at s (with_tx job place tx) ≡ asked_at s job
       → Flying s p (airfield words contents' started
       (slice_set jobs at (with_tx job place (record tx { undo = record { pending = older; ended = (u, end) ∷ tx.undo.ended } }))) next)
   tried_keeps c older u end contents' undoes newest legal effect still =

@@ -1,5 +1,5 @@
 -- A call that is done and noted keeps all flights.
-use Rattle.std.proofs.Common.{◌≡◌, ℕ, inl, inr, Bool, true, false, List, [], ◌∷◌, ◌++◌, length, refl, ap, sym, ◌∙◌, subst, arith, Some, suc, Option}
+use Rattle.std.proofs.Common.{◌≡◌, ℕ, inl, inr, Bool, true, false, List, [], ◌∷◌, ◌++◌, length, refl, ap, sym, ◌∙◌, subst, arith, Some, Option, None}
 use Rattle.std.specs.Prelude.{All, Contains, map, slice_get, slice_set, nat_lt, nat_le, if◌then◌else◌}
 use Rattle.std.proofs.lemmas.List.Elements.{All-nil, All-cons, All-weaker, All-append, Contains-append_left, Contains-append_right, filter_map-append}
 use Rattle.std.proofs.lemmas.Bool.Decides.{nat_tests}
@@ -16,7 +16,6 @@ use Rattle.xc_data.specs.declared.object.Object.TheVariants as object
 use Rattle.xc_data.specs.declared.private.Private.{Private}
 use Rattle.xc_data.specs.Claims.{claim, owned, owned_object, holding, holding_one, held_of}
 use Rattle.xc_host.specs.Contents.{Contents}
-use Rattle.xc_script.specs.Blocks.{BlockWalk, replied}
 use Rattle.xc_script.specs.Position.{Position}
 use Rattle.xc_world.specs.World.{World}
 use Rattle.xc_world.specs.Act.Step.{Stepped, step_to}
@@ -29,12 +28,11 @@ use Rattle.xc_world.specs.Trail.{recorded}
 use Rattle.xc_model.specs.Setting.{Setting}
 use Rattle.xc_model.specs.Progress.{Progress}
 use Rattle.xc_model.specs.Played.{HoldsFor}
-use Rattle.xc_model.specs.Asked.{AsksEach}
 use Rattle.xc_model.specs.declared.phase.Phase.TheVariants.{Running}
 use Rattle.xc_model.specs.Moment.{SavedView, TxView, JobView, Active, active_in}
 use Rattle.xc_model.specs.Rivals.{HasNoRival}
 use Rattle.xc_model.specs.PlainSteps.{copied, saved_by, noting_plain, Parts, StepsAsPlain, noting, tx_parts, stored_by, contents_seen}
-use Rattle.xc_model.specs.Movers.{asked_at, with_tx}
+use Rattle.xc_model.specs.Movers.{answered_with, asked_at}
 use Rattle.xc_flight.specs.Active.{Tx, Saved, Own, HoldTheSame}
 use Rattle.xc_flight.specs.Active as flight
 use Rattle.xc_flight.specs.Flight.{IsRunningFlight, IsPhase}
@@ -44,16 +42,10 @@ use Rattle.xc_flight.specs.Turns as turns
 use Rattle.xc_flight.proofs.Laws.{merged_held, called_with_claims}
 use Rattle.xc_refines.specs.InFlight.{flown, flown_saved, flown_phase, ran_at}
 use Rattle.xc_refines.proofs.FlownLists.{flown_there, none_unnoted}
-use Rattle.xc_refines.proofs.TurnParts.{Flying, world_in, flight_in, flies_on, airfield}
+use Rattle.xc_refines.proofs.TurnParts.{Flying, world_in, flight_in, moves_on, airfield}
 use Rattle.xc_refines.proofs.TurnRivals.{no_rivals}
 
--- ---- a call more
-pub asked-count : (walk : BlockWalk) (calls : List Call) (replies : List Reply) → AsksEach walk calls replies → length calls ≡ length replies
-asked-count walk [] replies h = ap length (sym h)
-asked-count walk (d ∷ calls) [] h = absurd h
-asked-count walk (d ∷ calls) (q ∷ replies) h = ap suc (asked-count (replied walk q) calls replies h.1)
-
--- the call that is asked last
+-- ---- the call that is asked last
 abbrev pub asked_with : Call → Reply → CallWithAnswer
 asked_with c r = record { call = c; answer = answer_of r }
 
@@ -202,7 +194,7 @@ module _ (s : Setting) (p : Progress) (words : List ℕ) (was is : Contents) (st
   running = ap flown_phase runs
 
   held : tx.held ≡ held_of ran.touched
-  held = subst (λ ph. HoldsFor ran (asked_at s job.place) ph tx.held) runs (f.holds at job tx there (ap active_in doing))
+  held = subst (λ ph. HoldsFor ran (asked_at s job) ph tx.held) runs (f.holds at job tx there (ap active_in doing))
 
   flies_so : IsRunningFlight p.state.world tx_flown
   flies_so = subst (IsPhase p.state.world tx_flown) running (f.flies.flights at tx_flown active).inside.phase
@@ -262,8 +254,8 @@ module _ (s : Setting) (p : Progress) (words : List ℕ) (was is : Contents) (st
 
   -- a call keeps all
   pub calls_keep : All (HasNoRival jobs at) claimed → parts.stores ≡ tx.writes ++ stored_by (length words) c → length tx.calls ≡ length tx.replies
-      → Flying s p (airfield words is started (slice_set jobs at (with_tx job place behind)) next)
+      → Flying s p (airfield words is started (slice_set jobs at (answered_with job place behind)) next)
   calls_keep alone stores count =
-      flies_on s p words words was is started started jobs next at (f.unnoted at) job place tx behind there doing refl f (flies alone stores)
-      (none_unnoted tx.phase (asked_at s place) (f.unnoted at) flies_so.all_noted)
-      (subst (λ ph. HoldsFor (ran_at p.state.world job.me behind) (asked_at s place) ph behind.held) (sym runs) (held_behind count))
+      moves_on s p words words was is started started jobs next at (f.unnoted at) job place None tx behind there doing refl f (flies alone stores)
+      (none_unnoted tx.phase (asked_at s (answered_with job place behind)) (f.unnoted at) flies_so.all_noted)
+      (subst (λ ph. HoldsFor (ran_at p.state.world job.me behind) (asked_at s (answered_with job place behind)) ph behind.held) (sym runs) (held_behind count))

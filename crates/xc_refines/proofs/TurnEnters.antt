@@ -122,15 +122,15 @@ entry_lands s p p' words contents contents' started jobs more next at job job' t
     let set_jobs = slice_set jobs at job' in
     let behind = flight_in w' (world_in w' words contents' started) unnoted set_jobs next in
     let Asked_so : ℕ → JobView → Type 0 = λ j other. (u : TxView) → active_of other ≡ Some u
-    → IsUnnoted u.phase (asked_at s other.place) (unnoted j) in
+    → IsUnnoted u.phase (asked_at s other) (unnoted j) in
     let Idle_so : ℕ → JobView → Type 0 = λ j other. active_of other ≡ None → IsIdleSound w' next other.me.places in
     let Holds_so : ℕ → JobView → Type 0 = λ j other. (u : TxView) → active_of other ≡ Some u
-    → HoldsFor (ran_at w' other.me u) (asked_at s other.place) u.phase u.held in
+    → HoldsFor (ran_at w' other.me u) (asked_at s other) u.phase u.held in
     record {
       unnoted = unnoted;
       was_asked =
           λ j other u e a. grown_cases job'.me.places set_jobs more Asked_so l.new (put_cases jobs at job job' Asked_so there (λ u e. absurd (cc (none, e)))
-          (λ j other ne e u a. subst (IsUnnoted u.phase (asked_at s other.place)) (sym (put_elsewhere f.unnoted at j [] ne)) (f.was_asked j other u e a)))
+          (λ j other ne e u a. subst (IsUnnoted u.phase (asked_at s other)) (sym (put_elsewhere f.unnoted at j [] ne)) (f.was_asked j other u e a)))
           (λ j other is u a. (let lacks = is.none in absurd (cc (lacks, a)))) j other e u a;
       flies = grown_flies job'.me.places behind unnoted set_jobs more l.new (subst InFlight same l.flies);
       sound = grown_sound job'.me.places behind unnoted set_jobs more l.new (subst AreSound same l.sound);
@@ -141,7 +141,7 @@ entry_lands s p p' words contents contents' started jobs more next at job job' t
       live = l.started;
       blocks = sym l.flies.blocks ∙ f.blocks;
       holds = λ j other u e a. grown_cases job'.me.places set_jobs more Holds_so l.new (put_cases jobs at job job' Holds_so there (λ u e. absurd (cc (none, e)))
-          (λ j other ne e u a. holds_alike (ran_at w other.me u) (ran_at w' other.me u) (asked_at s other.place) u.phase u.held (l.bodies j other u ne e a)
+          (λ j other ne e u a. holds_alike (ran_at w other.me u) (ran_at w' other.me u) (asked_at s other) u.phase u.held (l.bodies j other u ne e a)
           (f.holds j other u e a)))
           (λ j other is u a. (let lacks = is.none in absurd (cc (lacks, a)))) j other e u a;
     }

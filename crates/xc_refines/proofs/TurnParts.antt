@@ -14,7 +14,9 @@ use Rattle.xc_model.specs.Played.{HoldsFor}
 use Rattle.xc_model.specs.Stories.{StoriesHold, StoryHolds}
 use Rattle.xc_model.specs.Moment.{TxView, JobView, Active, Moment, active_in, active_of, begun_count}
 use Rattle.xc_model.specs.IdleRows.{new_tx}
-use Rattle.xc_model.specs.Movers.{asked_at, with_tx}
+use Rattle.xc_model.specs.Live.{asked_by, has_clients}
+use Rattle.xc_script.specs.declared.ask.Ask.{Ask}
+use Rattle.xc_model.specs.Movers.{answered_with, asked_at, with_tx}
 use Rattle.xc_flight.specs.Active.{Tx}
 use Rattle.xc_flight.specs.State.{FlightState, InFlight, AreSound, IsIdleSound, begun, turned}
 use Rattle.xc_flight.specs.Turns.{starting}
@@ -52,7 +54,7 @@ flight_at w a unnoted = flight_in w (world_in w a.words a.contents a.started) un
 pub record Flying (s : Setting) (p : Progress) (a : Airfield) : Type 0 where
   pub unnoted : ℕ → List CallWithAnswer
   pub was_asked : (at : ℕ) (job : JobView) (tx : TxView) → slice_get a.jobs at ≡ Some job → active_of job ≡ Some tx
-      → IsUnnoted tx.phase (asked_at s job.place) (unnoted at)
+      → IsUnnoted tx.phase (asked_at s job) (unnoted at)
   pub flies : InFlight (flight_at p.state.world a unnoted)
   pub sound : AreSound (flight_at p.state.world a unnoted)
   pub idle : (at : ℕ) (job : JobView) → slice_get a.jobs at ≡ Some job → active_of job ≡ None → IsIdleSound p.state.world a.next job.me.places
@@ -60,7 +62,7 @@ pub record Flying (s : Setting) (p : Progress) (a : Airfield) : Type 0 where
   pub live : p.state.world.started ≡ map (λ (job : JobView). job.block) a.jobs
   pub blocks : p.state.world.blocks ≡ s.script.outline.jobs ++ s.script.outline.bodies
   pub holds : (at : ℕ) (job : JobView) (tx : TxView) → slice_get a.jobs at ≡ Some job → active_of job ≡ Some tx
-      → HoldsFor (ran_at p.state.world job.me tx) (asked_at s job.place) tx.phase tx.held
+      → HoldsFor (ran_at p.state.world job.me tx) (asked_at s job) tx.phase tx.held
 
 -- of a station
 pub flying_of : (s : Setting) (now : Moment) → AreInFlight s now
@@ -113,9 +115,9 @@ follows_at s words now at job told there =
 -- ---- a job changes, after the same journal
 -- what is true of the job with its transaction, and with what isn't noted
 pub record Right (s : Setting) (p : Progress) (us : List CallWithAnswer) (job : JobView) : Type 0 where
-  pub was_asked : (tx : TxView) → active_of job ≡ Some tx → IsUnnoted tx.phase (asked_at s job.place) us
+  pub was_asked : (tx : TxView) → active_of job ≡ Some tx → IsUnnoted tx.phase (asked_at s job) us
   pub holds : (tx : TxView) → active_of job ≡ Some tx
-      → HoldsFor (ran_at p.state.world job.me tx) (asked_at s job.place) tx.phase tx.held
+      → HoldsFor (ran_at p.state.world job.me tx) (asked_at s job) tx.phase tx.held
 
 -- the others, by place
 pub put_cases : (jobs : List JobView) (at : ℕ) (job job' : JobView) (P : ℕ → JobView → Type 0) → slice_get jobs at ≡ Some job → P at job'
@@ -141,14 +143,14 @@ changed s p words words' contents contents' started started' jobs next next' at 
     let w = p.state.world in
     let Idle_so : ℕ → JobView → Type 0 = λ j other. active_of other ≡ None → IsIdleSound w next' other.me.places in
     let Holds_so : ℕ → JobView → Type 0 = λ j other. (u : TxView) → active_of other ≡ Some u
-    → HoldsFor (ran_at w other.me u) (asked_at s other.place) u.phase u.held in
+    → HoldsFor (ran_at w other.me u) (asked_at s other) u.phase u.held in
     let Asked_so : ℕ → JobView → Type 0 = λ j other. (u : TxView) → active_of other ≡ Some u
-    → IsUnnoted u.phase (asked_at s other.place) (put_in f.unnoted at us j) in
+    → IsUnnoted u.phase (asked_at s other) (put_in f.unnoted at us j) in
     record {
       unnoted = put_in f.unnoted at us;
       was_asked = λ j other u e a. put_cases jobs at job job' Asked_so there
-          (λ u a. subst (IsUnnoted u.phase (asked_at s job'.place)) (sym (put_here f.unnoted at us)) (right.was_asked u a))
-          (λ j other ne e u a. subst (IsUnnoted u.phase (asked_at s other.place)) (sym (put_elsewhere f.unnoted at j us ne))
+          (λ u a. subst (IsUnnoted u.phase (asked_at s job')) (sym (put_here f.unnoted at us)) (right.was_asked u a))
+          (λ j other ne e u a. subst (IsUnnoted u.phase (asked_at s other)) (sym (put_elsewhere f.unnoted at j us ne))
           (f.was_asked j other u e a)) j other e u a;
       flies = flies;
       sound = sound;
@@ -160,35 +162,35 @@ changed s p words words' contents contents' started started' jobs next next' at 
     }
 
 -- ---- the job's transaction goes on
-active_one : (job : JobView) (place : Position) (tx u : TxView) → active_of (with_tx job place tx) ≡ Some u → tx ≡ u
-active_one job place tx u e = cc e
+active_one : (tx u : TxView) → active_in (Active tx) ≡ Some u → tx ≡ u
+active_one tx u e = cc e
 
 -- what is true of an active transaction
-pub right_active : (s : Setting) (p : Progress) (us : List CallWithAnswer) (job : JobView) (place : Position) (tx : TxView) (busy : ℕ)
-    → IsUnnoted tx.phase (asked_at s place) us
-    → HoldsFor (ran_at p.state.world job.me tx) (asked_at s place) tx.phase tx.held
-    → Right s p us (record (with_tx job place tx) { busy = busy })
-right_active s p us job place tx busy asked holds =
+pub right_active : (s : Setting) (p : Progress) (us : List CallWithAnswer) (job : JobView) (tx : TxView) → job.doing ≡ Active tx
+    → IsUnnoted tx.phase (asked_at s job) us
+    → HoldsFor (ran_at p.state.world job.me tx) (asked_at s job) tx.phase tx.held
+    → Right s p us job
+right_active s p us job tx is asked holds =
     let w = p.state.world in
     record {
-      was_asked = λ u e. subst (λ (v : TxView). IsUnnoted v.phase (asked_at s place) us) (active_one job place tx u e) asked;
-      holds = λ u e. subst (λ (v : TxView). HoldsFor (ran_at w job.me v) (asked_at s place) v.phase v.held)
-          (active_one job place tx u e) holds;
+      was_asked = λ u e. subst (λ (v : TxView). IsUnnoted v.phase (asked_at s job) us) (active_one tx u (sym (ap active_in is) ∙ e)) asked;
+      holds = λ u e. subst (λ (v : TxView). HoldsFor (ran_at w job.me v) (asked_at s job) v.phase v.held)
+          (active_one tx u (sym (ap active_in is) ∙ e)) holds;
     }
 
 -- it keeps all, where it keeps the flights
-pub flies_on : (s : Setting) (p : Progress) (words words' : List ℕ) (contents contents' : Contents) (started started' : List (List ℕ)) (jobs : List JobView)
+pub moves_on : (s : Setting) (p : Progress) (words words' : List ℕ) (contents contents' : Contents) (started started' : List (List ℕ)) (jobs : List JobView)
     (next at : ℕ) (us : List CallWithAnswer)
-    (job : JobView) (place : Position) (tx tx' : TxView) → slice_get jobs at ≡ Some job → job.doing ≡ Active tx → tx'.number ≡ tx.number
+    (job : JobView) (place : Position) (handed : Option Ask) (tx tx' : TxView) → slice_get jobs at ≡ Some job → job.doing ≡ Active tx → tx'.number ≡ tx.number
     → (f : Flying s p (airfield words contents started jobs next))
     → InFlight (turned (flight_in p.state.world (world_in p.state.world words contents started) f.unnoted jobs next) at (Some (flown job.me us tx'))
     (world_in p.state.world words' contents' started'))
-    → IsUnnoted tx'.phase (asked_at s place) us
-    → HoldsFor (ran_at p.state.world job.me tx') (asked_at s place) tx'.phase tx'.held
-    → Flying s p (airfield words' contents' started' (slice_set jobs at (with_tx job place tx')) next)
-flies_on s p words words' contents contents' started started' jobs next at us job place tx tx' there is number f flies asked holds =
+    → IsUnnoted tx'.phase (asked_by (has_clients s.script) s.script handed place) us
+    → HoldsFor (ran_at p.state.world job.me tx') (asked_by (has_clients s.script) s.script handed place) tx'.phase tx'.held
+    → Flying s p (airfield words' contents' started' (slice_set jobs at (record job { place = place; handed = handed; doing = Active tx' })) next)
+moves_on s p words words' contents contents' started started' jobs next at us job place handed tx tx' there is number f flies asked holds =
     let w = p.state.world in
-    let job' : JobView = with_tx job place tx' in
+    let job' : JobView = record job { place = place; handed = handed; doing = Active tx' } in
     let put : flown_jobs (put_in f.unnoted at us) (slice_set jobs at job') ≡ slice_set (flown_jobs f.unnoted jobs) at (Some (flown job.me us tx')) =
     flown-put f.unnoted jobs at us job' in
     let behind : (active : List (Option Tx)) → FlightState =
@@ -198,7 +200,20 @@ flies_on s p words words' contents contents' started started' jobs next at us jo
     changed s p words words' contents contents' started started' jobs next next at us job job' there (omega arith) refl refl f
     (subst (λ active. InFlight (behind active)) (sym put) flies)
     (subst (λ active. AreSound (behind active)) (sym put) sound)
-    (λ none. cc none) (right_active s p us job place tx' job.busy asked holds)
+    (λ none. cc none) (right_active s p us job' tx' refl asked holds)
+
+-- with what was handed in
+pub flies_on : (s : Setting) (p : Progress) (words words' : List ℕ) (contents contents' : Contents) (started started' : List (List ℕ)) (jobs : List JobView)
+    (next at : ℕ) (us : List CallWithAnswer)
+    (job : JobView) (place : Position) (tx tx' : TxView) → slice_get jobs at ≡ Some job → job.doing ≡ Active tx → tx'.number ≡ tx.number
+    → (f : Flying s p (airfield words contents started jobs next))
+    → InFlight (turned (flight_in p.state.world (world_in p.state.world words contents started) f.unnoted jobs next) at (Some (flown job.me us tx'))
+    (world_in p.state.world words' contents' started'))
+    → IsUnnoted tx'.phase (asked_at s (with_tx job place tx')) us
+    → HoldsFor (ran_at p.state.world job.me tx') (asked_at s (with_tx job place tx')) tx'.phase tx'.held
+    → Flying s p (airfield words' contents' started' (slice_set jobs at (with_tx job place tx')) next)
+flies_on s p words words' contents contents' started started' jobs next at us job place tx tx' there is number f flies asked holds =
+    moves_on s p words words' contents contents' started started' jobs next at us job place job.handed tx tx' there is number f flies asked holds
 
 -- ---- an idle job
 -- what is true of a job without a transaction
@@ -226,28 +241,38 @@ flies_idle s p words contents started jobs next at job job' there none none' me 
     (subst (λ active. AreSound (behind active)) (sym same) f.sound)
     (λ same. subst (λ (m : Private). IsIdleSound w next m.places) (sym me) (f.idle at job there none)) (right_idle s p [] job' none')
 
--- it does what it did: it passed silent statements, or was told to wait
-pub flies_waiting : (s : Setting) (p : Progress) (words : List ℕ) (contents : Contents) (started : List (List ℕ)) (jobs : List JobView)
+-- it does what it did, whatever it is asked
+pub flies_still : (s : Setting) (p : Progress) (words : List ℕ) (contents : Contents) (started : List (List ℕ)) (jobs : List JobView)
     (next at : ℕ) (job job' : JobView)
     → slice_get jobs at ≡ Some job → job'.doing ≡ job.doing → job'.me ≡ job.me → job'.block ≡ job.block
-    → asked_at s job'.place ≡ asked_at s job.place
-    → Flying s p (airfield words contents started jobs next) → Flying s p (airfield words contents started (slice_set jobs at job') next)
-flies_waiting s p words contents started jobs next at job job' there doing me block still f =
+    → (f : Flying s p (airfield words contents started jobs next)) → Right s p (f.unnoted at) job'
+    → Flying s p (airfield words contents started (slice_set jobs at job') next)
+flies_still s p words contents started jobs next at job job' there doing me block f right =
     let w = p.state.world in
     let us = f.unnoted at in
     let same : flown_jobs (put_in f.unnoted at us) (slice_set jobs at job') ≡ flown_jobs f.unnoted jobs =
     flown-put_same f.unnoted jobs at us job job' there (λ i. flown_in (me i) us (doing i)) in
     let behind : (active : List (Option Tx)) → FlightState =
     λ (active : List (Option Tx)). record { state = w; now = world_in w words contents started; active = active; next = next } in
-    let was : (o : Option TxView) → active_of job' ≡ o → active_of job ≡ o = λ o e. sym (ap active_in doing) ∙ e in
     changed s p words words contents contents started started jobs next next at us job job' there (omega arith) me block f
     (subst (λ active. InFlight (behind active)) (sym same) f.flies)
     (subst (λ active. AreSound (behind active)) (sym same) f.sound)
-    (λ none. subst (λ (m : Private). IsIdleSound w next m.places) (sym me) (f.idle at job there (was None none)))
+    (λ none. subst (λ (m : Private). IsIdleSound w next m.places) (sym me) (f.idle at job there (sym (ap active_in doing) ∙ none))) right
+
+-- and what it is asked stays: it passed silent statements, or was told to wait
+pub flies_waiting : (s : Setting) (p : Progress) (words : List ℕ) (contents : Contents) (started : List (List ℕ)) (jobs : List JobView)
+    (next at : ℕ) (job job' : JobView)
+    → slice_get jobs at ≡ Some job → job'.doing ≡ job.doing → job'.me ≡ job.me → job'.block ≡ job.block
+    → asked_at s job' ≡ asked_at s job
+    → Flying s p (airfield words contents started jobs next) → Flying s p (airfield words contents started (slice_set jobs at job') next)
+flies_waiting s p words contents started jobs next at job job' there doing me block still f =
+    let w = p.state.world in
+    let was : (u : TxView) → active_of job' ≡ Some u → active_of job ≡ Some u = λ u e. sym (ap active_in doing) ∙ e in
+    flies_still s p words contents started jobs next at job job' there doing me block f
     (record {
-      was_asked = λ u e. subst (λ a. IsUnnoted u.phase a us) (sym still) (f.was_asked at job u there (was (Some u) e));
-      holds = λ u e. subst (λ (m : Private). HoldsFor (ran_at w m u) (asked_at s job'.place) u.phase u.held) (sym me)
-          (subst (λ a. HoldsFor (ran_at w job.me u) a u.phase u.held) (sym still) (f.holds at job u there (was (Some u) e)));
+      was_asked = λ u e. subst (λ a. IsUnnoted u.phase a (f.unnoted at)) (sym still) (f.was_asked at job u there (was u e));
+      holds = λ u e. subst (λ (m : Private). HoldsFor (ran_at w m u) (asked_at s job') u.phase u.held) (sym me)
+          (subst (λ a. HoldsFor (ran_at w job.me u) a u.phase u.held) (sym still) (f.holds at job u there (was u e)));
     })
 
 -- its next transaction begins
@@ -255,11 +280,12 @@ pub begins_next : (s : Setting) (p : Progress) (words : List ℕ) (contents : Co
     (job : JobView) (place : Position)
     (rank began : ℕ) → slice_get jobs at ≡ Some job → active_of job ≡ None → job.me ≡ beginning job.me.places
     → Flying s p (airfield words contents started jobs next)
-    → Flying s p (airfield words contents started (slice_set jobs at (record (with_tx job place (new_tx next rank began job.me)) { busy = 0 })) (next + 1))
+    → Flying s p
+    (airfield words contents started (slice_set jobs at (record (answered_with job place (new_tx next rank began job.me)) { busy = 0 })) (next + 1))
 begins_next s p words contents started jobs next at job place rank began there none fresh f =
     let w = p.state.world in
     let tx : TxView = new_tx next rank began job.me in
-    let job' : JobView = record (with_tx job place tx) { busy = 0 } in
+    let job' : JobView = record (answered_with job place tx) { busy = 0 } in
     let st = flight_in w (world_in w words contents started) f.unnoted jobs next in
     let lt : at < length st.active = (let a = slice_get_within jobs at job there in omega (arith, a, flown-count f.unnoted jobs)) in
     let put : flown_jobs (put_in f.unnoted at []) (slice_set jobs at job') ≡ slice_set (flown_jobs f.unnoted jobs) at (Some (flown job.me [] tx)) =
@@ -273,4 +299,4 @@ begins_next s p words contents started jobs next at job place rank began there n
     changed s p words words contents contents started started jobs next (next + 1) at [] job job' there (omega arith) refl refl f
     (subst (λ active. InFlight (behind active)) (sym put) flies)
     (subst (λ active. AreSound (behind active)) (sym put) sound)
-    (λ none. cc none) (right_active s p [] job place tx 0 tt refl)
+    (λ none. cc none) (right_active s p [] job' tx refl tt refl)

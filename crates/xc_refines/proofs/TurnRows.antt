@@ -12,18 +12,17 @@ use Rattle.xc_data.specs.declared.entry.Outcome.TheVariants.{Committed, Aborted}
 use Rattle.xc_compensate.specs.Records.{Records}
 use Rattle.xc_host.specs.Contents.{Contents}
 use Rattle.xc_host.specs.Kept.{with_kept}
-use Rattle.xc_script.specs.Asking.{asks}
-use Rattle.xc_script.specs.Blocks.{block_from}
 use Rattle.xc_script.specs.Position.{Position}
 use Rattle.xc_txmem.specs.Overlay.{overlaid}
 use Rattle.xc_data.specs.declared.entry.Mark.{Mark}
+use Rattle.xc_model.proofs.Laws.{in_time-count, asked_same}
 use Rattle.xc_model.specs.declared.phase.Phase.TheVariants.{Running, Committing, Undoing, Backing}
 use Rattle.xc_model.specs.Setting.{Setting}
 use Rattle.xc_model.specs.Progress.{Progress, progress_of, after_entry}
 use Rattle.xc_model.specs.Stories.{StoriesHold, IsAboveSave, IsBacking, IsCommitting, IsDoing, IsInPhase, IsUnderway}
 use Rattle.xc_model.specs.Moment.{TxView, SavedView, JobView, Doing, Active, Moment, active_in, active_of, actives, begun_count, entering, late_left, rank_of}
 use Rattle.xc_model.specs.Moment.{revoked, with_job}
-use Rattle.xc_model.specs.Movers.{asked_at, with_tx}
+use Rattle.xc_model.specs.Movers.{answered_with, asked_at, with_tx}
 use Rattle.xc_model.specs.Entering.{behind_abort, behind_commit, entry_of}
 use Rattle.xc_model.specs.IdleRows.{beginning_at, beginning_job}
 use Rattle.xc_model.specs.PlainSteps.{claims_at, noting, contents_seen, wanting}
@@ -37,7 +36,7 @@ use Rattle.xc_refines.proofs.TurnBack.{back_keeps, begins_back_keeps, commit_kee
 use Rattle.xc_refines.proofs.TurnWayBack.{cut_keeps, backs_one_keeps, ends_back_keeps}
 use Rattle.xc_model.specs.BackingRows.{phase_after, backed, BacksOne, EndsBack}
 use Rattle.xc_world.specs.Fits.{is_back}
-use Rattle.xc_refines.proofs.TurnCalls.{Stepping, asked-count, calls_keep}
+use Rattle.xc_refines.proofs.TurnCalls.{Stepping, calls_keep}
 use Rattle.xc_refines.proofs.TurnEnters.{commit_lands, entry_lands}
 use Rattle.xc_refines.proofs.Grown.{idle_actives, started_new, started_their_blocks}
 use Rattle.xc_refines.proofs.StartedWorld.{starts_there}
@@ -74,7 +73,7 @@ count_put : (jobs : List JobView) (at : ℕ) (job job' : JobView) → slice_get 
 count_put jobs at job job' there = picked_set active_of jobs at job' job there
 
 -- where the journal stays, and as many are active
-row_kept : (s : Setting) (old new : Moment) (at : ℕ) (job job' : JobView) → slice_get old.jobs at ≡ Some job → ones (active_of job') ≡ ones (active_of job)
+pub row_kept : (s : Setting) (old new : Moment) (at : ℕ) (job job' : JobView) → slice_get old.jobs at ≡ Some job → ones (active_of job') ≡ ones (active_of job)
     → new.journal ≡ old.journal → new.jobs ≡ slice_set old.jobs at job'
     → Flying s (progress_of s.script old.journal) (airfield new.words new.contents new.started (slice_set old.jobs at job') (begun_count old + 1))
     → AreInFlight s new
@@ -130,7 +129,7 @@ module _ (s : Setting) (old : Moment) (at : ℕ) (job : JobView) (there : slice_
 
   -- a job is told to wait
   pub row_waits : (new : Moment) (job' : JobView) → job'.doing ≡ job.doing → job'.me ≡ job.me → job'.block ≡ job.block
-      → asked_at s job'.place ≡ asked_at s job.place → new ≡ record old { jobs = slice_set old.jobs at job'; marks = new.marks } → AreInFlight s new
+      → asked_at s job' ≡ asked_at s job → new ≡ record old { jobs = slice_set old.jobs at job'; marks = new.marks } → AreInFlight s new
   row_waits new job' doing me block still is =
       subst (AreInFlight s) (sym is) (row_kept s old (record old { jobs = slice_set old.jobs at job'; marks = new.marks }) at job job' there
       (ap (λ d. ones (active_in d)) doing) refl refl
@@ -144,7 +143,7 @@ module _ (s : Setting) (old : Moment) (at : ℕ) (job : JobView) (there : slice_
     one : ones here ≡ 1
     one = ap (λ d. ones (active_in d)) doing
 
-    underway : IsUnderway s follows.following job.place tx
+    underway : IsUnderway s follows.following job.place (asked_at s job) tx
     underway = subst (IsDoing s (begun_count old) follows.following job) doing follows.told.doing
 
     as_new : (new : Moment) (jobs : List JobView) → new.words ≡ old.words → new.started ≡ old.started
@@ -171,13 +170,14 @@ module _ (s : Setting) (old : Moment) (at : ℕ) (job : JobView) (there : slice_
           does = row.does tells at_words refl;
           ended = ap (λ (u : Records). u.ended) row.undo;
         } in
-        let count = asked-count (block_from s.script follows.following.job) tx.calls tx.replies underway.asked in
+        let count = in_time-count tx.calls tx.replies underway.in_time in
         let done = calls_keep s before old.words old.contents new.contents old.started old.jobs (begun_count old + 1) at job row.place tx c row.reply
         row.parts ahead there doing
         runs go f row.free row.stores count in
         let next : TxView = noting tx c row.reply (claims_at old tx c) row.parts in
-        kept new row.place next (ap (λ (n : Moment). n.journal) row.behind) (ap (λ (n : Moment). n.jobs) row.behind)
-        (as_new new (slice_set old.jobs at (with_tx job row.place next)) (ap (λ (n : Moment). n.words) row.behind)
+        row_kept s old new at job (answered_with job row.place next) there (sym one) (ap (λ (n : Moment). n.journal) row.behind)
+        (ap (λ (n : Moment). n.jobs) row.behind)
+        (as_new new (slice_set old.jobs at (answered_with job row.place next)) (ap (λ (n : Moment). n.words) row.behind)
         (ap (λ (n : Moment). n.started) row.behind) done)
 
     -- the rollback begins
@@ -225,8 +225,8 @@ module _ (s : Setting) (old : Moment) (at : ℕ) (job : JobView) (there : slice_
         (backs_one_keeps s before old.words old.contents old.started old.jobs (begun_count old + 1) at job job.place tx there doing f backing row.older
         row.tried row.end new.contents (length row.older + 1) row.newest row.legal (row.effect tells)))
 
-    backing_so : tx.phase ≡ Backing → IsBacking s follows.following job.place tx
-    backing_so backing = subst (IsInPhase s follows.following job.place tx) backing underway.phase
+    backing_so : tx.phase ≡ Backing → IsBacking s job.place (asked_at s job) tx
+    backing_so backing = subst (IsInPhase s job.place (asked_at s job) tx) backing underway.phase
 
     -- its block has gone back
     pub row_ends_back : (new : Moment) (saved : SavedView) → IsTrue s.tells → tx.phase ≡ Backing → tx.saved ≡ Some saved
@@ -235,8 +235,10 @@ module _ (s : Setting) (old : Moment) (at : ℕ) (job : JobView) (there : slice_
         let b = backing_so backing in
         let within : length saved.trail ≤ length tx.undo.pending = subst (λ o. IsAboveSave o tx.undo.pending) is b.within in
         let tx' : TxView = backed tx saved in
-        kept new row.place tx' (ap (λ (n : Moment). n.journal) row.behind) (ap (λ (n : Moment). n.jobs) row.behind)
-        (as_new new (slice_set old.jobs at (with_tx job row.place tx')) (ap (λ (n : Moment). n.words) row.behind) (ap (λ (n : Moment). n.started) row.behind)
+        row_kept s old new at job (answered_with job row.place tx') there (sym one) (ap (λ (n : Moment). n.journal) row.behind)
+        (ap (λ (n : Moment). n.jobs) row.behind)
+        (as_new new (slice_set old.jobs at (answered_with job row.place tx')) (ap (λ (n : Moment). n.words) row.behind)
+        (ap (λ (n : Moment). n.started) row.behind)
         (ends_back_keeps s before old.words old.contents old.started old.jobs (begun_count old + 1) at job row.place tx there doing f backing saved new.contents
         is (grind (arith, few, within)) b.undone (row.returned tells)))
 
@@ -253,7 +255,8 @@ module _ (s : Setting) (old : Moment) (at : ℕ) (job : JobView) (there : slice_
         let next : TxView = wanting tx row.left row.held in
         kept new row.place next (ap (λ (n : Moment). n.journal) row.behind) (ap (λ (n : Moment). n.jobs) row.behind)
         (as_new new (slice_set old.jobs at (with_tx job row.place next)) (ap (λ (n : Moment). n.words) row.behind) (ap (λ (n : Moment). n.started) row.behind)
-        (wants_so s before old new (begun_count old + 1) at job row.place tx there doing f runs (ap asks row.same.walk) (asked_at s job.place) row.left row.held
+        (wants_so s before old new (begun_count old + 1) at job row.place tx there doing f runs (asked_same s job row.place row.same) (asked_at s job)
+        row.left row.held
         refl row.holds (row.contents tells)))
 
     -- a record is tried
@@ -266,8 +269,8 @@ module _ (s : Setting) (old : Moment) (at : ℕ) (job : JobView) (there : slice_
         row.end new.contents
         undoes row.newest row.legal (row.effect tells) refl))
 
-    committing : tx.phase ≡ Committing → IsCommitting s follows.following job.place tx
-    committing commits = subst (IsInPhase s follows.following job.place tx) commits underway.phase
+    committing : tx.phase ≡ Committing → IsCommitting s job.place (asked_at s job) tx
+    committing commits = subst (IsInPhase s job.place (asked_at s job) tx) commits underway.phase
 
     -- a late call
     pub row_ends_late : (new : Moment) (call : LateCall) (calls : List LateCall) → IsTrue s.tells → tx.phase ≡ Committing → late_left tx ≡ call ∷ calls

@@ -10,8 +10,8 @@ use Rattle.xc_data.specs.declared.entry.Turn.TheVariants as turn
 use Rattle.xc_data.specs.declared.undo.Undo.{Undo}
 use Rattle.xc_script.specs.declared.ask.Ask.{Ask}
 use Rattle.xc_script.specs.declared.ask.Ask.TheVariants as ask
-use Rattle.xc_script.specs.Asking.{asks}
 use Rattle.xc_data.specs.declared.entry.Mark.{Mark}
+use Rattle.xc_model.proofs.Laws.{asked_same}
 use Rattle.xc_model.specs.declared.phase.Phase.{Phase}
 use Rattle.xc_model.specs.declared.phase.Phase.TheVariants.{Running, Committing, Undoing, Backing}
 use Rattle.xc_model.specs.Setting.{Setting}
@@ -74,7 +74,7 @@ module _ (s : Setting) (old : Moment) (at : ℕ) (job : JobView) (there : slice_
     running_flies turn.Went runs row = asked_flies _ runs row
     running_flies turn.NoMemory runs row = row_wants s old at job there told flying tx doing new tells runs row
     running_flies (turn.Busy object holder) runs row =
-        row_waits s old at job there told flying new (asked_to_wait (with_tx job row.place tx)) (sym doing) refl refl (ap asks row.same.walk)
+        row_waits s old at job there told flying new (asked_to_wait (with_tx job row.place tx)) (sym doing) refl refl (asked_same s job row.place row.same)
         (waits_only old new at (asked_to_wait (with_tx job row.place tx)) _ row.behind)
     running_flies (turn.Ended end) runs row = absurd row
 

@@ -71,7 +71,7 @@ module _ (s : Setting) (p : Progress) (words : List ℕ) (contents : Contents) (
   ran = ran_at p.state.world job.me tx
 
   abbrev asked_next : Ask
-  asked_next = asked_at s job.place
+  asked_next = asked_at s job
 
   active : IsActive flight_now at tx_flown
   active = flown_there f.unnoted jobs at job tx there doing
@@ -83,7 +83,7 @@ module _ (s : Setting) (p : Progress) (words : List ℕ) (contents : Contents) (
   held_so = subst (λ ph. HoldsFor ran asked_next ph tx.held) runs (f.holds at job tx there (ap active_in doing))
 
   -- ---- after the claims of the call that is asked
-  module _ (c : Call) (asks : asked_at s place ≡ ask.Call c) (alone : All (HasNoRival jobs at) (claims_of c tx.me (length words))) where
+  module _ (c : Call) (asks : asked_at s (with_tx job place tx) ≡ ask.Call c) (alone : All (HasNoRival jobs at) (claims_of c tx.me (length words))) where
     abbrev claims : List Claim
     claims = claims_of c tx.me (length words)
 
@@ -121,18 +121,18 @@ module _ (s : Setting) (p : Progress) (words : List ℕ) (contents : Contents) (
       abbrev wanter : TxView
       wanter = wanting tx left all_held
 
-      wanter_holds : HoldsFor ran (asked_at s place) (Undoing cause.NoMemory) all_held
+      wanter_holds : HoldsFor ran (asked_at s (with_tx job place tx)) (Undoing cause.NoMemory) all_held
       wanter_holds =
           let me : ran.me ≡ tx.me = (f.flies.flights at tx_flown active).inside.me in
           let many : length ran.world.words ≡ length words =
           (body_keeps p.state.world job.me tx.number (asked_of tx.calls tx.replies)).count ∙ sym f.flies.count in
           let touches : claims ≡ claims_of c ran.me (length ran.world.words) = λ i. claims_of c (sym me i) (sym many i) in
-          let wanted : claims ≡ next_claims ran (asked_at s place) = touches ∙ ap (next_claims ran) (sym asks) in
+          let wanted : claims ≡ next_claims ran (asked_at s (with_tx job place tx)) = touches ∙ ap (next_claims ran) (sym asks) in
           (claims, subst (IsPartOf claims) wanted (part_itself claims), ap (λ l. holding l claims) held_so ∙ holding-more ran.touched claims)
 
       wanter_keeps : (us : List CallWithAnswer) (contents' : Contents)
           → InFlight (turned flight_now at (Some (flown job.me us wanter)) (world_in p.state.world words contents' started))
-          → IsUnnoted (Undoing cause.NoMemory) (asked_at s place) us
+          → IsUnnoted (Undoing cause.NoMemory) (asked_at s (with_tx job place tx)) us
           → Flying s p (airfield words contents' started (slice_set jobs at (with_tx job place wanter)) next)
       wanter_keeps us contents' flies was =
           flies_on s p words words contents contents' started started jobs next at us job place tx wanter there doing refl f flies was wanter_holds
@@ -144,7 +144,7 @@ module _ (s : Setting) (p : Progress) (words : List ℕ) (contents : Contents) (
         (subst (λ us. InFlight (turned flight_now at (Some (flown job.me (f.unnoted at)
         (record tx { phase = Undoing cause.NoMemory; undo = record tx.undo { pending = us }; held = all_held }))) flight_now.now))
         (sym (append-nil tx.undo.pending)) left_nothing)
-        (none_unnoted (Undoing cause.NoMemory) (asked_at s place) (f.unnoted at)
+        (none_unnoted (Undoing cause.NoMemory) (asked_at s (with_tx job place tx)) (f.unnoted at)
         (is_running flight_now at tx_flown f.flies active running).all_noted)
 
     -- the call did its part, with this answer, and these records are left
@@ -189,12 +189,12 @@ module _ (s : Setting) (p : Progress) (words : List ℕ) (contents : Contents) (
 module _ (s : Setting) (p : Progress) (old new : Moment) (next at : ℕ) (job : JobView) (place : Position) (tx : TxView)
     (there : slice_get old.jobs at ≡ Some job)
     (doing : job.doing ≡ Active tx) (f : Flying s p (airfield old.words old.contents old.started old.jobs next)) (runs : tx.phase ≡ Running)
-    (still : asked_at s place ≡ asked_at s job.place) where
+    (still : asked_at s (with_tx job place tx) ≡ asked_at s job) where
   abbrev Wanting : List Undo → List Claim → Contents → Type 0
   Wanting left held contents = Flying s p (airfield old.words contents old.started (slice_set old.jobs at (with_tx job place (wanting tx left held))) next)
 
   -- a call that left nothing changed nothing at the host
-  same_there : (a : Ask) → asked_at s job.place ≡ a → IsLeft old new (tx_parts tx) a [] → new.contents ≡ old.contents
+  same_there : (a : Ask) → asked_at s job ≡ a → IsLeft old new (tx_parts tx) a [] → new.contents ≡ old.contents
   same_there a asked (inl none) = none.1
   same_there (ask.Call c) asked (inr (answer, does)) =
       let w = record p.state.world { words = old.words; started = old.started } in
@@ -206,7 +206,7 @@ module _ (s : Setting) (p : Progress) (old new : Moment) (next at : ℕ) (job : 
   same_there ask.End asked (inr part) = absurd part
 
   -- it holds no more
-  wants_same : (a : Ask) (left : List Undo) (held : List Claim) → asked_at s job.place ≡ a → (left ≡ []) × (held ≡ tx.held)
+  wants_same : (a : Ask) (left : List Undo) (held : List Claim) → asked_at s job ≡ a → (left ≡ []) × (held ≡ tx.held)
       → IsLeft old new (tx_parts tx) a left → Wanting left held new.contents
   wants_same a left held asked same leaves =
       subst (Wanting left held) (sym (same_there a asked (subst (IsLeft old new (tx_parts tx) a) same.0 leaves)))
@@ -215,7 +215,7 @@ module _ (s : Setting) (p : Progress) (old new : Moment) (next at : ℕ) (job : 
       (wants_keeps s p old.words old.contents old.started old.jobs next at job place tx there doing f runs)))
 
   -- it keeps all
-  pub wants_so : (a : Ask) (left : List Undo) (held : List Claim) → asked_at s job.place ≡ a → HoldsWanting (mover s at old job) tx a left held
+  pub wants_so : (a : Ask) (left : List Undo) (held : List Claim) → asked_at s job ≡ a → HoldsWanting (mover s at old job) tx a left held
       → IsLeft old new (tx_parts tx) a left → Wanting left held new.contents
   wants_so (ask.Call c) left held asked (inl same) leaves = wants_same (ask.Call c) left held asked same leaves
   wants_so (ask.Call c) left held asked (inr more) (inl none) =

@@ -1,5 +1,5 @@
 -- A block that goes back keeps all flights: its compensations, its end, and what cuts it short.
-use Rattle.std.proofs.Common.{◌≡◌, ℕ, true, List, [], ◌∷◌, ◌++◌, length, refl, ap, sym, ◌∙◌, subst, Some}
+use Rattle.std.proofs.Common.{◌≡◌, ℕ, true, List, [], ◌∷◌, ◌++◌, length, refl, ap, sym, ◌∙◌, subst, None, Some}
 use Rattle.std.specs.Prelude.{All, slice_get, slice_set, drop}
 use Rattle.std.proofs.lemmas.List.Elements.{All-head, All-tail}
 use Rattle.xc_data.specs.declared.call.CallWithAnswer.{CallWithAnswer}
@@ -24,7 +24,7 @@ use Rattle.xc_model.specs.Setting.{Setting}
 use Rattle.xc_model.specs.Progress.{Progress}
 use Rattle.xc_model.specs.Played.{HoldsFor}
 use Rattle.xc_model.specs.Moment.{TxView, SavedView, JobView, Active, active_in}
-use Rattle.xc_model.specs.Movers.{asked_at, with_tx}
+use Rattle.xc_model.specs.Movers.{answered_with, asked_at, with_tx}
 use Rattle.xc_model.specs.BackingRows.{phase_after, backed}
 use Rattle.xc_flight.specs.Active.{Tx, Own}
 use Rattle.xc_flight.specs.Active as flight
@@ -37,7 +37,7 @@ use Rattle.xc_refines.proofs.FlownLists.{flown_there, none_unnoted}
 use Rattle.xc_refines.proofs.TurnAborts.{given_in}
 use Rattle.xc_refines.proofs.TurnBack.{holds_at, records_so, undone_in}
 use Rattle.xc_refines.proofs.TurnCalls.{flown_copy}
-use Rattle.xc_refines.proofs.TurnParts.{Flying, world_in, flight_in, flies_on, airfield}
+use Rattle.xc_refines.proofs.TurnParts.{Flying, world_in, flight_in, flies_on, moves_on, airfield}
 
 -- all of a block that goes back is noted
 backing_noted : (next : Ask) (us : List CallWithAnswer) → IsUnnoted Backing next us → us ≡ []
@@ -78,11 +78,11 @@ module _ (s : Setting) (p : Progress) (words : List ℕ) (contents : Contents) (
   flown_back = ap flown_phase backing
 
   held : tx.held ≡ held_of ran.touched
-  held = subst (λ ph. HoldsFor ran (asked_at s job.place) ph tx.held) backing (f.holds at job tx there (ap active_in doing))
+  held = subst (λ ph. HoldsFor ran (asked_at s job) ph tx.held) backing (f.holds at job tx there (ap active_in doing))
 
   noted : f.unnoted at ≡ []
-  noted = backing_noted (asked_at s job.place) (f.unnoted at)
-      (subst (λ ph. IsUnnoted ph (asked_at s job.place) (f.unnoted at)) backing (f.was_asked at job tx there (ap active_in doing)))
+  noted = backing_noted (asked_at s job) (f.unnoted at)
+      (subst (λ ph. IsUnnoted ph (asked_at s job) (f.unnoted at)) backing (f.was_asked at job tx there (ap active_in doing)))
 
   -- a mark cuts it short
   pub cut_keeps : (ph : Phase) → flown_phase ph ≡ flight.Undoing
@@ -91,7 +91,7 @@ module _ (s : Setting) (p : Progress) (words : List ℕ) (contents : Contents) (
       let tx' : TxView = record tx { phase = ph } in
       let t' = flown job.me (f.unnoted at) tx' in
       let same : tx_flown ≡ t' = λ i. record tx_flown { phase = (flown_back ∙ sym undoes) i } in
-      let a = asked_at s place in
+      let a = asked_at s (with_tx job place tx) in
       flies_on s p words words contents contents started started jobs next at (f.unnoted at) job place tx tx' there doing refl f
       (flight_goes_on flight_now at tx_flown t' flight_now.now f.flies active refl refl (keeps_itself (Own tx_flown) flight_now.now)
       (subst (Flight flight_now.state flight_now.now) same (f.flies.flights at tx_flown active)))
@@ -114,7 +114,7 @@ module _ (s : Setting) (p : Progress) (words : List ℕ) (contents : Contents) (
       (record { all = f.flies; active = active; phase = flown_back }) sound made newest s.rules.undo_tries legal in
       let leads : undone_to flight_now.now u end ≡ world_in w words contents' started =
       undone_in flight_now.now u end ∙ ap (λ cs. world_in w words cs started) (sym effect) in
-      let a = asked_at s place in
+      let a = asked_at s (with_tx job place tx) in
       flies_on s p words words contents contents' started started jobs next at (f.unnoted at) job place tx tx' there doing refl f
       (subst (λ v. InFlight (turned flight_now at (Some (flown job.me (f.unnoted at) tx')) v)) leads
       (subst (λ ph. InFlight (turned flight_now at (Some (record (flown job.me (f.unnoted at) tx') { phase = ph })) (undone_to flight_now.now u end)))
@@ -124,7 +124,7 @@ module _ (s : Setting) (p : Progress) (words : List ℕ) (contents : Contents) (
   -- it ends
   pub ends_back_keeps : (kept : SavedView) (contents' : Contents) → tx.saved ≡ Some kept → length tx.undo.pending ≡ length kept.trail
       → All (λ e. is_undone e.1 ≡ true) tx.undo.ended → contents' ≡ with_kept contents (drop (length kept.taken) tx.taken)
-      → Flying s p (airfield words contents' started (slice_set jobs at (with_tx job place (backed tx kept))) next)
+      → Flying s p (airfield words contents' started (slice_set jobs at (answered_with job place (backed tx kept))) next)
   ends_back_keeps kept contents' is count undone returned =
       let w = p.state.world in
       let us = f.unnoted at in
@@ -140,8 +140,8 @@ module _ (s : Setting) (p : Progress) (words : List ℕ) (contents : Contents) (
       given_in w words contents started items ∙ ap (λ cs. world_in w words cs started) (sym returned) in
       let touched : (ran_at w job.me tx').touched ≡ ran.touched =
       body_gone flight_now at tx_flown (flown_copy kept) items faults f.flies active flown_back sound way in
-      flies_on s p words words contents contents' started started jobs next at us job place tx tx' there doing refl f
+      moves_on s p words words contents contents' started started jobs next at us job place None tx tx' there doing refl f
       (subst (λ v. InFlight (turned flight_now at (Some (flown job.me us tx')) v)) leads
       (subst (λ t. InFlight (turned flight_now at (Some t) (given_back flight_now.now items))) becomes done))
-      (none_unnoted Running (asked_at s place) us noted)
+      (none_unnoted Running (asked_at s (answered_with job place tx')) us noted)
       (held ∙ ap held_of (sym touched))

@@ -109,7 +109,7 @@ pub record AreInFlight (s : Setting) (now : Moment) : Type 0 where
   -- what isn't noted, by the places of jobs: at most a call that was asked
   pub unnoted : ℕ → List CallWithAnswer
   pub was_asked : (at : ℕ) (job : JobView) (tx : TxView) → slice_get now.jobs at ≡ Some job → active_of job ≡ Some tx
-      → IsUnnoted tx.phase (asked_at s job.place) (unnoted at)
+      → IsUnnoted tx.phase (asked_at s job) (unnoted at)
   pub flies : InFlight (flight_state s now unnoted)
   -- the world is sound for each active transaction, and for the next one of each other job
   pub sound : AreSound (flight_state s now unnoted)
@@ -122,4 +122,4 @@ pub record AreInFlight (s : Setting) (now : Moment) : Type 0 where
   pub blocks : (state_of s now).world.blocks ≡ s.script.outline.jobs ++ s.script.outline.bodies
   -- each active one holds what its calls claimed, in the order in which they did
   pub holds : (at : ℕ) (job : JobView) (tx : TxView) → slice_get now.jobs at ≡ Some job → active_of job ≡ Some tx
-      → HoldsFor (ran_at (state_of s now).world job.me tx) (asked_at s job.place) tx.phase tx.held
+      → HoldsFor (ran_at (state_of s now).world job.me tx) (asked_at s job) tx.phase tx.held

@@ -35,7 +35,7 @@ pub fn what_is_noted_was_played()
     ensures { (s : Setting) (now : Moment) (at : ℕ) (tx : TxView) → StoriesHold s (length now.words) now.marks now.journal now.jobs
         → AreInFlight s now
         → (is : IsActiveAt now.jobs at tx)
-        → IsPlayedSoFar (asked_at s is.0.place) (length now.words) (progress_of s.script now.journal) at tx }
+        → IsPlayedSoFar (asked_at s is.0) (length now.words) (progress_of s.script now.journal) at tx }
 {}
 
 /// The files that a running transaction has open are there, within their limit, whoever holds them.

@@ -12,3 +12,12 @@ pub use Rattle.xc_script.proofs.Opened.{all_inner}
 pub use Rattle.xc_script.proofs.Opened.{begins_inner}
 -- what is asked fits the block that is open
 pub use Rattle.xc_script.proofs.Opened.{asks_inner}
+-- ---- Clients: Where clients ask, a walk stays where it is.
+-- a transaction is left, of which nothing is said
+pub use Rattle.xc_script.proofs.Clients.{live_body}
+-- so no statement is left
+pub use Rattle.xc_script.proofs.Clients.{live_left}
+-- asked by blocks, the next transaction is the one of that number in its block
+pub use Rattle.xc_script.proofs.Clients.{scripted_body}
+-- where clients ask it is where its walk is
+pub use Rattle.xc_script.proofs.Clients.{live_settled}

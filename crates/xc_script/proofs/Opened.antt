@@ -20,7 +20,7 @@ use Rattle.xc_script.specs.Values.{Values, Variables}
 use Rattle.xc_script.specs.Walks.{Walk, is_silent, set_by, past_silent}
 use Rattle.xc_script.specs.Asking.{asks}
 use Rattle.xc_script.specs.Answers.{answered, behind_ask}
-use Rattle.xc_script.specs.Ask.{Job, transactions_of, next_body}
+use Rattle.xc_script.specs.Ask.{Job, transactions_of, transactions_at, next_body}
 use Rattle.xc_script.specs.Blocks.{BlockWalk, IsInner, behind_keep, block_after_call, after_ask, fits_block, ask_fits, replied, all_replied, block_from}
 
 false_true : {A : Type 0} → false ≡ true → A
@@ -177,11 +177,17 @@ by_block None next is = refl
 by_block (Some b) next is = by_body (slice_get b.transactions next)
     (get_all (λ body. are_inner false body ≡ true) b.transactions next (recursion_from_All _ _ is.inner))
 
+by_asker : (clients : Bool) (o : Option (List Statement)) → are_inner false (unwrap_or o []) ≡ true
+    → are_inner false (unwrap_or (if clients then Some [] else o) []) ≡ true
+by_asker true o is = refl
+by_asker false o is = is
+
 -- at the begin of a transaction of a script that was read
 pub begins_inner : (script : Script) (job : Job) → IsScript script → IsInner (block_from script job)
 begins_inner script job is =
     past_inner false _ _ _ (unwrap_or (next_body script job) [])
-    (by_block (slice_get script.blocks job.block) job.next (get_all IsBlock script.blocks job.block (recursion_from_All _ _ is.each_block)))
+    (by_asker script.clients (slice_get (transactions_at script job.block) job.next)
+    (by_block (slice_get script.blocks job.block) job.next (get_all IsBlock script.blocks job.block (recursion_from_All _ _ is.each_block))))
 
 over_fits : (within over : Bool) (c : Call) → fits_block within c ≡ true → ask_fits within (if over then ask.Abort else ask.Call c) ≡ true
 over_fits within true c fits = refl

@@ -1,6 +1,6 @@
 -- What a script asks next of a job, from the replies so far.
 use Rattle.std.specs.Prelude.{ℕ, ◌+◌, false, nat_eq}
-use Rattle.std.specs.Prelude.{List, [], ◌∷◌, Option, length, unwrap_or, replicate, slice_get, slice_set, position}
+use Rattle.std.specs.Prelude.{List, [], ◌∷◌, Option, length, unwrap_or, replicate, slice_get, slice_set, position, if◌then◌else◌}
 use Rattle.std.specs.declared.option.Option.TheVariants.{None, Some}
 use Rattle.std.specs.Cmp.Lexicographic.{pointwise}
 use Rattle.xc_data.specs.declared.call.Reply.{Reply}
@@ -31,9 +31,9 @@ transactions_of (Some block) = block.transactions
 abbrev pub transactions_at : Script → ℕ → List (List Statement)
 transactions_at script block = transactions_of (slice_get script.blocks block)
 
--- the job's next transaction, where one is left
+-- the job's next transaction, where one is left; where clients ask one always is, of which its block says nothing
 abbrev pub next_body : Script → Job → Option (List Statement)
-next_body script job = slice_get (transactions_at script job.block) job.next
+next_body script job = if script.clients then Some [] else slice_get (transactions_at script job.block) job.next
 
 -- the next transaction at its begin
 abbrev pub walk_from : Script → Job → Walk

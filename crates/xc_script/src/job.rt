@@ -1,4 +1,4 @@
-ghost use Rattle.std.specs.Prelude.{◌≡◌, ◌≤◌, ◌<◌, is_some, ◌+◌, ◌^◌, slice_get, length, None, Some, MatchOption};
+ghost use Rattle.std.specs.Prelude.{◌≡◌, ◌≤◌, ◌<◌, is_some, ◌+◌, ◌^◌, [], false, slice_get, length, None, Some, MatchOption, if◌then◌else◌};
 ghost use Rattle.std.specs.Prelude.{IsSome, IfOk, IsOk, OnOk, OnErr};
 ghost use Rattle.std.specs.Option.{option_copied};
 ghost use Rattle.xc_text.specs.Scripts.{IsScript};
@@ -67,10 +67,13 @@ impl Model for JobState {
     ghost invariant = { λ j. j.stored ≤ j.at * 2 ^ 64 };
 }
 
-// The statements of a transaction of a block.
+// The statements of a transaction of a block: none, where clients ask it.
 fn body_at(script: &Script, block: usize, next: usize) -> Option<&[KeptStatement]>
-    ensures { option_copied result ≡ slice_get (transactions_at script.now block) next }
+    ensures { option_copied result ≡ (if script.now.clients then Some [] else slice_get (transactions_at script.now block) next) }
 {
+    if script.clients {
+        return Some(&[]);
+    }
     let Some(block) = script.blocks.get(block) else {
         return None;
     };
@@ -165,8 +168,30 @@ impl JobState {
         }
     }
 
-    /// Goes on after the reply to the call that was asked.
+    /// Goes on after the reply to the call that was asked. Where clients ask it stays, since its block says nothing.
     pub fn answer(&mut self, script: &Script, reply: &Reply) -> Result<(), NoMemory>
+        requires asked { script.now.clients ≡ false → IsAskedCall script.now self.old }
+        requires settled { IsPastSilent script.now self.old }
+        ensures ok { OnOk result (walk_of script.now self.new ≡ answered (walk_of script.now self.old) reply.now) }
+        ensures same { (self.new.block ≡ self.old.block) × (self.new.next ≡ self.old.next) }
+        ensures begun { self.new.begun ≡ self.old.begun }
+        ensures saved { self.new.saved ≡ self.old.saved }
+        ensures at { script.now.clients ≡ false → OnOk result (self.new.at ≡ self.old.at + 1) }
+        ensures err { OnErr result (self.new ≡ self.old) }
+
+        // Only a variable that takes what the reply brings can run out of memory.
+        ensures sure { target_at script.now self.old ≡ Nowhere → IsOk result }
+        ensures lasting { value_in reply.now ≡ None → IsOk result }
+    {
+        if script.clients {
+            return Ok(());
+        }
+        self.answer_statement(script, reply)
+    }
+
+    // Goes on after the reply to the call that the statement asked where it stands.
+    #[inline(always)]
+    fn answer_statement(&mut self, script: &Script, reply: &Reply) -> Result<(), NoMemory>
         requires asked { IsAskedCall script.now self.old }
         requires settled { IsPastSilent script.now self.old }
         ensures ok { OnOk result (walk_of script.now self.new ≡ answered (walk_of script.now self.old) reply.now) }
@@ -175,8 +200,6 @@ impl JobState {
         ensures saved { self.new.saved ≡ self.old.saved }
         ensures at { OnOk result (self.new.at ≡ self.old.at + 1) }
         ensures err { OnErr result (self.new ≡ self.old) }
-
-        // Only a variable that takes what the reply brings can run out of memory.
         ensures sure { target_at script.now self.old ≡ Nowhere → IsOk result }
         ensures lasting { value_in reply.now ≡ None → IsOk result }
     {
@@ -213,17 +236,17 @@ impl JobState {
         self.forget_save();
     }
 
-    /// Answers the back that was asked: goes on behind the block's keep, with what the variables held at the save. It takes no
-    /// memory.
+    /// Answers the back that was asked: goes on behind the block's keep, with what the variables held at the save. Where clients
+    /// ask it stays. It takes no memory.
     pub fn unsave(&mut self, script: &Script)
         requires open { IsSome self.old.saved }
-        requires asked { IsAskedCall script.now self.old }
+        requires asked { script.now.clients ≡ false → IsAskedCall script.now self.old }
         requires settled { IsPastSilent script.now self.old }
         ensures walk { walk_of script.now self.new ≡ back_to (walk_of script.now self.old) self.old.saved }
         ensures same { (self.new.block ≡ self.old.block) × (self.new.next ≡ self.old.next) }
         ensures begun { self.new.begun ≡ self.old.begun }
         ensures saved { self.new.saved ≡ None }
-        ensures at { self.old.at < self.new.at }
+        ensures at { script.now.clients ≡ false → self.old.at < self.new.at }
     {
         let Some(body) = body_at(script, self.block, self.next) else {
             return;

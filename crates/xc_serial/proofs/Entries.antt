@@ -28,6 +28,7 @@ use Rattle.xc_model.specs.Progress.{Following, Progress, private_of, body_of, ru
 use Rattle.xc_model.specs.Setting.{Setting}
 use Rattle.xc_model.specs.Recorded.{Recorded, no_records, all_records, IsStuckIn, saved_records}
 use Rattle.xc_model.specs.Asked.{next_of}
+use Rattle.xc_model.specs.Live.{IsScripted}
 use Rattle.xc_model.specs.EntryEnds.{IsReport, IsHeld, IsHeldAt, IsCauseOf, HasAbortCause, AreRecords}
 use Rattle.xc_model.specs.Joint.{IsEntry, IsAskedFor, IsPlayedOutcome}
 use Rattle.xc_model.specs.Serial.{is_asked, is_final}
@@ -150,11 +151,12 @@ sum_parts : (a b : ℕ) → a + b ≡ 0 → (a ≡ 0) × (b ≡ 0)
 sum_parts a b h = (omega arith, omega arith)
 
 -- an entry that was settled without a fault, where no late call wanted memory, is the plain machine's
-pub same_entry : (s : Setting) (p : Progress) (f : Following) (last : Ask) (e : Entry) (place : ℕ) → IsEntry s p f last e → IsTrue s.tells
+pub same_entry : (s : Setting) (p : Progress) (f : Following) (last : Ask) (e : Entry) (place : ℕ) → IsScripted s.script → IsEntry s p f last e → IsTrue s.tells
     → 1 ≤ s.rules.undo_tries → e.tx ≡ place + 1 → e.began ≡ place → f.first ≡ None → entry_faults e ≡ 0
     → has_memory_end e.outcome ≡ false → is_final e.outcome ≡ true → e ≡ entry_at s.script place p e.job f
-same_entry s p f last e place told tells tries tx began first faults starved settled =
-    let is : IsEntry s p f (next_of s.script f e.replies) e = subst (λ (a : Ask). IsEntry s p f a e) told.story.after told in
+same_entry s p f last e place own told tells tries tx began first faults starved settled =
+    let as_asked = told.story.scripted own in
+    let is : IsEntry s p f (next_of s.script f e.replies) e = subst (λ (a : Ask). IsEntry s p f a e) as_asked.after told in
     let story = is.story in
     let played = is.played tells in
     let next = next_of s.script f e.replies in
@@ -192,11 +194,11 @@ same_entry s p f last e place told tells tries tx began first faults starved set
       outcome = outcome' i;
     } in
     let done : calls_from (length begin.walk.left) (place + 1) (opens p.state.world me) begin ≡ pairs e.calls e.replies =
-    same_calls (length begin.walk.left) (place + 1) (opens p.state.world me) begin e.calls e.replies (omega arith) story.calls
+    same_calls (length begin.walk.left) (place + 1) (opens p.state.world me) begin e.calls e.replies (omega arith) as_asked.calls
     (sym (replies_behind (place + 1) (opens p.state.world me) (asked_of e.calls e.replies))
     ∙ subst (λ n. (body p.state.world me n (asked_of e.calls e.replies)).replies ≡ e.replies) tx played.replies)
     (subst (λ n. IsTrue (body_fits p.state.world me n (asked_of e.calls e.replies))) tx played.fits) parts.0
     (end_asked s.rules.undo_tries e next e.outcome story.asked why) in
-    let calls = ap (map (λ (c : Replied). c.0)) done ∙ calls_of_pairs begin e.calls e.replies story.calls in
-    let replies = ap (map (λ (c : Replied). c.1)) done ∙ replies_of_pairs begin e.calls e.replies story.calls in
+    let calls = ap (map (λ (c : Replied). c.0)) done ∙ calls_of_pairs begin e.calls e.replies as_asked.calls in
+    let replies = ap (map (λ (c : Replied). c.1)) done ∙ replies_of_pairs begin e.calls e.replies as_asked.calls in
     as_made ∙ sym (ap₂ entry calls replies)

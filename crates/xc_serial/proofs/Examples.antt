@@ -1,5 +1,5 @@
 -- The texts of a script of two jobs, of one with an inner block, and of one with a late call, computed.
-use Rattle.std.proofs.Common.{◌≡◌, ℕ, suc, List, [], ◌∷◌, ◌++◌, refl, ap, ◌∙◌}
+use Rattle.std.proofs.Common.{◌≡◌, ℕ, suc, false, List, [], ◌∷◌, ◌++◌, refl, ap, ◌∙◌}
 use Rattle.std.specs.Prelude.{codes}
 use Rattle.std.specs.Fmt.{digits}
 use Rattle.std.specs.declared.option.Option.TheVariants.{None}
@@ -50,6 +50,7 @@ two_jobs =
       variables = [];
       slots = [];
       handles = [];
+      clients = false;
     }
 
 -- its text is the reference's
@@ -93,6 +94,7 @@ inner_block =
       variables = [];
       slots = [];
       handles = [];
+      clients = false;
     }
 
 -- its text: the store before the block stands, that of the block doesn't, and what is behind the back isn't asked
@@ -126,6 +128,7 @@ unlinks =
       variables = [];
       slots = [];
       handles = [];
+      clients = false;
     }
 
 no_name : map.get (opening unlinks.outline).names (codes "a") ≡ None

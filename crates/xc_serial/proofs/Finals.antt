@@ -15,6 +15,7 @@ use Rattle.xc_data.specs.declared.entry.Outcome.{Outcome}
 use Rattle.xc_data.specs.declared.entry.Outcome.TheVariants.{Committed, Aborted}
 use Rattle.xc_print.specs.Text.{rendered}
 use Rattle.xc_script.specs.Ask.{fresh_job, block_place, next_body}
+use Rattle.xc_model.specs.Live.{IsScripted}
 use Rattle.xc_model.specs.Ending.{IsEnd, AreEnds, Final, IsTrueEnd, StopWhereFull, all_done, is_done_end, is_memory, is_starved}
 use Rattle.xc_model.specs.Ending.{is_final_or_tried_again}
 use Rattle.xc_model.specs.Ending.{some_late_starved, wanted_memory}
@@ -75,18 +76,19 @@ record IsPlainEnd (s : Setting) (n : ℕ) (f : Following) (d : JobEnd) : Type 0 
   done : (d ≡ job_end.JournalFull → ⊥) → is_some (next_body s.script f.job) ≡ false
   full : d ≡ job_end.JournalFull → 10000 ≤ n
 
-plain_is : (s : Setting) (n : ℕ) (f : Following) (d : JobEnd) → 1 ≤ s.rules.attempts → f.failed ≡ [] → IsEnd s n f d → is_memory d ≡ false → IsPlainEnd s n f d
-plain_is s n f job_end.Done some none ends fed =
-    let over : is_some (next_body s.script f.job) ≡ false = ap is_some ends.1 in
+plain_is : (s : Setting) (n : ℕ) (f : Following) (d : JobEnd) → IsScripted s.script → 1 ≤ s.rules.attempts → f.failed ≡ [] → IsEnd s n f d → is_memory d ≡ false
+    → IsPlainEnd s n f d
+plain_is s n f job_end.Done own some none ends fed =
+    let over : is_some (next_body s.script f.job) ≡ false = ap is_some (ends.1 own) in
     record { same = sym (ap (λ (b : Bool). if b then job_end.JournalFull else job_end.Done) over); done = λ other. over; full = λ e. cc }
-plain_is s n f (job_end.GaveUp c) some none ends fed = absurd (let most = ends.2.0 in omega (arith, ap length none))
-plain_is s n f job_end.JournalFull some none ends fed =
+plain_is s n f (job_end.GaveUp c) own some none ends fed = absurd (let most = ends.2.0 in omega (arith, ap length none))
+plain_is s n f job_end.JournalFull own some none ends fed =
     record {
       same = sym (ap (λ (b : Bool). if b then job_end.JournalFull else job_end.Done) ends.1);
       done = λ other. absurd (other refl);
       full = λ e. ends.3;
     }
-plain_is s n f job_end.NoMemory some none ends fed = cc
+plain_is s n f job_end.NoMemory own some none ends fed = cc
 
 -- the line of a job, and its end
 record HasPlainEnd (s : Setting) (n : ℕ) (f : Following) (line : JobLine) : Type 0 where
@@ -99,14 +101,15 @@ HavePlainEnds s n [] lines = lines ≡ []
 HavePlainEnds s n (f ∷ jobs) [] = ⊥
 HavePlainEnds s n (f ∷ jobs) (line ∷ lines) = HasPlainEnd s n f line × HavePlainEnds s n jobs lines
 
-plain_are : (s : Setting) (n : ℕ) (jobs : List Following) (lines : List JobLine) → 1 ≤ s.rules.attempts → AreUntried jobs → AreEnds s n jobs lines
+plain_are : (s : Setting) (n : ℕ) (jobs : List Following) (lines : List JobLine) → IsScripted s.script → 1 ≤ s.rules.attempts → AreUntried jobs
+    → AreEnds s n jobs lines
     → list_any is_starved lines ≡ false → HavePlainEnds s n jobs lines
-plain_are s n [] lines some untried ends fed = ends
-plain_are s n (f ∷ jobs) [] some untried ends fed = absurd ends
-plain_are s n (f ∷ jobs) (line ∷ lines) some untried ends fed =
+plain_are s n [] lines own some untried ends fed = ends
+plain_are s n (f ∷ jobs) [] own some untried ends fed = absurd ends
+plain_are s n (f ∷ jobs) (line ∷ lines) own some untried ends fed =
     let parts = or_parts (is_starved line) (list_any is_starved lines) fed in (
-      record { block = ends.0.block; end = plain_is s n f line.end some untried.0.1 ends.0.end parts.0 },
-      plain_are s n jobs lines some untried.1 ends.1 parts.1,
+      record { block = ends.0.block; end = plain_is s n f line.end own some untried.0.1 ends.0.end parts.0 },
+      plain_are s n jobs lines own some untried.1 ends.1 parts.1,
     )
 
 lines_are : (s : Setting) (n : ℕ) (jobs : List Following) (lines : List JobLine) → HavePlainEnds s n jobs lines → lines ≡ plain_lines s.script jobs
@@ -177,9 +180,9 @@ record IsFed (s : Setting) (entries : List Entry) (final : Final) : Type 0 where
   late : some_late_starved entries ≡ false
   ends : HavePlainEnds s (length entries) (progress_of s.script entries).jobs final.lines
 
-is_fed : (s : Setting) (entries : List Entry) (final : Final) → 1 ≤ s.rules.attempts → IsTrueEnd s entries final
+is_fed : (s : Setting) (entries : List Entry) (final : Final) → IsScripted s.script → 1 ≤ s.rules.attempts → IsTrueEnd s entries final
     → all_alone entries ≡ true → wanted_memory final.lines entries ≡ false → IsFed s entries final
-is_fed s entries final some whole alone fed =
+is_fed s entries final own some whole alone fed =
     let joint = joint_of_parts s entries whole.journal in
     let told = joint.entries in
     let opening = opening_progress s.script in
@@ -188,36 +191,36 @@ is_fed s entries final some whole alone fed =
     let go = all_go_on s (length entries) jobs final.lines whole.ends parts.0 in
     let settled = all_are_settled entries alone (all_go s opening joint.lasts entries told go).1 in
     let untried = untried_all s opening joint.lasts entries told settled (untried_opening s.script s.script.outline.jobs) in
-    record { settled = settled; late = parts.1; ends = plain_are s (length entries) jobs final.lines some untried whole.ends parts.0 }
+    record { settled = settled; late = parts.1; ends = plain_are s (length entries) jobs final.lines own some untried whole.ends parts.0 }
 
 -- the journal is the plain one
-same_entries : (s : Setting) (entries : List Entry) (final : Final) → IsTrue s.tells → 1 ≤ s.rules.undo_tries → IsTrueEnd s entries final
+same_entries : (s : Setting) (entries : List Entry) (final : Final) → IsScripted s.script → IsTrue s.tells → 1 ≤ s.rules.undo_tries → IsTrueEnd s entries final
     → IsSerial entries → StopWhereFull final.lines entries → sum_by entry_faults entries ≡ 0 → IsFed s entries final
     → entries ≡ plain_journal s.script
-same_entries s entries final tells tries whole serial stop faults fed =
+same_entries s entries final own tells tries whole serial stop faults fed =
     let opening = opening_progress s.script in
     let joint = joint_of_parts s entries whole.journal in
     let told = joint.entries in
     let jobs = (progress_of s.script entries).jobs in
     let next = are_next s opening 10000 joint.lasts entries told (rise entries serial.jobs)
     (over_before s (length entries) jobs final.lines entries fed.ends stop) (all_over s (length entries) jobs final.lines fed.ends) in
-    same_journal s opening 0 10000 joint.lasts entries told tells tries serial.order faults fed.late fed.settled
+    same_journal s opening 0 10000 joint.lasts entries own told tells tries serial.order faults fed.late fed.settled
     (untried_opening s.script s.script.outline.jobs) whole.few next
 
 -- where no attempt met another, no job found the journal full and nothing wanted memory, each job ended by its last transaction
-pub all_are_done : (s : Setting) (entries : List Entry) (final : Final) → 1 ≤ s.rules.attempts → IsTrueEnd s entries final
+pub all_are_done : (s : Setting) (entries : List Entry) (final : Final) → IsScripted s.script → 1 ≤ s.rules.attempts → IsTrueEnd s entries final
     → all_alone entries ≡ true → list_any is_full final.lines ≡ false → wanted_memory final.lines entries ≡ false
     → all_done final.lines ≡ true
-all_are_done s entries final some whole alone room fed =
-    all_plain s (length entries) (progress_of s.script entries).jobs final.lines (is_fed s entries final some whole alone fed).ends room
+all_are_done s entries final own some whole alone room fed =
+    all_plain s (length entries) (progress_of s.script entries).jobs final.lines (is_fed s entries final own some whole alone fed).ends room
 
 -- the text of a run whose jobs ran one after another, where no call met a fault and nothing wanted memory, is the plain one
-pub plain_end : (s : Setting) (entries : List Entry) (final : Final) → IsTrue s.tells → 1 ≤ s.rules.attempts → 1 ≤ s.rules.undo_tries
+pub plain_end : (s : Setting) (entries : List Entry) (final : Final) → IsScripted s.script → IsTrue s.tells → 1 ≤ s.rules.attempts → 1 ≤ s.rules.undo_tries
     → IsTrueEnd s entries final → IsSerial entries → StopWhereFull final.lines entries → sum_by entry_faults entries ≡ 0
     → wanted_memory final.lines entries ≡ false → rendered entries final.lines final.words [] ≡ plain_text s.script
-plain_end s entries final tells some tries whole serial stop faults memory =
-    let fed = is_fed s entries final some whole (alone_in_order 0 entries serial.order) memory in
-    let same = same_entries s entries final tells tries whole serial stop faults fed in
+plain_end s entries final own tells some tries whole serial stop faults memory =
+    let fed = is_fed s entries final own some whole (alone_in_order 0 entries serial.order) memory in
+    let same = same_entries s entries final own tells tries whole serial stop faults fed in
     let lines = lines_are s (length entries) (progress_of s.script entries).jobs final.lines fed.ends in
     let text = λ (journal : List Entry).
     rendered journal (plain_lines s.script (progress_of s.script journal).jobs) (progress_of s.script journal).state.world.words [] in

@@ -24,6 +24,7 @@ use Rattle.xc_model.specs.Serial.{AreSerial, JobsRise, is_asked, is_final, all_f
 use Rattle.xc_text.specs.declared.script.Script.{Script}
 use Rattle.xc_serial.specs.Plain.{entry_at, entry_in, journal_from, journal_with, next_place, plain_from}
 use Rattle.xc_serial.proofs.Calls.{no_sum}
+use Rattle.xc_model.specs.Live.{IsScripted}
 use Rattle.xc_serial.proofs.Entries.{same_entry}
 
 -- ---- no job was tried before at its next transaction
@@ -92,16 +93,16 @@ AreNext (suc n) script p [] = next_place script p.jobs ≡ None
 AreNext (suc n) script p (e ∷ entries) = (next_place script p.jobs ≡ Some (e.job - 1)) × AreNext n script (after_entry script p e) entries
 
 -- such a journal is the plain one
-pub same_journal : (s : Setting) (p : Progress) (place n : ℕ) (lasts : List Ask) (entries : List Entry) → AreTrue s p lasts entries → IsTrue s.tells
-    → 1 ≤ s.rules.undo_tries
+pub same_journal : (s : Setting) (p : Progress) (place n : ℕ) (lasts : List Ask) (entries : List Entry) → IsScripted s.script
+    → AreTrue s p lasts entries → IsTrue s.tells → 1 ≤ s.rules.undo_tries
     → AreSerial place entries → sum_by entry_faults entries ≡ 0 → some_late_starved entries ≡ false → all_final entries ≡ true
     → AreUntried p.jobs → length entries ≤ n → AreNext n s.script p entries → entries ≡ plain_from n s.script place p
-same_journal s p place zero lasts [] told tells tries order faults starved settled all le next = refl
-same_journal s p place (suc n) lasts [] told tells tries order faults starved settled all le next =
+same_journal s p place zero lasts [] own told tells tries order faults starved settled all le next = refl
+same_journal s p place (suc n) lasts [] own told tells tries order faults starved settled all le next =
     sym (ap (journal_with s.script place p (λ (after : Progress). plain_from n s.script (place + 1) after)) next)
-same_journal s p place zero lasts (e ∷ entries) told tells tries order faults starved settled all le next = absurd (omega arith)
-same_journal s p place (suc n) [] (e ∷ entries) told tells tries order faults starved settled all le next = absurd told
-same_journal s p place (suc n) (last ∷ lasts) (e ∷ entries) told tells tries order faults starved settled all le next =
+same_journal s p place zero lasts (e ∷ entries) own told tells tries order faults starved settled all le next = absurd (omega arith)
+same_journal s p place (suc n) [] (e ∷ entries) own told tells tries order faults starved settled all le next = absurd told
+same_journal s p place (suc n) (last ∷ lasts) (e ∷ entries) own told tells tries order faults starved settled all le next =
     let one = told.0 in
     let f = one.following in
     let none = no_sum entry_faults e entries faults in
@@ -109,11 +110,11 @@ same_journal s p place (suc n) (last ∷ lasts) (e ∷ entries) told tells tries
     let ended = and_parts (is_final e.outcome) (all_final entries) settled in
     let more = λ (after : Progress). plain_from n s.script (place + 1) after in
     let first = (untried_get p.jobs (e.job - 1) f all one.started).0 in
-    let same = same_entry s p f last e place one.entry tells tries order.0 order.1 first none.0 wanted.0 ended.0 in
+    let same = same_entry s p f last e place own one.entry tells tries order.0 order.1 first none.0 wanted.0 ended.0 in
     let from = one.numbered in
     let job : e.job ≡ e.job - 1 + 1 = omega arith in
     let same' : e ≡ entry_at s.script place p (e.job - 1 + 1) f = same ∙ ap (λ j. entry_at s.script place p j f) job in
-    let later = same_journal s (after_entry s.script p e) (place + 1) n lasts entries told.1 tells tries order.3 none.1 wanted.1 ended.1
+    let later = same_journal s (after_entry s.script p e) (place + 1) n lasts entries own told.1 tells tries order.3 none.1 wanted.1 ended.1
     (untried_after s.script p f e one.started ended.0 all) (omega arith) next.1 in
     ap (λ l. e ∷ l) later ∙ ap (λ x. x ∷ more (after_entry s.script p x)) same'
     ∙ sym (ap (λ o. journal_from s.script p more (entry_in s.script place p (e.job - 1) o)) one.started) ∙ sym (ap (journal_with s.script place p more) next.0)

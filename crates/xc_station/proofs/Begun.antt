@@ -1,6 +1,6 @@
 -- An idle job that ends, or whose next transaction begins.
-use Rattle.std.proofs.Common.{◌≡◌, ◌+◌, ◌<◌, ℕ, Bool, length, true, false, refl, ap, sym, ◌∙◌, subst, is_some, IsSome}
-use Rattle.std.specs.Prelude.{Option}
+use Rattle.std.proofs.Common.{◌≡◌, ◌+◌, ◌<◌, ℕ, Bool, List, length, true, false, refl, ap, sym, ◌∙◌, subst, is_some, IsSome}
+use Rattle.std.specs.Prelude.{Option, not}
 use Rattle.std.specs.declared.option.Option.TheVariants.{None, Some}
 use Rattle.xc_data.specs.declared.object.Object.{Object}
 use Rattle.xc_sentinel.specs.declared.seat.Seat.{Seat}
@@ -13,14 +13,19 @@ use Rattle.xc_data.specs.declared.entry.Mark.{Mark}
 use Rattle.xc_data.specs.declared.entry.Turn.{Turn}
 use Rattle.xc_data.specs.declared.entry.Turn.TheVariants as turn
 use Rattle.xc_data.specs.declared.private.Private.{Private}
-use Rattle.xc_script.specs.Position.{Position}
+use Rattle.xc_text.specs.Stated.{Statement}
+use Rattle.xc_script.specs.declared.ask.Ask.{Ask}
+use Rattle.xc_script.specs.declared.ask.Ask.TheVariants as ask
+use Rattle.xc_script.specs.Position.{Position, job_of}
+use Rattle.xc_script.proofs.Laws.{live_body}
+use Rattle.xc_model.specs.Live.{has_clients}
 use Rattle.xc_model.specs.Setting.{Setting}
 use Rattle.xc_model.specs.Moment.{TxView, JobView, Active, Ended, Moment, begun_count, failures, rank_of, asked_to_wait, with_job}
-use Rattle.xc_model.specs.IdleRows.{IdleTurn, IsEnding, WaitsForNobody, IsWaiting, NamesLast, beginning_job, new_tx}
+use Rattle.xc_model.specs.IdleRows.{IdleTurn, IsEnding, IsOver, WaitsForNobody, IsWaiting, NamesLast, beginning_job, new_tx}
 use Rattle.xc_model.specs.Movers.{body_at, mover}
 use Rattle.xc_station.specs.declared.begin_tx.Halt.{Halt}
 use Rattle.xc_station.specs.declared.begin_tx.Halt.TheVariants.{End, Wait}
-use Rattle.xc_station.specs.Beginning.{IsWaitOver, IsHalted, IsSeatBehind, IsStopped}
+use Rattle.xc_station.specs.Beginning.{IsWaitOver, IsHalted, IsSeatBehind, IsStopped, is_end_in, is_over_in}
 use Rattle.xc_station.specs.Moments.{AreSeats, HasBegun, runs, seated_as}
 
 -- what an answer without an error tells
@@ -79,14 +84,15 @@ all_begun now entered entries active k len = λ i. (k.entered ∙ sym len) i + k
 pub job_begins : (now : Moment) (job : JobView) (me : Private) (place : Position) (tx : TxView) (entered entries active rank : ℕ) → me ≡ job.me
     → HasBegun now entries active → entered ≡ entries
     → place ≡ record job.place { begun = job.place.variables } → rank ≡ rank_of job.attempts (entered + active + 1)
-    → tx ≡ new_tx (entered + active + 1) rank entered job.me → record job { me = me; place = place; busy = 0; doing = Active tx } ≡ beginning_job now job
+    → tx ≡ new_tx (entered + active + 1) rank entered job.me
+    → record job { me = me; place = place; handed = None; busy = 0; doing = Active tx } ≡ beginning_job now job
 job_begins now job me place tx entered entries active rank kept k len placed ranked begun =
     let number : entered + active + 1 ≡ begun_count now + 1 = ap (λ n. n + 1) (sym (all_begun now entered entries active k len)) in
     let rank' : rank ≡ rank_of job.attempts (begun_count now + 1) = ranked ∙ ap (rank_of job.attempts) number in
     let began = len ∙ sym k.entered in
     let tx' : tx ≡ new_tx (begun_count now + 1) (rank_of job.attempts (begun_count now + 1)) (length now.journal) job.me =
     begun ∙ (λ i. new_tx (number i) (rank' i) (began i) job.me) in
-    λ i. record job { me = kept i; place = placed i; busy = 0; doing = Active (tx' i) }
+    λ i. record job { me = kept i; place = placed i; handed = None; busy = 0; doing = Active (tx' i) }
 
 -- ---- a job that may begin
 module _ (s : Setting) (now : Moment) (job : JobView) (seats : Seats) (sat : AreSeats seats now.jobs) (left : IsSome (body_at s job.place))
@@ -119,6 +125,40 @@ module _ (s : Setting) (now : Moment) (job : JobView) (seats : Seats) (sat : Are
       let a = w.active in
       done object number w.named w.patient (ap (λ n. is_some (seat_in seats n)) (sym a.3)
       ∙ seated (seat_in seats a.1.number) a.1.rank (runs a.1.phase) (sat.held a.0 a.1 a.2))
+
+-- ---- whether a job is over
+end_is : (o : Option Ask) → is_end_in o ≡ true → o ≡ Some ask.End
+end_is (Some ask.End) is = refl
+end_is (Some ask.Commit) is = cc is
+end_is (Some ask.Abort) is = cc is
+end_is (Some (ask.Call call)) is = cc is
+end_is None is = cc is
+
+none_is : {A : Type 0} (o : Option A) → not (is_some o) ≡ true → o ≡ None
+none_is None is = refl
+none_is (Some x) is = cc is
+
+some_is : {A : Type 0} (o : Option A) → not (is_some o) ≡ false → IsSome o
+some_is None is = cc is
+some_is (Some x) is = refl
+
+-- where the code says so it is
+pub over_so : (b : Bool) (s : Setting) (job : JobView) → is_over_in b s job ≡ true → IsOver b s job
+over_so true s job is = end_is job.handed is
+over_so false s job is = none_is (body_at s job.place) is
+
+-- and else it isn't
+pub not_over : (b : Bool) (s : Setting) (job : JobView) → is_over_in b s job ≡ false → IsOver b s job → ⊥
+not_over true s job is over = let no : true ≡ false = ap is_end_in (sym over) ∙ is in cc no
+not_over false s job is over = let no : true ≡ false = ap (λ (o : Option (List Statement)). not (is_some o)) (sym over) ∙ is in cc no
+
+-- then a transaction is left
+pub left_so : (s : Setting) (job : JobView) → is_over_in (has_clients s.script) s job ≡ false → IsSome (body_at s job.place)
+left_so s job is = go (has_clients s.script) refl is
+  where
+    go : (b : Bool) → has_clients s.script ≡ b → is_over_in b s job ≡ false → IsSome (body_at s job.place)
+    go true live is = subst IsSome (sym (live_body s.script (job_of job.place) live)) refl
+    go false own is = some_is (body_at s job.place) is
 
 -- what is said to be there is there
 pub is_some_there : {A : Type 0} (o : Option A) → true ≡ is_some o → IsSome o

@@ -12,6 +12,7 @@ use Rattle.xc_data.specs.declared.entry.Outcome.TheVariants.{Committed, Aborted}
 use Rattle.xc_data.specs.declared.private.Private.{Private}
 use Rattle.xc_compensate.specs.Records.{AtHost, IsTried, Records}
 use Rattle.xc_deferred.specs.Queue.{Queue}
+use Rattle.xc_script.specs.declared.ask.Ask.{Ask}
 use Rattle.xc_script.specs.Position.{Position, at_begin}
 use Rattle.xc_script.specs.Blocks.{kept_calls}
 use Rattle.xc_script.specs.Slots.{with_ends}
@@ -29,6 +30,7 @@ use Rattle.xc_station.specs.declared.job.Activity.TheVariants as activity
 use Rattle.xc_station.specs.declared.job.Job.{Job}
 use Rattle.xc_station.specs.declared.tx.Saved.{Saved}
 use Rattle.xc_station.specs.declared.tx.Tx.{Tx}
+use Rattle.xc_station.specs.Handed.{handed_tx}
 use Rattle.xc_station.specs.Jobs.{begun_of, doing_of, outcome_in, doing_view, job_view, saved_in, saved_view, tx_view}
 
 active_or : TxView → Doing → TxView
@@ -77,6 +79,14 @@ pub moves_on : (job : Job) (tx : TxView) (place : Position) (now : Tx) → doing
 moves_on job tx place now is kept =
     let doing = sym (active_again job.tx now job.activity tx is) in
     λ i. record (job_view job) { me = sym kept i; place = place; doing = doing i }
+
+-- the same, with this handed in
+pub moves_handed : (job : Job) (tx : TxView) (handed : Option Ask) (place : Position) (now : Tx) → doing_of job ≡ Active tx
+    → begun_of now ≡ begun_of job.tx
+    → handed_tx (job_view job) handed place (tx_view now) ≡ job_view (record job { handed = handed; place = place; tx = now })
+moves_handed job tx handed place now is kept =
+    let doing = sym (active_again job.tx now job.activity tx is) in
+    λ i. record (job_view job) { me = sym kept i; handed = handed; place = place; doing = doing i }
 
 -- a job that counts a wait does what it did
 pub counted_doing : (answer : Turn) (job : JobView) → (busy_counted answer job).doing ≡ job.doing
@@ -127,14 +137,14 @@ late_behind job tx queue is same =
     ∙ ap (λ (t : TxView). with_tx (job_view job) job.place (with_queue t queue)) (its_active job tx is)
 
 -- ---- a transaction's end
-idle_abort : (job : JobView) (tx : TxView) (c : Cause) → behind_abort (record job { busy = 0; doing = Idle }) tx c ≡ behind_abort job tx c
+idle_abort : (job : JobView) (tx : TxView) (c : Cause) → behind_abort (record job { handed = None; busy = 0; doing = Idle }) tx c ≡ behind_abort job tx c
 idle_abort job tx cause.Asked = refl
 idle_abort job tx cause.NoMemory = refl
 idle_abort job tx (cause.Stuck failed) = refl
 idle_abort job tx _ = refl
 
 -- a job after an abort, without its transaction before
-pub abort_behind : (old between new : JobView) (tx : TxView) (b c : Cause) → between ≡ record old { busy = 0; doing = Idle } → b ≡ c
+pub abort_behind : (old between new : JobView) (tx : TxView) (b c : Cause) → between ≡ record old { handed = None; busy = 0; doing = Idle } → b ≡ c
     → new ≡ behind_abort between tx b → new ≡ behind_abort old tx c
 abort_behind old between new tx b c taken cause gone =
     gone ∙ ap (λ (job : JobView). behind_abort job tx b) taken ∙ idle_abort old tx b ∙ ap (behind_abort old tx) cause
@@ -160,7 +170,7 @@ pub commit_behind : (old : JobView) (t tx : TxView) (me : Private) (place : Posi
       next = old.place.next + 1;
       variables = with_ends old.place.variables (kept_calls t.calls t.replies) t.ends;
     })
-    → attempts ≡ None → record old { me = me; place = place; attempts = attempts; busy = 0; doing = Idle } ≡ behind_commit old tx
+    → attempts ≡ None → record old { me = me; place = place; handed = None; attempts = attempts; busy = 0; doing = Idle } ≡ behind_commit old tx
 commit_behind old t tx me place attempts same renewed passed none =
     let renewed' : me ≡ beginning tx.me.places = renewed ∙ ap (λ (u : TxView). beginning u.me.places) same in
     let passed' = passed ∙ ap (λ (u : TxView). at_begin (record {
@@ -168,4 +178,4 @@ commit_behind old t tx me place attempts same renewed passed none =
       next = old.place.next + 1;
       variables = with_ends old.place.variables (kept_calls u.calls u.replies) u.ends;
     })) same in
-    λ i. record old { me = renewed' i; place = passed' i; attempts = none i; busy = 0; doing = Idle }
+    λ i. record old { me = renewed' i; place = passed' i; handed = None; attempts = none i; busy = 0; doing = Idle }

@@ -6,6 +6,7 @@ use Rattle.std.specs.declared.option.Option.TheVariants.{Some}
 use Rattle.xc_data.specs.Counts.{RisesBy}
 use Rattle.xc_data.specs.Faults.{entry_faults}
 use Rattle.xc_data.specs.declared.entry.JobLine.{JobLine}
+use Rattle.xc_model.specs.Live.{IsScripted}
 use Rattle.xc_model.specs.Setting.{Setting}
 use Rattle.xc_model.specs.Moment.{JobView, Doing, Idle, Active, Starved, Ended, Moment, actives}
 use Rattle.xc_model.specs.Consistent.{AreLinesOf, IsLineOf}
@@ -61,7 +62,7 @@ true_end s faults now lines steady over =
       words = words_are_left _ now.words now.jobs lines steady.kept.spoken over;
       state = λ tells. at_rest s now lines (steady.flying tells) over;
       ends = ends;
-      complete = λ done. complete s told.lasts now.journal lines told.entries ends done;
+      complete = λ own done. complete s told.lasts now.journal lines own told.entries ends done;
     }
 
 -- the host's count rose by the faults of the entries alone
@@ -73,7 +74,7 @@ counted_end s faults now lines steady over =
     subst (λ n. RisesBy n faults now.faults) none steady.kept.counted
 
 -- the host was called since its opening by the entries alone
-pub called_end : (s : Setting) (faults : ℕ) (now : Moment) (lines : List JobLine) → IsSteady s faults now → AreLinesOf now.jobs lines
+pub called_end : (s : Setting) (faults : ℕ) (now : Moment) (lines : List JobLine) → IsScripted s.script → IsSteady s faults now → AreLinesOf now.jobs lines
     → AreCalled s.script now.journal now.calls
-called_end s faults now lines steady over =
-    calls_true s (length now.words) now.marks now.journal now.jobs now.calls lines steady.kept.told steady.kept.handled over
+called_end s faults now lines own steady over =
+    calls_true s (length now.words) now.marks now.journal now.jobs now.calls lines own steady.kept.told steady.kept.handled over

@@ -1,7 +1,7 @@
 -- A transaction that commits or undoes comes to its entry, in as many turns as it has things to do.
-use Rattle.std.proofs.Common.{◌≡◌, ◌≢◌, ◌⊎◌, inl, inr, ℕ, zero, suc, ◌+◌, ◌-◌, ◌≤◌, Bool, true, false, List, [], ◌∷◌, ◌++◌, length}
+use Rattle.std.proofs.Common.{◌≡◌, ◌≢◌, ◌⊎◌, inl, inr, ℕ, zero, suc, ◌+◌, ◌-◌, ◌<◌, ◌≤◌, Bool, true, false, List, [], ◌∷◌, ◌++◌, length}
 use Rattle.std.proofs.Common.{refl, ap, sym, ◌∙◌, subst, arith, length-append, length-set}
-use Rattle.std.specs.Prelude.{Option, ◌==◌, drop, slice_get, slice_set, replicate, if◌then◌else◌}
+use Rattle.std.specs.Prelude.{Option, ◌==◌, drop, slice_get, slice_set, replicate, unwrap_or, if◌then◌else◌}
 use Rattle.std.proofs.lemmas.List.{length-drop}
 use Rattle.std.specs.Option.{option_and_then}
 use Rattle.std.specs.declared.option.Option.TheVariants.{None, Some}
@@ -222,6 +222,11 @@ lives_on_way model job phase left old now (inl before) count =
     (live_there now.jobs (job - 1) found.1 found.2 (ending_lives found.1.doing before.more found.3))
 lives_on_way model job phase left old now (inr ((e, grown, is), turns)) count = absurd (no_longer now.journal old.journal e grown count)
 
+-- how many turns it has before it, itself included: none once the entry is there
+abbrev pub way_left : ℕ → Option ℕ → ℕ
+way_left zero left = 0
+way_left (suc n) left = suc (unwrap_or left 0)
+
 -- once the journal is longer, the entry is there
 pub arrived : {H : Type 0} (model : HostModel H) (job : ℕ) (phase : Phase) (left : ℕ) (old now : StationView H)
     → IsOnWay model job phase left old now → length now.journal ≢ length old.journal
@@ -283,3 +288,36 @@ module _ {H : Type 0} (model : HostModel H) (job : ℕ) (phase : Phase) (left : 
       (turn_nearer (setting_of model mid) (job - 1) (now_of model mid) (now_of model new) answer phase before.more found.1 row found.2 found.3
       (ap (λ (j : JobView). phase_in j.doing) (sym same) ∙ doing.3))
   way_further (inr ((e, grown, is), turns)) count = absurd (no_longer mid.journal old.journal e grown count)
+
+  -- a turn on its way leaves fewer
+  pub fewer_on_way : IsOnWay model job phase left old mid → length mid.journal ≡ length old.journal
+      → way_left (length old.journal + 1 - length new.journal) (job_left_at (job_views new.jobs) job)
+      < way_left (length old.journal + 1 - length mid.journal) (job_left_at (job_views mid.jobs) job)
+  fewer_on_way (inr ((e, grown, is), turns)) count = absurd (no_longer mid.journal old.journal e grown count)
+  fewer_on_way (inl before) count =
+      let found = there_of left_of (job_views mid.jobs) job before.more before.is_left in
+      let doing = there_of phase_in (job_views mid.jobs) job phase before.is_phase in
+      let same : doing.1 ≡ found.1 = cc (doing.2, found.2) in
+      let was : length old.journal + 1 - length mid.journal ≡ 1 = omega (arith, count) in
+      let had : way_left (length old.journal + 1 - length mid.journal) (job_left_at (job_views mid.jobs) job) ≡ suc before.more =
+      (λ i. way_left (was i) (before.is_left i)) in
+      by_more before.more found.0 had
+      (turn_nearer (setting_of model mid) (job - 1) (now_of model mid) (now_of model new) answer phase before.more found.1 row found.2 found.3
+      (ap (λ (j : JobView). phase_in j.doing) (sym same) ∙ doing.3))
+    where
+      by_more : (more : ℕ) → 1 ≤ job
+          → way_left (length old.journal + 1 - length mid.journal) (job_left_at (job_views mid.jobs) job) ≡ suc more
+          → ComesNearer (job - 1) phase (now_of model mid) (now_of model new) more
+          → way_left (length old.journal + 1 - length new.journal) (job_left_at (job_views new.jobs) job)
+          < way_left (length old.journal + 1 - length mid.journal) (job_left_at (job_views mid.jobs) job)
+      by_more zero some had (e, grown, is) =
+          let longer : length new.journal ≡ length mid.journal + 1 = ap length grown ∙ length-append mid.journal (e ∷ []) in
+          let none : length old.journal + 1 - length new.journal ≡ 0 = omega (arith, count, longer) in
+          let over : way_left (length old.journal + 1 - length new.journal) (job_left_at (job_views new.jobs) job) ≡ 0 =
+          ap (λ n. way_left n (job_left_at (job_views new.jobs) job)) none in
+          omega (arith, had, over)
+      by_more (suc n) some had (still, after, there, fewer, does) =
+          let one : length old.journal + 1 - length new.journal ≡ 1 = (let same = ap length still in omega (arith, count, same)) in
+          let left' = told_there left_of (job_views new.jobs) job n after some there fewer in
+          let has : way_left (length old.journal + 1 - length new.journal) (job_left_at (job_views new.jobs) job) ≡ suc n = (λ i. way_left (one i) (left' i)) in
+          omega (arith, had, has)

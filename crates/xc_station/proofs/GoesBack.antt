@@ -27,7 +27,7 @@ use Rattle.xc_model.specs.declared.phase.Phase.{Phase}
 use Rattle.xc_model.specs.declared.phase.Phase.TheVariants as phase
 use Rattle.xc_model.specs.declared.rules.Rules.{Rules}
 use Rattle.xc_model.specs.Moment.{Active, Doing, Ended, Idle, JobView, Moment, SavedView, Starved, TxView, active_in, active_of, late_left, revoked, with_job}
-use Rattle.xc_model.specs.Movers.{IsActiveAt, mover, with_tx}
+use Rattle.xc_model.specs.Movers.{IsActiveAt, asked_at, mover, with_tx}
 use Rattle.xc_model.specs.Progress.{Following}
 use Rattle.xc_model.specs.Rows.{IsTurn}
 use Rattle.xc_model.specs.Setting.{Setting, setting}
@@ -134,10 +134,10 @@ module _ {H : Type 0} (model : HostModel H) (shared : Shared H) (journal : List 
   mine = backing_stage (doing_of was) is.stage
 
   -- its story
-  pub goes_back : (f : Following) × IsBacking s f was.place mine.tx × (is_some was.place.saved ≡ is_some mine.tx.saved)
+  pub goes_back : (f : Following) × IsBacking s was.place (asked_at s (job_view was)) mine.tx × (is_some was.place.saved ≡ is_some mine.tx.saved)
   goes_back =
       let t = tells_story s faults now steady at (job_view was) mine.tx there mine.doing in
-      (t.following, subst (IsInPhase s t.following was.place mine.tx) mine.phase t.underway.phase, t.underway.together)
+      (t.following, subst (IsInPhase s was.place (asked_at s (job_view was)) mine.tx) mine.phase t.underway.phase, t.underway.together)
 
   -- it has started no job
   pub none_backing : started_in script (job_view was) (doing_of was) ≡ []

@@ -75,7 +75,7 @@ module _ (s : Setting) (at : ℕ) (old : Moment) (job : JobView) (new : Moment) 
     asked_leaves ask.End row = absurd row
 
     running_leaves : (answer : Turn) → RunningTurn (mover s at old job) tx answer new → ChangesOne at old new
-    running_leaves turn.Went row = asked_leaves (asked_at s job.place) row
+    running_leaves turn.Went row = asked_leaves (asked_at s job) row
     running_leaves (turn.Busy object holder) row = alone _ _ row.behind refl refl
     running_leaves turn.NoMemory row = alone _ _ row.behind refl refl
     running_leaves (turn.Ended end) row = absurd row

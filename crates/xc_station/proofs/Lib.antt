@@ -15,6 +15,8 @@ pub mod Ended
 pub mod Finishing
 pub mod Giving
 pub mod GoesBack
+pub mod HandedIn
+pub mod HandedKept
 pub mod Joined
 pub mod Leaving
 pub mod Lending
@@ -22,6 +24,7 @@ pub mod Lent
 pub mod Lines
 pub mod Named
 pub mod Notes
+pub mod NumberedJobs
 pub mod PutBack
 pub mod Reaching
 pub mod Ready

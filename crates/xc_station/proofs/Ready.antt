@@ -1,8 +1,9 @@
 -- What a turn's function may rely on, between two turns.
-use Rattle.std.proofs.Common.{◌≡◌, ◌≢◌, ℕ, zero, suc, ◌+◌, ◌<◌, ◌≤◌, ◌^◌, List, [], ◌∷◌, ◌++◌, length, refl, ap, sym, ◌∙◌, subst, arith, true}
-use Rattle.std.proofs.lemmas.List.Elements.{All-head, All-tail, All-weaker, All-contains_itself}
+use Rattle.std.proofs.Common.{◌≡◌, ◌≢◌, ℕ, zero, suc, ◌+◌, ◌<◌, ◌≤◌, ◌^◌, Bool, List, [], ◌∷◌, ◌++◌, length, refl, ap, sym, ◌∙◌, subst, arith}
+use Rattle.std.proofs.Common.{true, false}
+use Rattle.std.proofs.lemmas.List.Elements.{All-weaker, All-contains_itself}
 use Rattle.std.specs.FinMap as map
-use Rattle.std.specs.Prelude.{All, Contains, is_some, IsSome, IsTrue, Option, slice_get}
+use Rattle.std.specs.Prelude.{All, Contains, is_some, IsSome, IsTrue, Option, slice_get, if◌then◌else◌}
 use Rattle.std.specs.List.{fold}
 use Rattle.std.specs.declared.option.Option.TheVariants.{None, Some}
 use Rattle.xc_data.specs.declared.call.Call.{Call}
@@ -16,10 +17,9 @@ use Rattle.xc_compensate.specs.Records.{NextIsCovered}
 use Rattle.xc_host.specs.Model.{HostModel}
 use Rattle.xc_roomy.specs.Room.{Roomy}
 use Rattle.xc_txmem.specs.Overlay.{AreWithin}
-use Rattle.xc_text.specs.declared.script.Block.{Block}
 use Rattle.xc_text.specs.declared.script.Script.{Script}
-use Rattle.xc_text.specs.Scripts.{IsBlock, IsScript}
-use Rattle.xc_script.specs.Ask.{transactions_of, transactions_at}
+use Rattle.xc_text.specs.Scripts.{IsScript}
+use Rattle.xc_script.specs.Ask.{transactions_at}
 use Rattle.xc_script.specs.Asking.{asks}
 use Rattle.xc_script.specs.Blocks.{IsInner, ask_fits, block_from}
 use Rattle.xc_script.specs.Position.{Position, walk_of}
@@ -29,9 +29,11 @@ use Rattle.xc_model.specs.declared.rules.Rules.{Rules}
 use Rattle.xc_model.specs.Setting.{Setting, setting}
 use Rattle.xc_model.specs.Progress.{Following, Progress, after_entry, opening_progress, progress_of, words_left}
 use Rattle.xc_model.specs.Moment.{TxView, JobView, Active, Moment, active_in, actives, failures, late_left}
-use Rattle.xc_model.specs.Stories.{AreAttempts, StandsAfterReplies, IsDoing, IsInPhase, IsUnderway}
-use Rattle.xc_model.specs.Movers.{IsActiveAt}
-use Rattle.xc_turns.proofs.Laws.{given_by_now, given_once, behind_count}
+use Rattle.xc_model.specs.declared.phase.Phase.TheVariants.{Running}
+use Rattle.xc_model.specs.Live.{asked_by, has_clients}
+use Rattle.xc_model.specs.Stories.{AreAttempts, FitsWhereItRuns, StandsAfterReplies, IsDoing, IsInPhase, IsUnderway}
+use Rattle.xc_model.specs.Movers.{IsActiveAt, asked_at}
+use Rattle.xc_turns.proofs.Laws.{given_by_now, given_once, behind_count, passed_few}
 use Rattle.xc_sentinel.specs.declared.seat.Seat.{Seat}
 use Rattle.xc_sentinel.specs.Seating.{seat_in}
 use Rattle.xc_station.proofs.Tracked.{nobody}
@@ -74,7 +76,7 @@ get_beside (a ∷ xs) (b ∷ ys) (suc i) y e h = get_beside xs ys i y (omega (ar
 pub record IsTelling (s : Setting) (job : JobView) (tx : TxView) : Type 0 where
   pub following : Following
   pub attempts : AreAttempts following job.attempts
-  pub underway : IsUnderway s following job.place tx
+  pub underway : IsUnderway s following job.place (asked_at s job) tx
 
 module _ (s : Setting) (faults : ℕ) (now : Moment) (steady : IsSteady s faults now) (at : ℕ) (job : JobView) (tx : TxView)
     (stands : slice_get now.jobs at ≡ Some job) (does : job.doing ≡ Active tx) where
@@ -89,17 +91,6 @@ module _ (s : Setting) (faults : ℕ) (now : Moment) (steady : IsSteady s faults
         attempts = tells.attempts;
         underway = subst (IsDoing s (length now.journal + length (actives now.jobs)) beside.0 job) does tells.doing;
       }
-
--- ---- its transaction is one of a few
-few_there : (blocks : List Block) (i : ℕ) → All IsBlock blocks → length (transactions_of (slice_get blocks i)) ≤ 1000
-few_there [] i all = omega arith
-few_there (b ∷ blocks) zero all = (All-head IsBlock b blocks all).transactions
-few_there (b ∷ blocks) (suc i) all = few_there blocks i (All-tail IsBlock b blocks all)
-
-some_within : {A : Type 0} (xs : List A) (i : ℕ) → IsSome (slice_get xs i) → i < length xs
-some_within [] i is = cc is
-some_within (x ∷ xs) zero is = omega arith
-some_within (x ∷ xs) (suc i) is = let less = some_within xs i is in omega (arith, less)
 
 -- ---- words are as many as the script's
 count_left : (xs : List ℕ) (calls : List Call) (o : Outcome) → length (words_left xs calls o) ≡ length xs
@@ -125,15 +116,17 @@ failed_so f (Some a) are = sym are.1
 
 module _ (s : Setting) (faults : ℕ) (now : Moment) (steady : IsSteady s faults now) (at : ℕ) (job : JobView) (tx : TxView)
     (stands : slice_get now.jobs at ≡ Some job) (does : job.doing ≡ Active tx) where
-  -- the place of its transaction among its block's
+  -- how many transactions its job has passed
   pub few_next : job.place.next < 2 ^ 32
   few_next =
-      let t = tells_story s faults now steady at job tx stands does in
-      let f = t.following in
-      let less = some_within (transactions_at s.script f.job.block) f.job.next t.underway.left in
-      let few = few_there s.script.blocks f.job.block steady.set.read.each_block in
-      let same = t.underway.standing.next in
-      omega (arith, less, few, same)
+      let told = steady.kept.told in
+      let beside = get_beside (progress_of s.script now.journal).jobs now.jobs at job told.count stands in
+      let tells = told.jobs_told at beside.0 job beside.1 stands in
+      let underway = subst (IsDoing s (length now.journal + length (actives now.jobs)) beside.0 job) does tells.doing in
+      let passed = passed_few s told.lasts now.journal told.entries at beside.0 beside.1 in
+      let few = told.few in
+      let same = underway.standing.next in
+      omega (arith, passed, few, same)
 
   -- the attempts that ended in a conflict
   pub few_failures : failures job.attempts < s.rules.attempts
@@ -152,6 +145,16 @@ fits_there s f place tx read ahead =
     let inner : IsInner (record { walk = walk; saved = place.saved }) =
     subst IsInner (sym ahead) (all_inner (block_from s.script f.job) tx.replies (begins_inner s.script f.job read)) in
     asks_inner (is_some place.saved) walk.variables walk.stored walk.refused walk.left inner
+
+-- so does what a client has handed in
+fits_as_asked : (s : Setting) (f : Following) (job : JobView) (tx : TxView) (live : Bool) → has_clients s.script ≡ live → IsScript s.script
+    → tx.phase ≡ Running → IsUnderway s f job.place (asked_at s job) tx → ask_fits (is_some tx.saved) (asked_at s job) ≡ true
+fits_as_asked s f job tx true clients read runs underway =
+    subst (λ p. FitsWhereItRuns p tx.saved (asked_at s job)) runs (underway.fits clients)
+fits_as_asked s f job tx false scripted read runs underway =
+    ap (λ b. ask_fits (is_some tx.saved) (asked_by b s.script job.handed job.place)) scripted
+    ∙ subst (λ b. ask_fits b (asks (walk_of s.script job.place)) ≡ true) underway.together
+    (fits_there s f job.place tx read (underway.ahead scripted))
 
 -- ---- seats
 unseated : (o : Option Seat) → seated_as o ≡ None → o ≡ None
@@ -180,13 +183,12 @@ module _ {H : Type 0} (model : HostModel H) (shared : Shared H) (journal : List 
       let spoken = steady.kept.spoken.each at runs.tx active in
       let block : t.following.job.block ≡ was.place.block = sym t.underway.standing.block in
       let next : t.following.job.next ≡ was.place.next = sym t.underway.standing.next in
-      let phase = subst (IsInPhase s t.following was.place runs.tx) runs.phase t.underway.phase in
+      let phase = subst (IsInPhase s was.place (asked_at s (job_view was)) runs.tx) runs.phase t.underway.phase in
       record {
         tx = runs.tx;
         doing = runs.doing;
-        left = subst IsSome (λ i. slice_get (transactions_at script (block i)) (next i)) t.underway.left;
-        fits = subst (λ b. ask_fits b (asks (walk_of script was.place)) ≡ true) t.underway.together
-            (fits_there s t.following was.place runs.tx steady.set.read phase.ahead);
+        left = subst IsSome (λ i. if script.clients then Some [] else slice_get (transactions_at script (block i)) (next i)) t.underway.left;
+        fits = fits_as_asked s t.following (job_view was) runs.tx (has_clients script) refl steady.set.read runs.phase t.underway;
         together = t.underway.together;
         may = record {
           running = runs.phase;

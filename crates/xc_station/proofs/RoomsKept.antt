@@ -72,7 +72,7 @@ asked_on s at old job tx ask.End new row = absurd row
 pub number_kept : (s : Setting) (at : ℕ) (old : Moment) (job : JobView) (tx : TxView) (answer : Turn) (new : Moment)
     → RunningTurn (mover s at old job) tx answer new
     → KeepsNumber old new at job tx
-number_kept s at old job tx turn.Went new row = asked_on s at old job tx (asked_at s job.place) new row
+number_kept s at old job tx turn.Went new row = asked_on s at old job tx (asked_at s job) new row
 number_kept s at old job tx turn.NoMemory new row =
     record { behind = _; tx' = _; doing = refl; number = refl; rank = refl; jobs = ap (λ (n : Moment). n.jobs) row.behind }
 number_kept s at old job tx (turn.Busy object holder) new row =

@@ -28,9 +28,10 @@ use Rattle.xc_world.specs.Effects.{undone_to}
 use Rattle.xc_world.specs.Run.{given_back}
 use Rattle.xc_world.specs.World.{World}
 use Rattle.xc_model.specs.BackingRows.{BackingRow, BacksOne, EndsBack, MarkedBack, OpenRow, backed, phase_after}
+use Rattle.xc_model.specs.Live.{IsScripted}
 use Rattle.xc_model.specs.Setting.{Setting}
 use Rattle.xc_model.specs.Moment.{Active, GivesBack, JobView, Moment, SavedView, TxView, active_in}
-use Rattle.xc_model.specs.Movers.{IsActiveAt, IsSameBegin, Mover, asked_at, mover, with_tx}
+use Rattle.xc_model.specs.Movers.{IsActiveAt, IsSameBegin, Mover, answered_with, asked_at, mover, with_tx}
 use Rattle.xc_model.specs.RunningRows.{MarkedTurn}
 use Rattle.xc_station.specs.Backs.{IsBackRow}
 use Rattle.xc_station.specs.Lent.{Lent}
@@ -115,7 +116,8 @@ module _ {H : Type 0} (model : HostModel H) (s : Setting) (shared : Shared H) (n
     -- all are undone
     pub ended_row : (place : Position) (more : List LateCall) → nat_lt (length kept.trail) (length tx.undo.pending) ≡ false
         → IsSameBegin job.place place → walk_of s.script place ≡ back_to (walk_of s.script job.place) job.place.saved → place.saved ≡ None
-        → job.place.at < place.at → asked_at s job.place ≡ ask.Call call.Back → tx.late ≡ kept.late ++ more → job' ≡ with_tx job place (backed tx kept)
+        → (IsScripted s.script → job.place.at < place.at) → asked_at s job ≡ ask.Call call.Back → tx.late ≡ kept.late ++ more
+        → job' ≡ answered_with job place (backed tx kept)
         → ((w : World) → given_back w shared'.buffers.kept ≡ given_back (given_back w shared.buffers.kept) (drop (length kept.taken) tx.taken))
         → ((item : KeptItem) → Contains shared'.buffers.kept item
         → Contains (drop (length kept.taken) tx.taken) item ⊎ Contains shared.buffers.kept item)

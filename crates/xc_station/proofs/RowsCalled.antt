@@ -19,7 +19,6 @@ use Rattle.xc_host.specs.Model.{HostModel}
 use Rattle.xc_host.specs.Uses.{CallsOf, Uses}
 use Rattle.xc_calls.specs.Taking.{HasTaken}
 use Rattle.xc_script.specs.declared.ask.Ask.TheVariants as ask
-use Rattle.xc_script.specs.Asking.{asks}
 use Rattle.xc_script.specs.Answers.{answered}
 use Rattle.xc_script.specs.Position.{Position, walk_of}
 use Rattle.xc_txmem.specs.Overlay.{overlaid}
@@ -34,7 +33,8 @@ use Rattle.xc_model.specs.Moment.{TxView, JobView, Active, Moment, active_in, ke
 use Rattle.xc_model.specs.WordCalls.{IsWordStep}
 use Rattle.xc_model.specs.RunningRows.{Calls, HoldsWanting, IsDoneWhere, KeepsWanting, opens_or_closes}
 use Rattle.xc_model.specs.PlainSteps.{StepsAsPlainIn, LeavesAsPlainIn, IsLeft}
-use Rattle.xc_model.specs.Movers.{HasCalled, IsActiveAt, IsSameBegin, mover}
+use Rattle.xc_model.specs.Live.{IsScripted}
+use Rattle.xc_model.specs.Movers.{HasCalled, IsActiveAt, IsSameBegin, answered_with, asked_at, mover}
 use Rattle.xc_model.specs.Rivals.{HasNoRival}
 use Rattle.xc_model.specs.Movers.{IsSamePosition, with_tx}
 use Rattle.xc_model.specs.PlainSteps.{IsReplyInTime, Parts, StopsAt, copied, noting, noting_plain, saved_by, tx_parts, stored_by, wanting}
@@ -46,7 +46,7 @@ use Rattle.xc_station.specs.Jobs.{tx_view}
 use Rattle.xc_station.specs.Moments.{HasTx, IsAt, IsGranted, IsRow, Front, busy_counted, front_of, marks_of, moved, told_by, told_front}
 use Rattle.xc_world.specs.Fits.{is_back}
 use Rattle.xc_station.proofs.DoingsBlocks.{no_way_back}
-use Rattle.xc_station.proofs.RowsRun.{asked_before, asked_row, called_turn}
+use Rattle.xc_station.proofs.RowsRun.{asked_row, called_turn}
 use Rattle.xc_station.proofs.Rivals.{none_met}
 use Rattle.xc_station.proofs.Seated.{marks_kept}
 use Rattle.xc_station.proofs.Tracked.{tracked_on}
@@ -55,7 +55,7 @@ use Rattle.xc_station.proofs.Tracked.{tracked_on}
 pub record IsBehindCall (s : Setting) (call : Call) (old new : Position) (reply : Reply) : Type 0 where
   pub begin : IsSameBegin old new
   pub walk : walk_of s.script new ≡ answered (walk_of s.script old) reply
-  pub nearer : old.at < new.at
+  pub nearer : IsScripted s.script → old.at < new.at
   pub values : new.saved ≡ saved_by call old.saved (walk_of s.script old).variables.values
 
 -- a call that isn't a back: it did what it does of blocks
@@ -67,7 +67,7 @@ pub record DoesBlocks (call : Call) (old new : TxView) (reply : Reply) : Type 0 
 -- ---- after granted claims
 module _ {H : Type 0} (model : HostModel H) (s : Setting) (shared : Shared H) (now : Moment) (at : ℕ) (job : JobView) (place : Position) (old : Tx)
     (here : IsAt model shared now at job) (has : HasTx s job place (tx_view old)) (behind : Shared H) (mid : Tx) (call : Call)
-    (words : behind.words ≡ shared.words) (asked : asks (walk_of s.script place) ≡ ask.Call call)
+    (words : behind.words ≡ shared.words) (asked : asked_at s job ≡ ask.Call call)
     (g : IsGranted (record { old = shared.sentinels; new = behind.sentinels }) (record { old = old; new = mid })
     (claims_of call old.me.value (length shared.words))) where
   active : IsActiveAt now.jobs at (tx_view old)
@@ -166,7 +166,7 @@ module _ {H : Type 0} (model : HostModel H) (s : Setting) (shared : Shared H) (n
     pub starved : (answer : Turn) → answer ≡ turn.NoMemory
         → IsRow (mover s at now job) (moved model behind (busy_counted answer (with_tx job place' (tx_view new))) now at) answer behind.sentinels.claims
     starved answer gives =
-        let next = asked_before s job place (tx_view old) (ask.Call call) has asked in
+        let next = asked in
         let held = holding old.held.items (claims_of call old.me.value (length now.words)) in
         let moment = moved model behind (with_tx job place' (tx_view new)) now at in
         subst (λ a. IsRow (mover s at now job) (moved model behind (busy_counted a (with_tx job place' (tx_view new))) now at) a behind.sentinels.claims)
@@ -239,15 +239,15 @@ module _ {H : Type 0} (model : HostModel H) (s : Setting) (shared : Shared H) (n
         (subst (λ c. Does now.words c (tx_parts (tx_view mid))) (told_now from host)
         (subst (λ ws. Does ws (told_front model from) (tx_parts (tx_view mid))) words_now (d.does (telling tells))))
 
-    calls_now : Calls (mover s at now job) (tx_view old) call (moved model behind (with_tx job place' (tx_view new)) now at)
+    calls_now : Calls (mover s at now job) (tx_view old) call (moved model behind (answered_with job place' (tx_view new)) now at)
     calls_now =
         record {
           free = granted_free;
           reply = reply;
           place = place';
           parts = tx_parts (tx_view done);
-          behind = touched (with_tx job place' (tx_view new))
-              ∙ ap (λ (t : TxView). record (with_job now at (with_tx job place' t)) {
+          behind = touched (answered_with job place' (tx_view new))
+              ∙ ap (λ (t : TxView). record (with_job now at (answered_with job place' t)) {
                 contents = told_by model behind;
                 faults = model.fault_count behind.host;
                 calls = model.calls behind.host;
@@ -260,7 +260,7 @@ module _ {H : Type 0} (model : HostModel H) (s : Setting) (shared : Shared H) (n
             begun = stands.begin.begun ∙ has.same.begin.begun;
           };
           walk = stands.walk ∙ ap (λ w. answered w reply) has.same.walk;
-          nearer = (let far = stands.nearer in let near = has.same.at in omega arith);
+          nearer = λ own. let far = stands.nearer own in let near = has.same.at in omega arith;
           saved = stands.values ∙ (λ i. saved_by call (has.same.saved i) (has.same.walk i).variables.values);
           no_way_back = no_way_back call old.me.value reply b.ahead
               (subst (λ (t : TxView). IsChecked (refusal_of call t.me) call reply) g.held d.checked);
@@ -268,7 +268,7 @@ module _ {H : Type 0} (model : HostModel H) (s : Setting) (shared : Shared H) (n
           in_time = subst (λ (t : TxView). IsReplyInTime t.me t.number call reply) g.held d.in_time;
           checked = subst (λ (t : TxView). IsChecked (refusal_of call t.me) call reply) g.held d.checked;
           after = subst (λ (t : TxView). IsMeAfter t.number call reply t.me done.me.value) g.held d.after;
-          uses = called_so (CallsOf (refusal_of call old.me.value) call reply) from (with_tx job place' (tx_view new)) host
+          uses = called_so (CallsOf (refusal_of call old.me.value) call reply) from (answered_with job place' (tx_view new)) host
               (subst (λ (t : TxView). Uses model (record { old = from.host; new = behind.host }) (CallsOf (refusal_of call t.me) call reply)) g.held d.uses);
           made = d.made;
           one = d.one;
@@ -284,8 +284,8 @@ module _ {H : Type 0} (model : HostModel H) (s : Setting) (shared : Shared H) (n
         }
 
     -- so its turn is that of a call
-    pub call_turn_row : IsRow (mover s at now job) (moved model behind (with_tx job place' (tx_view new)) now at) turn.Went behind.sentinels.claims
-    call_turn_row = row_granted (with_tx job place' (tx_view new)) (tx_view new) turn.Went refl (ap (λ (t : TxView). t.number) noted_as)
+    pub call_turn_row : IsRow (mover s at now job) (moved model behind (answered_with job place' (tx_view new)) now at) turn.Went behind.sentinels.claims
+    call_turn_row = row_granted (answered_with job place' (tx_view new)) (tx_view new) turn.Went refl (ap (λ (t : TxView). t.number) noted_as)
         (ap (λ (t : TxView). t.held) noted_as ∙ ap (holding old.held.items) (sym claims_now))
-        (asked_row s at now (moved model behind (with_tx job place' (tx_view new)) now at) job place (tx_view old) (ask.Call call) has asked
-        (called_turn (mover s at now job) (tx_view old) call (moved model behind (with_tx job place' (tx_view new)) now at) b.ahead (inl calls_now)))
+        (asked_row s at now (moved model behind (answered_with job place' (tx_view new)) now at) job (tx_view old) (ask.Call call) asked
+        (called_turn (mover s at now job) (tx_view old) call (moved model behind (answered_with job place' (tx_view new)) now at) b.ahead (inl calls_now)))

@@ -1,7 +1,7 @@
 -- Rows of the turn of a job whose transaction runs, but for calls whose claims are granted.
 use Rattle.std.proofs.Common.{◌≡◌, ◌⊎◌, inl, inr, ℕ, ◌<◌, ◌≤◌, Bool, true, false, List, [], length, refl, ap, sym, ◌∙◌, subst, arith}
 use Rattle.std.proofs.Math.Decide.{dec_le}
-use Rattle.std.specs.Prelude.{Option, is_some, IsSome, Err, nat_lt, slice_set}
+use Rattle.std.specs.Prelude.{Option, is_some, unwrap_or, IsSome, Err, nat_lt, slice_set, if◌then◌else◌}
 use Rattle.std.specs.declared.option.Option.TheVariants.{None, Some}
 use mathlib.Core.Logic.{dite}
 use borrow.Author.Tests.{ltb-false, ltb-true}
@@ -38,7 +38,9 @@ use Rattle.xc_model.specs.declared.phase.Phase.TheVariants.{Committing, Undoing,
 use Rattle.xc_model.specs.Setting.{Setting}
 use Rattle.xc_model.specs.Moment.{TxView, JobView, Moment, Active, active_in, asked_to_wait, with_job}
 use Rattle.xc_model.specs.RunningRows.{AskedTurn, CalledTurn, Calls, Conflicts, HoldsWanting, KeepsWanting}
-use Rattle.xc_model.specs.Movers.{IsActiveAt, IsSamePosition}
+use Rattle.xc_model.specs.Live.{IsScripted, asked_by, has_clients}
+use Rattle.xc_model.specs.Movers.{IsActiveAt, IsSamePosition, asked_at}
+use Rattle.xc_turns.proofs.Laws.{asks_scripted}
 use Rattle.xc_model.specs.Rivals.{IsFirstRival}
 use Rattle.xc_model.specs.Movers.{Mover, mover, with_tx}
 use Rattle.xc_model.specs.RunningRows.{RunningTurn, marks_with}
@@ -46,6 +48,7 @@ use Rattle.xc_model.specs.PlainSteps.{StopsAt, wanting}
 use Rattle.xc_station.specs.declared.calls.Shared.{Shared}
 use Rattle.xc_station.specs.declared.tx.Tx.{Tx}
 use Rattle.xc_station.specs.declared.tx.Saved.{Saved}
+use Rattle.xc_station.specs.Handed.{handed_back, handed_tx}
 use Rattle.xc_station.specs.Jobs.{saved_in, tx_view}
 use Rattle.xc_station.specs.Moments.{Front, front_of, told_by, told_front}
 use Rattle.xc_station.specs.Moments.{AreTerms, HasClaimed, HasTx, IsAt, IsRefused, IsRow, IsToldToWait, busy_counted, marks_of, moved, runs, seated_as}
@@ -85,16 +88,48 @@ no_calls ask.Abort = refl
 no_calls ask.End = refl
 
 -- ---- what is asked
--- silent statements lead to what is asked
-pub asked_before : (s : Setting) (job : JobView) (place : Position) (tx : TxView) (a : Ask) → HasTx s job place tx → asks (walk_of s.script place) ≡ a
-    → asks (walk_of s.script job.place) ≡ a
-asked_before s job place tx a has asked = ap asks (sym has.same.walk) ∙ asked
+-- of a script silent statements lead to what is asked
+pub asked_of_script : (s : Setting) (job : JobView) (place : Position) (tx : TxView) (a : Ask) → IsScripted s.script → HasTx s job place tx
+    → asks (walk_of s.script place) ≡ a → asked_at s job ≡ a
+asked_of_script s job place tx a own has asked = asks_scripted s job own ∙ ap asks (sym has.same.walk) ∙ asked
+
+-- a call that is tried is asked: by the script, or as it is handed in
+pub asked_call : (s : Setting) (job : JobView) (place : Position) (tx : TxView) (handed : Option Ask) (call : Call) → HasTx s job place tx
+    → (IsScripted s.script → asks (walk_of s.script place) ≡ ask.Call call) → job.handed ≡ handed_back s.script handed call → asked_at s job ≡ ask.Call call
+asked_call s job place tx handed call has asked holds = go (has_clients s.script) refl
+  where
+    go : (b : Bool) → has_clients s.script ≡ b → asked_at s job ≡ ask.Call call
+    go true live =
+        ap (λ (b : Bool). asked_by b s.script job.handed job.place) live
+        ∙ ap (λ (o : Option Ask). unwrap_or o ask.End) (holds ∙ ap (λ (b : Bool). if b then Some (ask.Call call) else handed) live)
+    go false own = asked_of_script s job place tx (ask.Call call) own has (asked own)
+
+-- of a client what it has handed in
+pub asked_of_client : (s : Setting) (job : JobView) (a : Ask) → has_clients s.script ≡ true → job.handed ≡ Some a → asked_at s job ≡ a
+asked_of_client s job a live holds =
+    ap (λ (b : Bool). asked_by b s.script job.handed job.place) live ∙ ap (λ (o : Option Ask). unwrap_or o ask.End) holds
 
 -- so the turn is that of what is asked
-pub asked_row : (s : Setting) (at : ℕ) (now new : Moment) (job : JobView) (place : Position) (tx : TxView) (a : Ask) → HasTx s job place tx
-    → asks (walk_of s.script place) ≡ a → AskedTurn (mover s at now job) tx a new → RunningTurn (mover s at now job) tx turn.Went new
-asked_row s at now new job place tx a has asked row =
-    subst (λ b. AskedTurn (mover s at now job) tx b new) (sym (asked_before s job place tx a has asked)) row
+pub asked_row : (s : Setting) (at : ℕ) (now new : Moment) (job : JobView) (tx : TxView) (a : Ask) → asked_at s job ≡ a
+    → AskedTurn (mover s at now job) tx a new → RunningTurn (mover s at now job) tx turn.Went new
+asked_row s at now new job tx a asked row = subst (λ b. AskedTurn (mover s at now job) tx b new) (sym asked) row
+
+-- a client's call stays handed in
+pub handed_live : (script : Script) (handed : Option Ask) (call : Call) → has_clients script ≡ true → Some (ask.Call call) ≡ handed_back script handed call
+handed_live script handed call live = ap (λ (b : Bool). if b then Some (ask.Call call) else handed) (sym live)
+
+-- with this handed in, as before
+handed_so : (job : JobView) (handed : Option Ask) (place : Position) (tx : TxView) → job.handed ≡ handed → with_tx job place tx ≡ handed_tx job handed place tx
+handed_so job handed place tx same = λ i. record (with_tx job place tx) { handed = same i }
+
+-- a row after which what was handed in is as before
+pub row_handed : {H : Type 0} (model : HostModel H) (s : Setting) (at : ℕ) (now : Moment) (job : JobView) (behind : Shared H) (handed : Option Ask)
+    (place : Position) (tx : TxView) (answer : Turn) (claims : Table) → job.handed ≡ handed
+    → IsRow (mover s at now job) (moved model behind (busy_counted answer (with_tx job place tx)) now at) answer claims
+    → IsRow (mover s at now job) (moved model behind (busy_counted answer (handed_tx job handed place tx)) now at) answer claims
+row_handed model s at now job behind handed place tx answer claims same row =
+    subst (λ (j : JobView). IsRow (mover s at now job) (moved model behind (busy_counted answer j) now at) answer claims)
+    (handed_so job handed place tx same) row
 
 -- so it is of a call that isn't a back: it is done, or meets a holder
 pub called_turn : (m : Mover) (tx : TxView) (c : Call) (new : Moment) → is_back c ≡ false → Calls m tx c new ⊎ Conflicts m tx c new → CalledTurn m tx c new
@@ -182,7 +217,7 @@ module _ {H : Type 0} (model : HostModel H) (s : Setting) (shared : Shared H) (n
   -- another holds something against it
   pub refused : (behind : Shared H) (new : Tx) (call : Call) (patient : Bool) (entered : ℕ) → is_back call ≡ false → front_of behind ≡ front_of shared
       → behind.words ≡ shared.words
-      → asks (walk_of s.script place) ≡ ask.Call call → AreTerms s.rules now job patient entered
+      → asked_at s job ≡ ask.Call call → AreTerms s.rules now job patient entered
       → IsRefused (record { old = shared.sentinels; new = behind.sentinels }) (record { old = old; new = new })
       (record { claims = claims_of call old.me.value (length shared.words); patient = patient; at = entered })
       → IsRow (mover s at now job) (moved model behind (with_tx job place (tx_view new)) now at) turn.Went behind.sentinels.claims
@@ -193,7 +228,7 @@ module _ {H : Type 0} (model : HostModel H) (s : Setting) (shared : Shared H) (n
       let kept : KeepsSeats shared.sentinels.seats behind.sentinels.seats = λ n. ap (λ (t : Sentinels). seat_in t.seats n) r.conflict.same in
       row_same behind (with_tx job place (tx_view new)) (tx_view new) turn.Went (ap (λ (t : Sentinels). t.claims) r.conflict.same) refl
       (ap (λ (t : TxView). t.number) r.undoes) (ap (λ (t : TxView). t.held) r.undoes)
-      (asked_row s at now (moved model behind (with_tx job place (tx_view new)) now at) job place (tx_view old) (ask.Call call) has asked
+      (asked_row s at now (moved model behind (with_tx job place (tx_view new)) now at) job (tx_view old) (ask.Call call) asked
       (called_turn (mover s at now job) (tx_view old) call (moved model behind (with_tx job place (tx_view new)) now at) ahead (inr (record {
         object = r.object;
         holder = r.holder;
@@ -209,7 +244,7 @@ module _ {H : Type 0} (model : HostModel H) (s : Setting) (shared : Shared H) (n
   -- a younger one does, and is waited for
   pub told_to_wait : (behind : Shared H) (new : Tx) (call : Call) (patient : Bool) (entered : ℕ) (object : Object) (holder : ℕ)
       → front_of behind ≡ front_of shared
-      → behind.words ≡ shared.words → asks (walk_of s.script place) ≡ ask.Call call → AreTerms s.rules now job patient entered
+      → behind.words ≡ shared.words → asked_at s job ≡ ask.Call call → AreTerms s.rules now job patient entered
       → IsToldToWait (record { old = shared.sentinels; new = behind.sentinels }) (record { old = old; new = new })
       (record { claims = claims_of call old.me.value (length shared.words); patient = patient; at = entered }) object holder
       → IsRow (mover s at now job) (moved model behind (asked_to_wait (with_tx job place (tx_view new))) now at)
@@ -226,7 +261,7 @@ module _ {H : Type 0} (model : HostModel H) (s : Setting) (shared : Shared H) (n
       (ap (λ (t : TxView). t.number) w.still) (ap (λ (t : TxView). t.held) w.still)
       (record {
         call = call;
-        asked = asked_before s job place (tx_view old) (ask.Call call) has asked;
+        asked = asked;
         met = met;
         younger = (younger _ object holder met).0 w.busy.younger;
         patient = ltb-true job.busy s.rules.patience (sym terms.patience ∙ w.busy.patience);
@@ -262,7 +297,7 @@ module _ {H : Type 0} (model : HostModel H) (s : Setting) (shared : Shared H) (n
         left = [];
         one = omega arith;
         held = old.held.items;
-        holds = as_before (mover s at now job) (tx_view old) (asks (walk_of s.script job.place));
+        holds = as_before (mover s at now job) (tx_view old) (asked_at s job);
         behind = unmarked_moment behind (with_tx job place (tx_view new)) host words kept
             ∙ ap (λ (t : TxView). with_job now at (with_tx job place t)) (is ∙ without_record)
             ∙ (λ i. record (with_job now at (with_tx job place (wanting (tx_view old) [] old.held.items))) {
@@ -270,11 +305,11 @@ module _ {H : Type 0} (model : HostModel H) (s : Setting) (shared : Shared H) (n
               calls = (here.calls ∙ sym (ap (λ (f : Front H). model.calls f.host) host)) i;
               kept = (here.kept ∙ sym (ap (λ (f : Front H). f.lent.kept) host)) i;
             });
-        kept = kept_still (mover s at now job) (tx_view old) (asks (walk_of s.script job.place))
+        kept = kept_still (mover s at now job) (tx_view old) (asked_at s job)
             (record { old = now.kept; new = behind.buffers.kept }) (ap (λ (f : Front H). f.lent.kept) host ∙ sym here.kept);
         uses = (
           [],
-          no_calls (asks (walk_of s.script job.place)),
+          no_calls (asked_at s job),
           λ kind. ap (λ (calls : HostCallKind → ℕ). calls kind) (ap (λ (f : Front H). model.calls f.host) host ∙ sym here.calls),
         );
         contents = λ _. inl (refl, ap (told_front model) host ∙ sym here.contents);
@@ -284,12 +319,12 @@ module _ {H : Type 0} (model : HostModel H) (s : Setting) (shared : Shared H) (n
   -- its stores are written
   pub commit_turn_row : (behind : Shared H) (new : Tx) → front_of behind ≡ front_of shared → behind.words ≡ overlaid shared.words old.writes.stores
       → behind.sentinels ≡ shared.sentinels
-      → tx_view new ≡ record (tx_view old) { phase = Committing } → asks (walk_of s.script place) ≡ ask.Commit → IsPastSilent s.script place
+      → tx_view new ≡ record (tx_view old) { phase = Committing } → asked_at s job ≡ ask.Commit → IsPastSilent s.script place
       → IsRow (mover s at now job) (moved model behind (with_tx job place (tx_view new)) now at) turn.Went behind.sentinels.claims
   commit_turn_row behind new host words same is asked settled =
       row_same behind (with_tx job place (tx_view new)) (tx_view new) turn.Went (ap (λ (t : Sentinels). t.claims) same) refl
       (ap (λ (t : TxView). t.number) is) (ap (λ (t : TxView). t.held) is)
-      (asked_row s at now (moved model behind (with_tx job place (tx_view new)) now at) job place (tx_view old) ask.Commit has asked (record {
+      (asked_row s at now (moved model behind (with_tx job place (tx_view new)) now at) job (tx_view old) ask.Commit asked (record {
         place = place;
         same = has.same;
         settled = settled;
@@ -306,12 +341,12 @@ module _ {H : Type 0} (model : HostModel H) (s : Setting) (shared : Shared H) (n
 
   -- the script asks its abort
   pub abort_turn_row : (behind : Shared H) (new : Tx) → front_of behind ≡ front_of shared → behind.words ≡ shared.words → behind.sentinels ≡ shared.sentinels
-      → tx_view new ≡ record (tx_view old) { phase = Undoing cause.Asked } → asks (walk_of s.script place) ≡ ask.Abort
+      → tx_view new ≡ record (tx_view old) { phase = Undoing cause.Asked } → asked_at s job ≡ ask.Abort
       → IsRow (mover s at now job) (moved model behind (with_tx job place (tx_view new)) now at) turn.Went behind.sentinels.claims
   abort_turn_row behind new host words same is asked =
       row_same behind (with_tx job place (tx_view new)) (tx_view new) turn.Went (ap (λ (t : Sentinels). t.claims) same) refl
       (ap (λ (t : TxView). t.number) is) (ap (λ (t : TxView). t.held) is)
-      (asked_row s at now (moved model behind (with_tx job place (tx_view new)) now at) job place (tx_view old) ask.Abort has asked (record {
+      (asked_row s at now (moved model behind (with_tx job place (tx_view new)) now at) job (tx_view old) ask.Abort asked (record {
         place = place;
         same = has.same;
         behind = unmarked_moment behind (with_tx job place (tx_view new)) host words (λ n. ap (λ (t : Sentinels). seat_in t.seats n) same)
@@ -320,13 +355,13 @@ module _ {H : Type 0} (model : HostModel H) (s : Setting) (shared : Shared H) (n
 
   -- the script asks it to go back to its block's begin
   pub begins_back : (behind : Shared H) (new : Tx) → front_of behind ≡ front_of shared → behind.words ≡ shared.words → behind.sentinels ≡ shared.sentinels
-      → tx_view new ≡ record (tx_view old) { phase = Backing } → asks (walk_of s.script place) ≡ ask.Call call.Back → IsPastSilent s.script place
+      → tx_view new ≡ record (tx_view old) { phase = Backing } → asked_at s job ≡ ask.Call call.Back → IsPastSilent s.script place
       → IsSome (tx_view old).saved
       → IsRow (mover s at now job) (moved model behind (with_tx job place (tx_view new)) now at) turn.Went behind.sentinels.claims
   begins_back behind new host words same is asked settled opened =
       row_same behind (with_tx job place (tx_view new)) (tx_view new) turn.Went (ap (λ (t : Sentinels). t.claims) same) refl
       (ap (λ (t : TxView). t.number) is) (ap (λ (t : TxView). t.held) is)
-      (asked_row s at now (moved model behind (with_tx job place (tx_view new)) now at) job place (tx_view old) (ask.Call call.Back) has asked (record {
+      (asked_row s at now (moved model behind (with_tx job place (tx_view new)) now at) job (tx_view old) (ask.Call call.Back) asked (record {
         place = place;
         same = has.same;
         settled = settled;
@@ -338,7 +373,7 @@ module _ {H : Type 0} (model : HostModel H) (s : Setting) (shared : Shared H) (n
   -- the claims failed
   pub unclaimed : (behind : Shared H) (new : Tx) (call : Call) (patient : Bool) (entered : ℕ) (answer : Turn) → is_back call ≡ false
       → front_of behind ≡ front_of shared
-      → behind.words ≡ shared.words → asks (walk_of s.script place) ≡ ask.Call call → AreTerms s.rules now job patient entered
+      → behind.words ≡ shared.words → asked_at s job ≡ ask.Call call → AreTerms s.rules now job patient entered
       → HasClaimed (record { old = shared.sentinels; new = behind.sentinels }) (record { old = old; new = new })
       (record { claims = claims_of call old.me.value (length shared.words); patient = patient; at = entered }) (Err answer)
       → IsRow (mover s at now job) (moved model behind (busy_counted answer (with_tx job place (tx_view new))) now at) answer behind.sentinels.claims
@@ -358,6 +393,12 @@ has_tx s job was place tx doing stands same = record { doing = doing; same = sub
 asks_left : (o : Option (List Statement)) (walk : Walk) → IsSome o → asks_from o walk ≡ asks walk
 asks_left None walk some = cc
 asks_left (Some body) walk some = refl
+
+-- a transaction at the place where its job stands
+pub stands_with_tx : (s : Setting) (job : JobView) (place : Position) (tx : TxView) → job.doing ≡ Active tx → job.place ≡ place → HasTx s job place tx
+stands_with_tx s job place tx doing stands =
+    has_tx s job place place tx doing stands
+    (record { begin = record { block = refl; next = refl; begun = refl }; walk = refl; saved = refl; at = omega arith })
 
 -- with a transaction left, the walk asks
 pub asked_walk : (script : Script) (was place : Position) (a : Ask) → IsSome (next_body script (job_of was)) → walk_of script place ≡ walk_of script was

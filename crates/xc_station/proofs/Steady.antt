@@ -9,6 +9,7 @@ use Rattle.xc_model.specs.Setting.{Setting, setting}
 use Rattle.xc_model.specs.Progress.{progress_of}
 use Rattle.xc_model.specs.Played.{IsPlayedSoFar}
 use Rattle.xc_model.specs.Moment.{TxView, Moment}
+use Rattle.xc_model.specs.Live.{IsScripted}
 use Rattle.xc_model.specs.Movers.{IsActiveAt, asked_at}
 use Rattle.xc_model.specs.Rows.{IsTurn}
 use Rattle.xc_turns.proofs.Laws.{apart_kept, turn_leaves_attempts, turn_keeps_count, grounds_kept, turn_keeps_handles, leaves_fewer, turn_revokes_none}
@@ -22,7 +23,7 @@ pub steady_kept : (s : Setting) (faults at : ℕ) (old new : Moment) (answer : T
 steady_kept s faults at old new answer steady turned =
     let told = steady.kept.told in
     let played : IsTrue s.tells → (tx : TxView) → (is : IsActiveAt old.jobs at tx)
-    → IsPlayedSoFar (asked_at s is.0.place) (length old.words) (progress_of s.script old.journal) at tx =
+    → IsPlayedSoFar (asked_at s is.0) (length old.words) (progress_of s.script old.journal) at tx =
     λ tells tx is. played_there s old told (steady.flying tells) at is.0 tx is.1 is.2 in
     let (stories, asked) = a_turn_keeps_the_stories_but s at old new answer turned steady.kept.spoken played steady.kept.started told
     (grounds_kept s at old new answer turned played told) in
@@ -45,10 +46,10 @@ steady_kept s faults at old new answer steady turned =
 -- ---- turns that are left
 -- of a station that keeps what it was started with, fewer are left after a turn
 pub fewer_left : {H : Type 0} (model : HostModel H) (old new : StationView H) (at : ℕ) (answer : Turn) → KeepsOpening old new
-    → IsTurn (setting_of model old) at (now_of model old) answer (now_of model new)
+    → IsScripted old.opening.script → IsTurn (setting_of model old) at (now_of model old) answer (now_of model new)
     → turns_left (setting_of model new) (now_of model new) < turns_left (setting_of model old) (now_of model old)
-fewer_left model old new at answer same row =
+fewer_left model old new at answer same own row =
     let opening : old.opening ≡ new.opening = sym same.opening in
     let rules : old.rules ≡ new.rules = sym same.rules in
     subst (λ (s : Setting). turns_left s (now_of model new) < turns_left (setting_of model old) (now_of model old))
-    (λ i. setting ((opening i).script) (rules i) model.tells) (leaves_fewer (setting_of model old) at (now_of model old) (now_of model new) answer row)
+    (λ i. setting ((opening i).script) (rules i) model.tells) (leaves_fewer (setting_of model old) at (now_of model old) (now_of model new) answer own row)

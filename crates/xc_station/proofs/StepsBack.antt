@@ -23,7 +23,8 @@ use Rattle.xc_model.specs.BackingRows.{backed, phase_after}
 use Rattle.xc_model.specs.declared.phase.Phase.TheVariants.{Backing}
 use Rattle.xc_model.specs.declared.rules.Rules.{Rules}
 use Rattle.xc_model.specs.Moment.{Active, Moment, TxView}
-use Rattle.xc_model.specs.Movers.{IsSameBegin, mover, with_tx}
+use Rattle.xc_model.specs.Live.{IsScripted}
+use Rattle.xc_model.specs.Movers.{IsSameBegin, answered_with, mover, with_tx}
 use Rattle.xc_model.specs.Setting.{setting}
 use Rattle.xc_model.specs.Stories.{IsAboveSave}
 use Rattle.xc_station.specs.Backs.{CanGoBack, CanStepBack, HasSave, IsSaveOf}
@@ -34,7 +35,7 @@ use Rattle.xc_station.specs.declared.calls.Shared.{Shared}
 use Rattle.xc_station.specs.declared.job.Job.{Job}
 use Rattle.xc_station.specs.declared.tx.Saved.{Saved}
 use Rattle.xc_station.specs.declared.tx.Tx.{Tx}
-use Rattle.xc_station.proofs.Closed.{active_again, active_with_job, its_active, moves_on}
+use Rattle.xc_station.proofs.Closed.{active_again, active_with_job, its_active, moves_handed, moves_on}
 use Rattle.xc_station.proofs.RowsBack.{ended_row, tried_row}
 use Rattle.xc_station.proofs.WaysBack.{few_faults, given_part, left_among}
 
@@ -141,20 +142,20 @@ module _ {H : Type 0} (model : HostModel H) (script : Script) (rules : Rules) (s
         (none : length job.tx.undo.pending ≤ kept.records) (view : tx_view tx ≡ backed (tx_view job.tx) (saved_view job.tx kept))
         (words : shared'.words ≡ shared.words) (sentinels : shared'.sentinels ≡ shared.sentinels) (host : shared'.host ≡ shared.host) where
       pub ended_open : (now : Moment) (at : ℕ) → IsSameBegin job.place place → walk_of script place ≡ back_to (walk_of script job.place) job.place.saved
-          → place.saved ≡ None → job.place.at < place.at
+          → place.saved ≡ None → (IsScripted script → job.place.at < place.at)
           → ((w : World) → given_back w shared'.buffers.kept ≡ given_back (given_back w shared.buffers.kept) (drop kept.taken job.tx.taken.items))
           → ((item : KeptItem) → Contains shared'.buffers.kept item
           → Contains (drop kept.taken job.tx.taken.items) item ⊎ Contains shared.buffers.kept item)
           → IsAt model shared now at (job_view job)
           → IsOpenRow (mover (setting script rules model.tells) at now (job_view job))
-          (moved model shared' (job_view (record job { place = place; tx = tx })) now at)
+          (moved model shared' (job_view (record job { handed = None; place = place; tx = tx })) now at)
       ended_open now at begin walk closed nearer given among here =
           let count : length (take kept.taken job.tx.taken.items) ≡ kept.taken = length-take-le kept.taken job.tx.taken.items has.taken in
           ended_row model (setting script rules model.tells) shared now at (job_view job) (tx_view job.tx) here doing (saved_view job.tx kept) in_block
-          shared' (job_view (record job { place = place; tx = tx })) words sentinels place (drop kept.late job.tx.late.calls)
+          shared' (job_view (record job { handed = None; place = place; tx = tx })) words sentinels place (drop kept.late job.tx.late.calls)
           (le-ltb _ _ (omega (arith, trail_count, none))) begin walk closed nearer can.asked
           (sym (take-append-drop kept.late job.tx.late.calls))
-          (sym (moves_on job can.tx place tx can.doing begun) ∙ ap (with_tx (job_view job) place) view)
+          (sym (moves_handed job can.tx None place tx can.doing begun) ∙ ap (answered_with (job_view job) place) view)
           (subst (λ n. (w : World) → given_back w shared'.buffers.kept ≡ given_back (given_back w shared.buffers.kept) (drop n job.tx.taken.items)) (sym count)
           given)
           (subst (λ n. (item : KeptItem) → Contains shared'.buffers.kept item → Contains (drop n job.tx.taken.items) item ⊎ Contains shared.buffers.kept item)
@@ -164,7 +165,7 @@ module _ {H : Type 0} (model : HostModel H) (script : Script) (rules : Rules) (s
           → shared'.buffers.noted + length job.tx.taken.items ≡ shared.buffers.noted + length tx.taken.items
           → ((item : KeptItem) → Contains shared'.buffers.kept item
           → Contains (drop kept.taken job.tx.taken.items) item ⊎ Contains shared.buffers.kept item)
-          → (behind : TxView) × (doing_of (record job { place = place; tx = tx }) ≡ Active behind)
+          → (behind : TxView) × (doing_of (record job { handed = None; place = place; tx = tx }) ≡ Active behind)
           × Returns model (record { old = front_of shared; new = front_of shared' }) (record { old = was; new = behind })
       ended_returns was does noted among =
           let front : Step (Front H) = record { old = front_of shared; new = front_of shared' } in (

@@ -26,6 +26,7 @@ use Rattle.xc_model.specs.Moment.{TxView, JobView, Doing, Idle, Active, Starved,
 use Rattle.xc_model.specs.Setting.{Setting}
 use Rattle.xc_model.specs.Started.{start_count, started_by}
 use Rattle.xc_model.specs.Stories.{IsInPhase, IsRunning}
+use Rattle.xc_model.specs.Movers.{asked_at}
 use Rattle.xc_turns.proofs.Laws.{adds, sum_set, story_in_phase, none_late, no_thread, none_started, one_more, started_count}
 use Rattle.xc_world.specs.World.{beginning}
 use Rattle.xc_station.specs.declared.calls.Shared.{Shared}
@@ -65,6 +66,7 @@ same_started script job tx ends block =
       block = block;
       me = beginning tx.me.places;
       place = at_begin (record { block = block_place script block; next = 0; variables = handed i });
+      handed = None;
       attempts = None;
       busy = 0;
       doing = Idle;
@@ -120,7 +122,7 @@ pub none_running : (s : Setting) (faults : ℕ) (now : Moment) (at : ℕ) (job :
     → slice_get now.jobs at ≡ Some job → job.doing ≡ Active tx → tx.phase ≡ phase.Running → started_in s.script job job.doing ≡ []
 none_running s faults now at job tx steady stands is runs =
     let in' = story_in_phase s at now job tx stands is steady.kept.told in
-    let running : IsRunning s in'.0 job.place tx = subst (IsInPhase s in'.0 job.place tx) runs in'.1 in
+    let running : IsRunning tx = subst (IsInPhase s job.place (asked_at s job) tx) runs in'.1 in
     none_without s.script job tx is running.no_ends
 
 -- nor has one that undoes

@@ -10,10 +10,10 @@ use Rattle.xc_host.specs.Model.{HostModel}
 use Rattle.xc_model.specs.declared.phase.Phase.TheVariants.{Backing}
 use Rattle.xc_model.specs.BackingRows.{MarkedBack}
 use Rattle.xc_model.specs.Moment.{TxView, JobView, Active, Moment}
+use Rattle.xc_model.specs.Live.{asked_by, has_clients}
 use Rattle.xc_model.specs.Movers.{Mover}
 use Rattle.xc_model.specs.Stories.{IsAboveSave}
-use Rattle.xc_script.specs.Asking.{asks}
-use Rattle.xc_script.specs.Position.{walk_of, IsPastSilent}
+use Rattle.xc_script.specs.Position.{IsPastSilent}
 use Rattle.xc_script.specs.declared.ask.Ask.TheVariants as ask
 use Rattle.xc_sentinel.specs.declared.sentinels.Sentinels.{Sentinels}
 use Rattle.xc_text.specs.declared.script.Script.{Script}
@@ -64,7 +64,7 @@ pub record CanStepBack {H : Type 0} (script : Script) (model : HostModel H) (sha
   pub tx : TxView
   pub doing : job.doing ≡ Active tx
   pub backing : tx.phase ≡ Backing
-  pub asked : asks (walk_of script job.place) ≡ ask.Call call.Back
+  pub asked : asked_by (has_clients script) script job.handed job.place ≡ ask.Call call.Back
   pub settled : IsPastSilent script job.place
   pub kept : IsSome job.place.saved
   pub within : IsAboveSave tx.saved tx.undo.pending

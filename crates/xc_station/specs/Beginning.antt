@@ -1,5 +1,5 @@
 -- The turn of an idle job.
-use Rattle.std.specs.Prelude.{◌≡◌, ℕ, ◌<◌, true, is_some, Option}
+use Rattle.std.specs.Prelude.{◌≡◌, ℕ, ◌<◌, Bool, true, false, is_some, not, Option}
 use Rattle.std.specs.declared.option.Option.TheVariants.{None, Some}
 use Rattle.xc_data.specs.declared.entry.Turn.{Turn}
 use Rattle.xc_data.specs.declared.entry.Turn.TheVariants as turn
@@ -10,8 +10,22 @@ use Rattle.xc_model.specs.declared.phase.Attempts.{Attempts}
 use Rattle.xc_model.specs.Setting.{Setting}
 use Rattle.xc_model.specs.Moment.{JobView, Ended, Moment, asked_to_wait}
 use Rattle.xc_model.specs.IdleRows.{IsEnding, IsWaiting, NamesLast}
+use Rattle.xc_model.specs.Movers.{body_at}
+use Rattle.xc_script.specs.declared.ask.Ask.{Ask}
+use Rattle.xc_script.specs.declared.ask.Ask.TheVariants as ask
 use Rattle.xc_station.specs.declared.begin_tx.Halt.{Halt}
 use Rattle.xc_station.specs.declared.begin_tx.Halt.TheVariants.{End, Wait}
+
+-- a client has handed in its end
+abbrev pub is_end_in : Option Ask → Bool
+is_end_in (Some ask.End) = true
+-- it has handed in something else, or nothing
+is_end_in _ = false
+
+-- whether a job is over, as the code looks at it: by what its client has handed in, or by its block
+abbrev pub is_over_in : Bool → Setting → JobView → Bool
+is_over_in true s job = is_end_in job.handed
+is_over_in false s job = not (is_some (body_at s job.place))
 
 -- the transaction that ended the last attempt is this one, for this object; or there is none
 abbrev pub IsNamedLast : Option Attempts → Option (Object × ℕ) → Type 0

@@ -7,7 +7,6 @@ use Rattle.xc_data.specs.Step.{Step}
 use Rattle.xc_data.specs.declared.entry.Event.{Event}
 use Rattle.xc_data.specs.declared.entry.Event.TheVariants.{Turned}
 use Rattle.xc_data.specs.declared.entry.Turn.{Turn}
-use Rattle.xc_turnstile.specs.Meanings.{Meaning}
 use Rattle.xc_host.specs.Model.{HostModel}
 use Rattle.xc_station.specs.Stations.{StationView, KeepsOrigin, IsFrontOf, HasTurned}
 
@@ -30,13 +29,3 @@ IsTurnTried model job station true (Some answer) = HasTurned model job station a
 IsTurnTried model job station false None = station.new ≡ with_event station.old (Turned job None)
 IsTurnTried model job station true None = ⊥
 IsTurnTried model job station false (Some answer) = ⊥
-
--- what passes know of a station
-abbrev pub meaning_of : {H : Type 0} → Meaning (StationView H)
-meaning_of =
-    record {
-      journal = λ station. station.journal;
-      origin = λ station. record { script = station.opening.script; faults = station.opening.faults; rules = station.rules };
-      count = λ station. station.events;
-      last = λ station. station.last;
-    }

@@ -87,12 +87,21 @@ doing_of job = doing_view job.tx job.activity
 -- a job
 abbrev pub job_view : Job → JobView
 job_view job =
-    record { block = job.block; me = begun_of job.tx; place = job.place; attempts = job.attempts; busy = job.busy; doing = doing_of job }
+    record {
+      block = job.block;
+      me = begun_of job.tx;
+      place = job.place;
+      handed = job.handed;
+      attempts = job.attempts;
+      busy = job.busy;
+      doing = doing_of job;
+    }
 
 -- ---- what a committing transaction has started
 -- a child, as the job that it is from the entry on
 abbrev pub child_view : Child → JobView
-child_view child = record { block = child.block; me = begun_of child.tx; place = child.place; attempts = None; busy = 0; doing = Idle }
+child_view child =
+    record { block = child.block; me = begun_of child.tx; place = child.place; handed = None; attempts = None; busy = 0; doing = Idle }
 
 -- the jobs that this one's active transaction has started, as they are from its entry on
 abbrev pub started_in : Script → JobView → Doing → List JobView

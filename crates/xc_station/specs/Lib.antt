@@ -3,10 +3,13 @@ pub mod Backs
 pub mod Beginning
 pub mod Events
 pub mod Finishing
+pub mod Handed
+pub mod HandedTold
 pub mod Jobs
 pub mod Lent
 pub mod Moments
 pub mod Names
+pub mod Passes
 pub mod Places
 pub mod PutBack
 pub mod Returning

@@ -16,9 +16,8 @@ use Rattle.xc_host.specs.Contents.{Contents}
 use Rattle.xc_host.specs.Kept.{KeepsData, with_kept}
 use Rattle.xc_host.specs.Model.{HostModel}
 use Rattle.xc_script.specs.Ask.{next_body}
-use Rattle.xc_script.specs.Asking.{asks}
 use Rattle.xc_script.specs.Blocks.{ask_fits}
-use Rattle.xc_script.specs.Position.{Position, job_of, walk_of}
+use Rattle.xc_script.specs.Position.{Position, job_of}
 use Rattle.xc_text.specs.declared.script.Script.{Script}
 use Rattle.xc_locks.specs.Met.{IsNotMet}
 use Rattle.xc_locks.specs.Table.{Table, Holds, KeepsOthers, mode_in, held_mode}
@@ -33,6 +32,7 @@ use Rattle.xc_model.specs.declared.phase.Phase.TheVariants.{Running, Committing,
 use Rattle.xc_model.specs.declared.rules.Rules.{Rules}
 use Rattle.xc_model.specs.Setting.{Setting}
 use Rattle.xc_model.specs.Moment.{TxView, JobView, Active, Moment, actives, asked_to_wait}
+use Rattle.xc_model.specs.Live.{asked_by, has_clients}
 use Rattle.xc_model.specs.Movers.{IsActiveAt, IsSamePosition, Mover}
 use Rattle.xc_model.specs.RunningRows.{MarkedTurn, RunningTurn}
 use Rattle.xc_model.specs.Holding.{AreApart}
@@ -229,8 +229,8 @@ pub record CanRun {H : Type 0} (script : Script) (model : HostModel H) (shared :
   pub tx : TxView
   pub doing : job.doing ≡ Active tx
   pub left : IsSome (next_body script (job_of job.place))
-  -- what is asked fits the block that is open, in the script as in the transaction
-  pub fits : ask_fits (is_some tx.saved) (asks (walk_of script job.place)) ≡ true
+  -- what is asked, by its script or by its client, fits the block that is open
+  pub fits : ask_fits (is_some tx.saved) (asked_by (has_clients script) script job.handed job.place) ≡ true
   pub together : is_some job.place.saved ≡ is_some tx.saved
   pub may : MayGo (length shared.words) tx
   pub ready : IsTrue model.tells → AreReadyFor tx (model.contents shared.host)

@@ -9,6 +9,7 @@ ghost use Rattle.xc_data.specs.declared.entry.KeptItem.{KeptItem};
 ghost use Rattle.xc_model.specs.BackingRows.{backed, phase_after};
 ghost use Rattle.xc_model.specs.declared.phase.Phase.TheVariants as PlainPhase;
 ghost use Rattle.xc_model.specs.Moment.{Active, Moment, TxView};
+ghost use Rattle.xc_model.specs.Live.{IsScripted};
 ghost use Rattle.xc_model.specs.Movers.{IsSameBegin, mover};
 ghost use Rattle.xc_model.specs.Setting.{setting};
 ghost use Rattle.xc_script.specs.Blocks.{back_to};
@@ -106,7 +107,7 @@ fn end_back(buffers: &mut Buffers, script: &Script, place: &mut JobState, tx: &m
     requires room { HasNoteRoom tx.old }
     requires noted { length tx.old.taken.items ≤ buffers.old.noted }
     requires place { IsSome place.old.saved }
-    requires asked { IsAskedCall script.now place.old }
+    requires asked { IsScripted script.now → IsAskedCall script.now place.old }
     requires settled { IsPastSilent script.now place.old }
     ensures tx { (kept : PlainSaved) → tx.old.saved ≡ Some kept → tx_view tx.new ≡ backed (tx_view tx.old) (saved_view tx.old kept) }
     ensures save { HasSave tx.new tx.new.saved }
@@ -119,7 +120,7 @@ fn end_back(buffers: &mut Buffers, script: &Script, place: &mut JobState, tx: &m
     ensures walk { walk_of script.now place.new ≡ back_to (walk_of script.now place.old) place.old.saved }
     ensures begin { IsSameBegin place.old place.new }
     ensures closed { place.new.saved ≡ None }
-    ensures nearer { place.old.at < place.new.at }
+    ensures nearer { IsScripted script.now → place.old.at < place.new.at }
 {
     let Some(saved) = tx.saved.take() else {
         unreachable!()
@@ -172,12 +173,18 @@ fn step_back<H: Host>(shared: &mut Shared<H>, script: &Script, rules: &Rules, jo
         IsAt H.model shared.old now at (job_view job.old)
         → IsOpenRow (mover s at now (job_view job.old)) (moved H.model shared.new (job_view job.new) now at) }
 {
-    let Job { place, tx, .. } = job;
+    let Job {
+        place,
+        handed,
+        tx,
+        ..
+    } = job;
     let mark = mark_of(tx);
     if mark < tx.undo.left() {
         undo_one(&mut shared.host, rules.undo_tries, mark, tx);
     } else {
         end_back(&mut shared.buffers, script, place, tx);
+        *handed = None;
     }
 }
 

@@ -3,9 +3,11 @@ ghost use Rattle.std.specs.Prelude.{OnOk, OnErr};
 ghost use Rattle.xc_sentinel.specs.Seating.{KeepsSeats, SetsSeat, seat_in};
 ghost use Rattle.xc_model.specs.Moment.{Moment, Idle, begun_count, failures, rank_of, with_job};
 ghost use Rattle.xc_model.specs.IdleRows.{IdleTurn, MayBegin, IsSpent, NamesLast};
+ghost use Rattle.xc_model.specs.Live.{has_clients};
 ghost use Rattle.xc_model.specs.Movers.{mover};
+ghost use Rattle.xc_model.specs.declared.rules.Rules.{Rules as PlainRules};
 ghost use Rattle.xc_model.specs.Setting.{Setting, setting};
-ghost use Rattle.xc_station.specs.Beginning.{IsWaitOver, IsHalted, IsNamedLast, IsSeatBehind, IsStopped, WaitsOnly};
+ghost use Rattle.xc_station.specs.Beginning.{IsWaitOver, IsHalted, IsNamedLast, IsSeatBehind, IsStopped, WaitsOnly, is_end_in, is_over_in};
 ghost use Rattle.xc_station.specs.Jobs.{job_view};
 ghost use Rattle.xc_station.specs.Moments.{AreSeats, HasBegun, marks_of};
 
@@ -14,7 +16,7 @@ use std::alloc::Global;
 use xc_data::{Cause, JobEnd, NoMemory, Object, Turn};
 use xc_model::{Attempts, Rules};
 use xc_roomy::Journal;
-use xc_script::JobState;
+use xc_script::{Ask, JobState};
 use xc_sentinel::Sentinels;
 use xc_text::Script;
 
@@ -71,6 +73,24 @@ fn waits_for(rules: &Rules, sentinels: &Sentinels, job: &Job) -> Option<(Object,
     }
 }
 
+// Whether a client has handed in its end.
+fn is_end_in(handed: &Option<Ask>) -> bool
+    ensures { result ≡ is_end_in handed.now }
+{
+    matches!(handed, Some(Ask::End))
+}
+
+// Whether a job is over: no transaction is left, or its client has handed in its end.
+fn is_over(script: &Script, job: &Job) -> bool
+    ensures { (rules : PlainRules) (tells : Bool)
+        → result ≡ is_over_in (has_clients script.now) (setting script.now rules tells) (job_view job.now) }
+{
+    if script.clients {
+        return is_end_in(&job.handed);
+    }
+    !job.place.has_next(script)
+}
+
 // Whether an idle job ends or waits.
 fn why_halted(
     script: &Script,
@@ -85,7 +105,7 @@ fn why_halted(
         (MayBegin (setting script.now rules.now tells) now (job_view job.now))
         (IsHalted (setting script.now rules.now tells) now (job_view job.now)) }
 {
-    if !job.place.has_next(script) {
+    if is_over(script, job) {
         return Some(Halt::End(JobEnd::Done));
     }
     if let Some(last) = given_up(rules, &job.attempts) {
@@ -202,6 +222,7 @@ pub fn begin(
     }
     job.tx.begin(alloc, number, rank, entered as u32);
     job.activity = Activity::Active;
+    job.handed = None;
     job.busy = 0;
     Turn::Went
 }

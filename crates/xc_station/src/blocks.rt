@@ -5,6 +5,7 @@ ghost use Rattle.xc_script.specs.Answers.{answered};
 ghost use Rattle.xc_script.specs.Blocks.{fits_block};
 ghost use Rattle.xc_script.specs.Position.{walk_of, IsAskedCall, IsPastSilent};
 ghost use Rattle.xc_data.specs.declared.call.Reply.TheVariants as PlainReply;
+ghost use Rattle.xc_model.specs.Live.{IsScripted};
 ghost use Rattle.xc_model.specs.Movers.{IsSameBegin};
 ghost use Rattle.xc_model.specs.PlainSteps.{copied, saved_by};
 ghost use Rattle.xc_model.specs.RunningRows.{opens_or_closes};
@@ -72,7 +73,7 @@ pub fn do_block_call(
     call: &Call,
 ) -> Result<Reply, NoMemory>
     requires ends { opens_or_closes call.now ≡ true }
-    requires asked { IsAskedCall script.now place.old }
+    requires asked { IsScripted script.now → IsAskedCall script.now place.old }
     requires settled { IsPastSilent script.now place.old }
     requires none { tx.old.undo.ended ≡ [] }
     requires fits { fits_block (is_some tx.old.saved) call.now ≡ true }
@@ -86,7 +87,7 @@ pub fn do_block_call(
     ensures begun { begun_of tx.new ≡ begun_of tx.old }
     ensures notes { (tx.new.calls ≡ tx.old.calls) × (tx.new.replies ≡ tx.old.replies) }
     ensures walk { OnOk result (walk_of script.now place.new ≡ answered (walk_of script.now place.old) PlainReply.Done) }
-    ensures nearer { OnOk result (place.old.at < place.new.at) }
+    ensures nearer { IsScripted script.now → OnOk result (place.old.at < place.new.at) }
     ensures begin { IsSameBegin place.old place.new }
     ensures values { OnOk result (place.new.saved ≡ saved_by call.now place.old.saved (walk_of script.now place.old).variables.values) }
     ensures together { OnOk result (is_some place.new.saved ≡ is_some tx.new.saved) }

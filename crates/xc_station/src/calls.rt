@@ -10,6 +10,7 @@ ghost use Rattle.xc_data.specs.declared.private.Private.{Private as PlainPrivate
 ghost use Rattle.xc_world.specs.After.{IsMeAfter};
 ghost use Rattle.xc_data.specs.Calls.{is_late};
 ghost use Rattle.xc_model.specs.WordCalls.{is_word_call, word_reply, words_after};
+ghost use Rattle.xc_model.specs.Live.{IsScripted};
 ghost use Rattle.xc_model.specs.Movers.{IsSameBegin};
 ghost use Rattle.xc_model.specs.PlainSteps.{copied, saved_by, stored_by};
 ghost use Rattle.xc_model.specs.RunningRows.{opens_or_closes, IsDoneWhere};
@@ -231,7 +232,7 @@ fn do_host_call<H: Host>(
     tx: &mut Tx,
     call: &Call,
 ) -> Result<Reply, NoMemory>
-    requires asked { asks (walk_of script.now place.old) ≡ AskedCall call.now }
+    requires asked { IsScripted script.now → asks (walk_of script.now place.old) ≡ AskedCall call.now }
     requires settled { IsPastSilent script.now place.old }
     requires may { MayGo (length words.now) (tx_view tx.old) }
     requires ready { IsTrue H.model.tells → AreReadyFor (tx_view tx.old) (H.model.contents host.old) }
@@ -241,7 +242,7 @@ fn do_host_call<H: Host>(
     ensures begun { begun_of tx.new ≡ begun_of tx.old }
     ensures notes { (tx.new.calls ≡ tx.old.calls) × (tx.new.replies ≡ tx.old.replies) }
     ensures walk { IfOk result (λ reply. walk_of script.now place.new ≡ answered (walk_of script.now place.old) reply) }
-    ensures nearer { OnOk result (place.old.at < place.new.at) }
+    ensures nearer { IsScripted script.now → OnOk result (place.old.at < place.new.at) }
     ensures begin { IsSameBegin place.old place.new }
     ensures values { place.new.saved ≡ place.old.saved }
     ensures save { (tx.new.saved ≡ tx.old.saved) × (tx.new.writes.saved ≡ tx.old.writes.saved) }
@@ -272,8 +273,8 @@ fn is_block_end(call: &Call) -> bool
     matches!(call, Call::Save | Call::Keep)
 }
 
-/// Does the call that is asked, which is no back, and goes on after its reply. Without memory the place is as it was, and so are the
-/// handles, also where it runs out after the call, for the variable that takes the reply.
+/// Does the call that is asked, which is no back, and goes on after its reply; where clients ask, the place stays. Without memory the place
+/// is as it was, and so are the handles, also where it runs out after the call, for the variable that takes the reply.
 pub fn do_call<H: Host>(
     alloc: Global,
     host: &mut H,
@@ -284,7 +285,7 @@ pub fn do_call<H: Host>(
     tx: &mut Tx,
     call: &Call,
 ) -> Result<Reply, NoMemory>
-    requires asked { asks (walk_of script.now place.old) ≡ AskedCall call.now }
+    requires asked { IsScripted script.now → asks (walk_of script.now place.old) ≡ AskedCall call.now }
     requires settled { IsPastSilent script.now place.old }
     requires may { MayGo (length words.now) (tx_view tx.old) }
     requires ready { IsTrue H.model.tells → AreReadyFor (tx_view tx.old) (H.model.contents host.old) }
@@ -297,7 +298,7 @@ pub fn do_call<H: Host>(
     ensures begun { begun_of tx.new ≡ begun_of tx.old }
     ensures notes { (tx.new.calls ≡ tx.old.calls) × (tx.new.replies ≡ tx.old.replies) }
     ensures walk { IfOk result (λ reply. walk_of script.now place.new ≡ answered (walk_of script.now place.old) reply) }
-    ensures nearer { OnOk result (place.old.at < place.new.at) }
+    ensures nearer { IsScripted script.now → OnOk result (place.old.at < place.new.at) }
     ensures begin { IsSameBegin place.old place.new }
     ensures values { OnOk result (place.new.saved ≡ saved_by call.now place.old.saved (walk_of script.now place.old).variables.values) }
     ensures saved { OnOk result ((tx_view tx.new).saved ≡ saved_by call.now (tx_view tx.old).saved (copied (tx_view tx.new))) }

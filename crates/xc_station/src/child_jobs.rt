@@ -154,6 +154,7 @@ fn live(alloc: Global, child: Child) -> Job
         attempts: None,
         busy: 0,
         place: child.place,
+        handed: None,
         activity: Activity::Idle,
         tx: child.tx,
         children: Vec::new(alloc),

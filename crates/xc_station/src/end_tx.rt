@@ -92,6 +92,7 @@ pub fn commit<H: Host>(
     ensures children { (result.children.items ≡ job.old.children.items) × (job.new.children.items ≡ []) }
 {
     job.activity = Activity::Idle;
+    job.handed = None;
     job.busy = 0;
     // What it took is gone for good. Its notes go while it still holds its claims, so nobody else has any of these pipes and pairs.
     shared.buffers.let_go(alloc, &mut job.tx.taken);
@@ -158,7 +159,7 @@ fn one_more(attempts: &Option<Attempts>, rank: u32, last: Cause) -> Attempts
 
 // Goes to the place that a job has after an abort of a transaction of this rank.
 fn go_back(job: &mut Job, rank: u32, cause: Cause)
-    requires idle { ((job_view job.old).doing ≡ Idle) × (job.old.busy ≡ 0) }
+    requires idle { ((job_view job.old).doing ≡ Idle) × (job.old.busy ≡ 0) × (job.old.handed ≡ None) }
     requires next { job.old.place.next < 2 ^ 32 }
     requires attempts { failures job.old.attempts + 1 < 2 ^ 32 }
     ensures back { (tx : TxView) → tx.rank ≡ rank → job_view job.new ≡ behind_abort (job_view job.old) tx cause }
@@ -204,6 +205,7 @@ pub fn abort<H: Host>(alloc: Global, number: u32, job: &mut Job, shared: &mut Sh
     // With the entry the claims go: all records have their ends, and what it took is back.
     let entry = job.tx.close(alloc, number, &mut shared.sentinels);
     job.activity = Activity::Idle;
+    job.handed = None;
     job.busy = 0;
     // Last, since without memory the job isn't idle.
     go_back(job, rank, cause);

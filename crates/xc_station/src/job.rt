@@ -5,7 +5,7 @@ ghost use Rattle.xc_station.specs.Jobs.{doing_of, is_live, phase_stage, job_view
 use crate::tx::Tx;
 use xc_data::{Ident, JobEnd, Turn};
 use xc_model::{Attempts, Phase};
-use xc_script::JobState;
+use xc_script::{Ask, JobState};
 
 /// What a job does between two turns.
 #[derive(Drop)]
@@ -35,6 +35,8 @@ pub struct Job {
     /// How often it was told to wait since it last began a transaction or entered one.
     pub busy: u32,
     pub place: JobState,
+    /// What its client has handed in, until it is answered, or its transaction begins or has ended. Of a script's job it is None.
+    pub handed: Option<Ask>,
     pub activity: Activity,
     /// Its active transaction; while it has none, the handles of the last one's end stay in it for the next.
     pub tx: Tx,

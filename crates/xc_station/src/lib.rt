@@ -7,6 +7,7 @@ mod blocks;
 mod buffers;
 mod calls;
 mod child_jobs;
+mod client_turns;
 mod end_tx;
 mod job;
 mod places;

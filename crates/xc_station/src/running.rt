@@ -12,10 +12,13 @@ ghost use Rattle.xc_model.specs.declared.rules.Rules.{Rules as PlainRules};
 ghost use Rattle.xc_model.specs.Moment.{TxView, JobView, Moment, Active, revoked};
 ghost use Rattle.xc_data.specs.declared.object.Object.{Object};
 ghost use Rattle.xc_model.specs.Setting.{setting};
-ghost use Rattle.xc_model.specs.Movers.{with_tx, mover};
+ghost use Rattle.xc_model.specs.Live.{IsScripted, asked_by, has_clients};
+ghost use Rattle.xc_model.specs.Movers.{mover};
 ghost use Rattle.xc_station.specs.Acting.{AreReadyFor, MayGo};
 ghost use Rattle.xc_station.specs.Backs.{BacksSafely, CanGoBack, HasSave};
+ghost use Rattle.xc_station.specs.Handed.{handed_back, handed_tx};
 ghost use Rattle.xc_station.specs.Jobs.{begun_of, job_view, tx_view};
+ghost use Rattle.xc_txmem.specs.Overlay.{AreWithin, overlaid};
 ghost use Rattle.xc_station.specs.Moments.{AreTerms, CanRun, HasClaimed, HasNeeds, HasTx, IsAt, IsRow, IsRunningRow, KeepsSeated, Lends};
 ghost use Rattle.xc_station.specs.Moments.{busy_counted, front_of, marks_of, moved, runs, seated_as};
 ghost use Rattle.xc_sentinel.specs.Seating.{seat_in};
@@ -23,6 +26,7 @@ ghost use Rattle.xc_locks.specs.Table.{Holds};
 
 use crate::backing::begin_back;
 use crate::calls::{Shared, do_call};
+use crate::client_turns::step_client;
 use crate::job::Job;
 use crate::tx::Tx;
 use arrayvec::ArrayVec;
@@ -74,17 +78,17 @@ fn lose(tx: &mut Tx, object: &Object, holder: u32, at: u32)
     });
 }
 
-// On which terms a call claims what it touches.
+/// On which terms a call claims what it touches.
 #[derive(Clone, Copy)]
-struct Terms {
-    // Whether its transaction may wait for a younger holder.
-    patient: bool,
-    // How long the journal is.
-    at: u32,
-    // For how many calls there is to be room: for as many as its transaction may have, before the first one.
-    most: u32,
-    // How often a compensation is tried.
-    tries: u32,
+pub struct Terms {
+    /// Whether its transaction may wait for a younger holder.
+    pub patient: bool,
+    /// How long the journal is.
+    pub at: u32,
+    /// For how many calls there is to be room: for as many as its transaction may have, before the first one.
+    pub most: u32,
+    /// How often a compensation is tried.
+    pub tries: u32,
 }
 
 // Claims what a call touches, with room to note the call. Where another holds something against it the transaction waits, if that
@@ -125,17 +129,28 @@ fn claim<H: Host>(
     }
 }
 
-// The turn of a running transaction whose call is asked.
-fn try_call<H: Host>(
+/// A call that isn't done: what its client has handed in stays. A script is asked it again.
+pub fn hand_back(script: &Script, handed: &mut Option<Ask>, call: Call)
+    ensures { handed.new ≡ handed_back script.now handed.old call }
+{
+    if script.clients {
+        *handed = Some(Ask::Call(call));
+    }
+}
+
+/// The turn of a running transaction whose call is asked. What its client has handed in is taken out of `handed` before, and stands
+/// there again where the call isn't done.
+pub fn try_call<H: Host>(
     alloc: Global,
     shared: &mut Shared<H>,
     script: &Script,
     terms: Terms,
     place: &mut JobState,
+    handed: &mut Option<Ask>,
     tx: &mut Tx,
     call: Call,
 ) -> Turn
-    requires asked { asks (walk_of script.now place.old) ≡ AskedCall call }
+    requires asked { IsScripted script.now → asks (walk_of script.now place.old) ≡ AskedCall call }
     requires ahead { is_back call ≡ false }
     requires fits { fits_block (is_some tx.old.saved) call ≡ true }
     requires together { is_some place.old.saved ≡ is_some tx.old.saved }
@@ -157,11 +172,14 @@ fn try_call<H: Host>(
     ensures begun { begun_of tx.new ≡ begun_of tx.old }
     ensures backs { runs tx.new.phase ≡ true → CanGoBack terms.tries tx.new }
     ensures row { (rules : PlainRules) (now : Moment) (at : ℕ) (job : JobView) → let s = setting script.now rules H.model.tells in
-        IsAt H.model shared.old now at job → HasTx s job place.old (tx_view tx.old) → AreTerms rules now job terms.patient terms.at
-        → IsRow (mover s at now job) (moved H.model shared.new (busy_counted result (with_tx job place.new (tx_view tx.new))) now at) result
+        IsAt H.model shared.old now at job → HasTx s job place.old (tx_view tx.old) → job.handed ≡ handed_back script.now handed.old call
+        → AreTerms rules now job terms.patient terms.at
+        → IsRow (mover s at now job)
+        (moved H.model shared.new (busy_counted result (handed_tx job handed.new place.new (tx_view tx.new))) now at) result
         shared.new.sentinels.claims }
 {
     if let Err(turn) = claim(shared, terms, tx, &call) {
+        hand_back(script, handed, call);
         return turn;
     }
     let Shared {
@@ -173,29 +191,58 @@ fn try_call<H: Host>(
     match do_call(alloc, host, buffers, words, script, place, tx, &call) {
         Ok(reply) => {
             tx.note(call, reply);
+            *handed = None;
             Turn::Went
         }
-        Err(NoMemory) => abort_for_memory(tx),
+        Err(NoMemory) => {
+            hand_back(script, handed, call);
+            abort_for_memory(tx)
+        }
     }
 }
 
-fn is_back(call: &Call) -> bool
+/// A call that goes back to an inner block's start.
+pub fn is_back(call: &Call) -> bool
     ensures { result ≡ is_back call.now }
 {
     matches!(call, Call::Back)
 }
 
-// What a running transaction does next: the call that is asked, with a back its block begins to go back, or it enters its commit,
-// which writes its stores, or its rollback.
+/// A running transaction enters its commit, which writes its stores.
 #[inline(always)]
-fn step_running<H: Host>(
+pub fn enter_commit(words: &mut Words, tx: &mut Tx)
+    requires within { AreWithin (length words.old) tx.old.writes.stores }
+    ensures words { words.new ≡ overlaid words.old tx.old.writes.stores }
+    ensures count { length words.new ≡ length words.old }
+    ensures tx { tx_view tx.new ≡ record (tx_view tx.old) { phase = PlainPhase.Committing } }
+    ensures begun { begun_of tx.new ≡ begun_of tx.old }
+{
+    tx.writes.apply(words);
+    tx.phase = Phase::Committing;
+}
+
+/// A running transaction that is asked its own abort enters its rollback.
+#[inline(always)]
+pub fn enter_abort(tx: &mut Tx)
+    ensures tx { tx_view tx.new ≡ record (tx_view tx.old) { phase = PlainPhase.Undoing PlainCause.Asked } }
+    ensures begun { begun_of tx.new ≡ begun_of tx.old }
+{
+    tx.phase = Phase::Undoing(Cause::Asked);
+}
+
+// What a running transaction of a script does next: the call that is asked, with a back its block begins to go back, or it enters its
+// commit, which writes its stores, or its rollback.
+#[inline(always)]
+fn step_scripted<H: Host>(
     alloc: Global,
     shared: &mut Shared<H>,
     script: &Script,
     terms: Terms,
     place: &mut JobState,
+    handed: &mut Option<Ask>,
     tx: &mut Tx,
 ) -> Turn
+    requires own { IsScripted script.now }
     requires left { IsSome (next_body script.now (job_of place.old)) }
     requires fits { ask_fits (is_some tx.old.saved) (asks (walk_of script.now place.old)) ≡ true }
     requires together { is_some place.old.saved ≡ is_some tx.old.saved }
@@ -216,9 +263,10 @@ fn step_running<H: Host>(
     ensures begun { begun_of tx.new ≡ begun_of tx.old }
     ensures backs { runs tx.new.phase ≡ true → CanGoBack terms.tries tx.new }
     ensures row { (rules : PlainRules) (now : Moment) (at : ℕ) (job : JobView) → let s = setting script.now rules H.model.tells in
-        IsAt H.model shared.old now at job → job.doing ≡ Active (tx_view tx.old) → job.place ≡ place.old
+        IsAt H.model shared.old now at job → job.doing ≡ Active (tx_view tx.old) → job.place ≡ place.old → job.handed ≡ handed.old
         → AreTerms rules now job terms.patient terms.at
-        → IsRow (mover s at now job) (moved H.model shared.new (busy_counted result (with_tx job place.new (tx_view tx.new))) now at) result
+        → IsRow (mover s at now job)
+        (moved H.model shared.new (busy_counted result (handed_tx job handed.new place.new (tx_view tx.new))) now at) result
         shared.new.sentinels.claims }
 {
     match place.ask(script) {
@@ -226,20 +274,62 @@ fn step_running<H: Host>(
             if is_back(&call) {
                 return begin_back(terms.tries, tx);
             }
-            try_call(alloc, shared, script, terms, place, tx, call)
+            try_call(alloc, shared, script, terms, place, handed, tx, call)
         }
         Ok(Ask::Commit) => {
-            tx.writes.apply(&mut shared.words);
-            tx.phase = Phase::Committing;
+            enter_commit(&mut shared.words, tx);
             Turn::Went
         }
         Ok(Ask::Abort) => {
-            tx.phase = Phase::Undoing(Cause::Asked);
+            enter_abort(tx);
             Turn::Went
         }
         Ok(Ask::End) => unreachable!(),
         Err(NoMemory) => abort_for_memory(tx),
     }
+}
+
+// What a running transaction does next, by its script or by what its client has handed in.
+#[inline(always)]
+fn step_running<H: Host>(
+    alloc: Global,
+    shared: &mut Shared<H>,
+    script: &Script,
+    terms: Terms,
+    place: &mut JobState,
+    handed: &mut Option<Ask>,
+    tx: &mut Tx,
+) -> Turn
+    requires left { IsSome (next_body script.now (job_of place.old)) }
+    requires fits { ask_fits (is_some tx.old.saved) (asked_by (has_clients script.now) script.now handed.old place.old) ≡ true }
+    requires together { is_some place.old.saved ≡ is_some tx.old.saved }
+    requires save { HasSave tx.old tx.old.saved }
+    requires may { MayGo (length shared.old.words) (tx_view tx.old) }
+    requires count { length shared.old.words ≤ 4096 }
+    requires ready { IsTrue H.model.tells → AreReadyFor (tx_view tx.old) (H.model.contents shared.old.host) }
+    requires needs { IsTrue H.model.tells → HasNeeds H.model shared.old (tx_view tx.old) }
+    requires noted { length tx.old.taken.items ≤ shared.old.buffers.noted }
+    requires holds { Holds shared.old.sentinels.claims tx.old.number tx.old.held.items }
+    ensures count { length shared.new.words ≡ length shared.old.words }
+    ensures started { shared.new.started ≡ shared.old.started }
+    ensures plan { H.model.plan shared.new.host ≡ H.model.plan shared.old.host }
+    ensures seats { KeepsSeated shared.old.sentinels.seats shared.new.sentinels.seats }
+    ensures waits { (object : Object) (holder : ℕ) → result ≡ Turn.Busy object holder → terms.patient ≡ true }
+    ensures lends { Lends H.model (record { old = front_of shared.old; new = front_of shared.new })
+        (record { old = tx_view tx.old; new = tx_view tx.new }) }
+    ensures begun { begun_of tx.new ≡ begun_of tx.old }
+    ensures backs { runs tx.new.phase ≡ true → CanGoBack terms.tries tx.new }
+    ensures row { (rules : PlainRules) (now : Moment) (at : ℕ) (job : JobView) → let s = setting script.now rules H.model.tells in
+        IsAt H.model shared.old now at job → job.doing ≡ Active (tx_view tx.old) → job.place ≡ place.old → job.handed ≡ handed.old
+        → AreTerms rules now job terms.patient terms.at
+        → IsRow (mover s at now job)
+        (moved H.model shared.new (busy_counted result (handed_tx job handed.new place.new (tx_view tx.new))) now at) result
+        shared.new.sentinels.claims }
+{
+    if script.clients {
+        return step_client(alloc, shared, script, terms, place, handed, tx);
+    }
+    step_scripted(alloc, shared, script, terms, place, handed, tx)
 }
 
 /// A transaction that no longer runs is known as one that doesn't.
@@ -334,8 +424,13 @@ pub fn run<H: Host>(
         most: calls_ahead(job, script),
         tries: rules.undo_tries,
     };
-    let Job { place, tx, .. } = job;
-    let answer = step_running(alloc, shared, script, terms, place, tx);
+    let Job {
+        place,
+        handed,
+        tx,
+        ..
+    } = job;
+    let answer = step_running(alloc, shared, script, terms, place, handed, tx);
     settle(&mut shared.sentinels, &job.tx);
     count_wait(job, &answer);
     answer

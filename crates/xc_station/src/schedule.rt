@@ -1,6 +1,7 @@
 ghost use Rattle.std.specs.Prelude.{◌≡◌, ◌<◌, ◌≤◌, ◌+◌, ◌-◌, ◌%◌, ◌^◌, ℕ, true, false, length, slice_index, Option, Some};
 ghost use Rattle.xc_data.specs.declared.entry.Event.TheVariants.{Turned};
 ghost use Rattle.xc_model.specs.Alone.{AreAlone};
+ghost use Rattle.xc_model.specs.Live.{IsScripted};
 ghost use Rattle.xc_station.specs.Stations.{GoesOn, IsStepOf, KeepsOrigin, IsFrontOf, NobodyLives, TakeRound, TakeRounds, TakeTurns};
 ghost use Rattle.xc_station.specs.Stations.{RanAlone, WorksOn};
 ghost use Rattle.xc_station.specs.Stations.{live_at, now_of, turns_of};
@@ -14,7 +15,7 @@ fn step<H: Host>(station: &mut Station<H>, job: u32) -> bool
     ensures goes { GoesOn station.old station.new }
     ensures works { WorksOn H.model job station.old station.new }
     ensures step { IsStepOf H.model job (record { old = station.old; new = station.new }) (live_at station.old.jobs job) }
-    ensures falls { result ≡ true → turns_of H.model station.new < turns_of H.model station.old }
+    ensures falls { IsScripted station.old.opening.script → result ≡ true → turns_of H.model station.new < turns_of H.model station.old }
     ensures still { result ≡ false → (station.new ≡ station.old) × (live_at station.old.jobs job ≡ false) }
 {
     if !station.live(job) {
@@ -26,6 +27,7 @@ fn step<H: Host>(station: &mut Station<H>, job: u32) -> bool
 
 // Takes a job's turns to its end.
 fn work_job<H: Host>(station: &mut Station<H>, job: u32)
+    requires scripted { IsScripted station.old.opening.script }
     ensures goes { GoesOn station.old station.new }
     ensures works { WorksOn H.model job station.old station.new }
     ensures ended { live_at station.new.jobs job ≡ false }
@@ -35,6 +37,7 @@ fn work_job<H: Host>(station: &mut Station<H>, job: u32)
 
 /// Takes jobs and their turns, each job to its end, on this thread alone.
 pub fn work_alone<H: Host>(station: &mut Station<H>)
+    requires scripted { IsScripted station.old.opening.script }
     ensures origin { KeepsOrigin station.old station.new }
     ensures front { IsFrontOf station.old.journal station.new.journal }
 
@@ -72,6 +75,7 @@ pub fn run_schedule<H: Host>(station: &mut Station<H>, jobs: &[u32])
 
 // One turn of each live job, in the order of their numbers; whether there was one.
 fn round<H: Host>(station: &mut Station<H>) -> bool
+    requires scripted { IsScripted station.old.opening.script }
     ensures goes { GoesOn station.old station.new }
     ensures falls { result ≡ true → turns_of H.model station.new < turns_of H.model station.old }
     ensures none { result ≡ false → NobodyLives station.new.jobs }
@@ -87,6 +91,7 @@ fn round<H: Host>(station: &mut Station<H>) -> bool
 
 /// Rounds of turns, in each one of every job that goes on, in ascending order, until none does.
 pub fn drain<H: Host>(station: &mut Station<H>)
+    requires scripted { IsScripted station.old.opening.script }
     ensures origin { KeepsOrigin station.old station.new }
     ensures front { IsFrontOf station.old.journal station.new.journal }
 

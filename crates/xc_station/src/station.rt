@@ -8,6 +8,7 @@ ghost use Rattle.xc_station.specs.Places.{IndexesBlocks};
 ghost use Rattle.xc_station.specs.Stations.{AreAhead, IsNextOf, KeepsEvents};
 ghost use Rattle.xc_station.specs.Stations.{live_at, now_of};
 
+mod clients;
 mod events;
 mod finish;
 mod run_out;

@@ -1,6 +1,6 @@
 -- A script that is read keeps all limits.
 use Rattle.std.proofs.Common.{◌≡◌, ℕ, ◌+◌, true, List, [], ◌∷◌, ◌++◌, length, Option, None, Some, Result, Ok, Err, IfOk}
-use Rattle.std.proofs.Common.{subst, arith, nat_lt}
+use Rattle.std.proofs.Common.{false, refl, subst, arith, nat_lt}
 use Rattle.std.specs.Prelude.{IsPermutation}
 use Rattle.std.specs.List.{list_all}
 use Rattle.std.proofs.lemmas.Bool.{cond_both}
@@ -108,4 +108,44 @@ in_limits s k =
       words = k.few_words;
       prologue = k.prologue;
       blocks = omega (arith, k.few_blocks, blocks_count s k.named);
+    }
+
+-- ---- who asks
+-- its blocks ask its transactions, not clients
+abbrev AsksByBlocks : Script → Type 0
+AsksByBlocks s = s.clients ≡ false
+
+read_from-asks : (n : ℕ) (r : Said) (lines : List (List ℕ)) → IfOk (read_from n r lines) AsksByBlocks
+read_from-asks n r [] =
+    at_line-keeps AsksByBlocks n (closed r)
+    (cond_both (is_outside r.section) _ _ (λ (a : Result Script Why). IfOk a AsksByBlocks) (λ _. refl) (λ _. tt))
+read_from-asks n r (bytes ∷ lines) =
+    then_keeps Anything AsksByBlocks (at_line (n + 1) (after_bytes r bytes)) (λ (next : Said). read_from (n + 1) next lines)
+    (for_any Anything (at_line (n + 1) (after_bytes r bytes)) (λ _. tt)) (λ next _. read_from-asks (n + 1) next lines)
+
+parse_of-asks : (bytes : List ℕ) → IfOk (parse_of bytes) AsksByBlocks
+parse_of-asks bytes =
+    cond_both (nat_lt 1048576 (length bytes)) _ _ (λ (a : Result Script Refusal). IfOk a AsksByBlocks)
+    (λ _. tt) (λ _. read_from-asks 0 nothing_said (lines_of bytes))
+
+-- a script that is read is asked by its blocks
+pub parsed_blocks : (bytes : List ℕ) (s : Script) → parse_of bytes ≡ Ok s → s.clients ≡ false
+parsed_blocks bytes s e = subst (λ (a : Result Script Refusal). IfOk a AsksByBlocks) e (parse_of-asks bytes)
+
+-- the script of clients keeps the limits of the one whose blocks ask
+pub of_clients : (s : Script) → IsScript s → IsScript (record s { clients = true })
+of_clients s k =
+    record {
+      some_words = k.some_words;
+      few_words = k.few_words;
+      few_blocks = k.few_blocks;
+      distinct = k.distinct;
+      named = k.named;
+      prologue = k.prologue;
+      faults = k.faults;
+      each_block = k.each_block;
+      few_variables = k.few_variables;
+      few_slots = k.few_slots;
+      handles = k.handles;
+      each_handle = k.each_handle;
     }

@@ -6,3 +6,7 @@ pub use Rattle.xc_text.proofs.Keeping.{blocks_count}
 pub use Rattle.xc_text.proofs.Keeping.{parsed}
 -- such a script keeps the limits of every prologue
 pub use Rattle.xc_text.proofs.Keeping.{in_limits}
+-- a script that is read is asked by its blocks
+pub use Rattle.xc_text.proofs.Keeping.{parsed_blocks}
+-- the script of clients keeps the limits of the one whose blocks ask
+pub use Rattle.xc_text.proofs.Keeping.{of_clients}

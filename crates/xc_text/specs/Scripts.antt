@@ -32,7 +32,7 @@ names_of blocks = map (λ b. b.name) blocks
 abbrev pub prologue_of : Said → Prologue
 prologue_of s = record { objects = s.objects; faults = s.faults; grain = s.grain }
 
--- the whole script
+-- the whole script, whose blocks ask its transactions
 abbrev pub script_of : Said → Script
 script_of s = record {
   outline = record {
@@ -45,6 +45,7 @@ script_of s = record {
   variables = s.names.variables;
   slots = s.names.slots;
   handles = s.handles;
+  clients = false;
 }
 
 -- a script ends after its prologue or after a block

@@ -140,6 +140,7 @@ impl Draft {
             variables: self.names.variables,
             slots: self.names.slots,
             handles: self.handles,
+            clients: false,
         }
     }
 

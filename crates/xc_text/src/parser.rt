@@ -1,4 +1,4 @@
-ghost use Rattle.std.specs.Prelude.{◌≡◌, ◌≤◌, [], length, IfOk, IsErrOf, Ok, Err};
+ghost use Rattle.std.specs.Prelude.{◌≡◌, ◌≤◌, [], false, length, IfOk, IsErrOf, Ok, Err};
 ghost use Rattle.xc_data.specs.Limits.{KeepsLimits};
 ghost use Rattle.xc_text.specs.Refusals.{Reads};
 ghost use Rattle.xc_tokens.specs.Lines.{lines_of};
@@ -54,6 +54,7 @@ pub fn parse(alloc: Global, text: &Chunk) -> Result<Script, ParseErr>
     ensures refused { (line : _) (why : _) → IsErrOf result (ParseErr.Refused line why) → parse_of text.now ≡ Err (line, why) }
     ensures script { IfOk result IsScript }
     ensures limits { IfOk result (λ script. KeepsLimits script.outline) }
+    ensures blocks { IfOk result (λ script. script.clients ≡ false) }
 {
     if text.len() > MOST_SCRIPT_BYTES {
         return Err(ParseErr::Refused {

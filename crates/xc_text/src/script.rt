@@ -1,4 +1,5 @@
-ghost use Rattle.std.specs.Prelude.{◌≡◌};
+ghost use Rattle.std.specs.Prelude.{◌≡◌, true};
+ghost use Rattle.xc_text.specs.Scripts.{IsScript};
 
 use crate::kept::KeptStatement;
 use crate::packed::PackedU64;
@@ -211,6 +212,8 @@ pub struct Script {
     pub slots: SlotNames,
     /// The variables that each job has the prologue's handles in, by the numbers of the handles.
     pub handles: Items<NameIndex>,
+    /// Whether clients ask its transactions, call by call. Of a script that is read it is false.
+    pub clients: bool,
 }
 
 impl Script {
@@ -219,5 +222,15 @@ impl Script {
         ensures { result.now ≡ self.now.outline }
     {
         &self.outline
+    }
+
+    /// The script of clients: they ask its transactions, call by call. Its blocks say nothing then.
+    pub fn for_clients(self) -> Script
+        ensures clients { result ≡ record self { clients = true } }
+        ensures script { IsScript self → IsScript result }
+    {
+        let mut script = self;
+        script.clients = true;
+        script
     }
 }

@@ -21,6 +21,7 @@ use Rattle.xc_model.specs.Asked.{lasts_of}
 use Rattle.xc_model.specs.EntryEnds.{IsCauseOf, cause_in}
 use Rattle.xc_model.specs.Grounds.{Part, AreGrounded, IsGrounded, scene_of}
 use Rattle.xc_model.specs.Joint.{AreTrue, IsAskedFor, IsPlayedOutcome, IsTrueEntry, entry_parts, part_of, parts_from}
+use Rattle.xc_model.specs.Live.{IsScripted}
 use Rattle.xc_model.specs.Progress.{Progress, after_entry, body_of, opening_progress}
 use Rattle.xc_model.specs.Recorded.{no_records, all_records, IsStuckIn, saved_records}
 use Rattle.xc_model.specs.Setting.{Setting}
@@ -91,12 +92,12 @@ part_there s p (last ∷ lasts) (d ∷ entries) zero e is there = let same : d �
 part_there s p (last ∷ lasts) (d ∷ entries) (suc place) e is there = part_there s (after_entry s.script p d) lasts entries place e is.1 there
 
 -- each entry of a true journal is accounted for
-pub journal_accounts : (s : Setting) (journal : List Entry) → IsTrueJournal s journal → AreAccounted s journal
-journal_accounts s journal is place e there =
+pub journal_accounts : (s : Setting) (journal : List Entry) → IsScripted s.script → IsTrueJournal s journal → AreAccounted s journal
+journal_accounts s journal own is place e there =
     let joint = joint_of_parts s journal is in
     let opening = opening_progress s.script in
     let lasts = lasts_of s.script journal in
-    let same : joint.lasts ≡ lasts = lasts_are s joint.lasts journal joint.entries in
+    let same : joint.lasts ≡ lasts = lasts_are s joint.lasts journal own joint.entries in
     let entries : AreTrue s opening lasts journal = subst (λ xs. AreTrue s opening xs journal) same joint.entries in
     let grounded : AreGrounded (scene_of s.tells (entry_parts s lasts journal) []) =
     subst (λ xs. AreGrounded (scene_of s.tells (entry_parts s xs journal) [])) same joint.grounded in

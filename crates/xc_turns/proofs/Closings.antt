@@ -19,6 +19,7 @@ use Rattle.xc_model.specs.Handling.{HandlesAgree, places_of}
 use Rattle.xc_model.specs.Grounds.{Part, IsPresent, Other, IsGrounded, AreGrounded, scene_of}
 use Rattle.xc_model.specs.Progress.{Following, progress_of}
 use Rattle.xc_model.specs.Joint.{IsJointJournal, entry_parts}
+use Rattle.xc_model.specs.Live.{IsScripted}
 use Rattle.xc_model.specs.Machine.{counting, numbers_of}
 use Rattle.xc_model.specs.Truth.{IsTrueJournal}
 use Rattle.xc_model.specs.Ending.{AreEnds, IsEnd}
@@ -69,7 +70,7 @@ parts_none s words marks number [] lines are zero = refl
 parts_none s words marks number [] lines are (suc j) = refl
 parts_none s words marks number (job ∷ jobs) [] are j = absurd are
 parts_none s words marks number (job ∷ jobs) (line ∷ lines) are zero =
-    ap (active_part (reading s words marks) number job.place) (line_none line job job.doing are.0)
+    ap (active_part (reading s words marks) number job) (line_none line job job.doing are.0)
 parts_none s words marks number (job ∷ jobs) (line ∷ lines) are (suc j) = parts_none s words marks (number + 1) jobs lines are.1 j
 
 -- none of these parts is there
@@ -157,13 +158,14 @@ journal_true s words marks journal jobs calls lines told handled are =
 -- the host was called by its entries, and by nothing else
 pub calls_true : (s : Setting) (words : ℕ) (marks : ℕ → Option Mark) (journal : List Entry) (jobs : List JobView) (calls : HostCallKind → ℕ)
     → (lines : List JobLine)
-    → (told : StoriesHold s words marks journal jobs) → HandlesAgree s told.lasts journal jobs calls
+    → IsScripted s.script → (told : StoriesHold s words marks journal jobs) → HandlesAgree s told.lasts journal jobs calls
     → AreLinesOf jobs lines → AreCalled s.script journal calls
-calls_true s words marks journal jobs calls lines told handled are =
+calls_true s words marks journal jobs calls lines own told handled are =
     let ends : Reached = record { places = places_of jobs; made = handled.entered } in
     record {
       ends = ends;
-      entries = subst (λ lasts. AreHandled (opened_reach s.script.outline) lasts journal ends) (lasts_are s told.lasts journal told.entries) handled.entries;
+      entries = subst (λ lasts. AreHandled (opened_reach s.script.outline) lasts journal ends) (lasts_are s told.lasts journal own told.entries)
+          handled.entries;
       called = λ kind.
           let none = ended_times kind s jobs lines handled.under_way are handled.active in
           let all : times kind handled.entered + sum_by (times kind) handled.under_way ≡ times kind handled.entered = omega (arith, none) in

@@ -17,6 +17,8 @@ use Rattle.xc_data.specs.declared.entry.Outcome.TheVariants.{Committed, Aborted}
 use Rattle.xc_text.specs.declared.script.Script.{Script}
 use Rattle.xc_script.specs.declared.ask.Ask.{Ask}
 use Rattle.xc_script.specs.Ask.{Job, fresh_job, block_place, next_body, transactions_at}
+use Rattle.xc_script.proofs.Laws.{scripted_body}
+use Rattle.xc_model.specs.Live.{IsScripted}
 use Rattle.xc_model.specs.Setting.{Setting}
 use Rattle.xc_script.specs.Blocks.{kept_calls}
 use Rattle.xc_model.specs.Progress.{Following, Progress, untried, opening_progress, progress_of, started_blocks, started_following, following_abort}
@@ -114,6 +116,39 @@ all_pass s p (last ∷ lasts) (e ∷ journal) are =
     let rest = all_pass s (after_entry s.script p e) lasts journal are.1 in
     omega (arith, here, rest, sum_by-cons (λ (x : Entry). one_if (is_final x.outcome)) e journal)
 
+one_passed : (jobs : List Following) (i : ℕ) (f : Following) → slice_get jobs i ≡ Some f → f.job.next ≤ passed_by jobs
+one_passed [] i f e = cc
+one_passed (g ∷ jobs) zero f e =
+    let is : g ≡ f = cc e in
+    let same : g.job.next ≡ f.job.next = ap (λ (h : Following). h.job.next) is in
+    omega (arith, same, sum_by-cons (λ (h : Following). h.job.next) g jobs)
+one_passed (g ∷ jobs) (suc i) f e = let rest = one_passed jobs i f e in omega (arith, rest, sum_by-cons (λ (h : Following). h.job.next) g jobs)
+
+one_few : (b : Bool) → one_if b ≤ 1
+one_few true = omega arith
+one_few false = omega arith
+
+few_final : (journal : List Entry) → count_by (λ (e : Entry). is_final e.outcome) journal ≤ length journal
+few_final [] = omega arith
+few_final (e ∷ journal) =
+    let rest = few_final journal in
+    let one = one_few (is_final e.outcome) in
+    omega (arith, rest, one, sum_by-cons (λ (x : Entry). one_if (is_final x.outcome)) e journal)
+
+-- a job has passed no more transactions than the journal has entries
+pub passed_few : (s : Setting) (lasts : List Ask) (journal : List Entry) → AreTrue s (opening_progress s.script) lasts journal → (i : ℕ) (f : Following)
+    → slice_get (progress_of s.script journal).jobs i ≡ Some f → f.job.next ≤ length journal
+passed_few s lasts journal are i f there =
+    let none : passed_by (opening_progress s.script).jobs ≡ 0 =
+    passed_none (λ name. untried name (fresh_job s.script (block_place s.script name)) 0) s.script.outline.jobs (λ name. refl) in
+    omega (
+      arith,
+      none,
+      all_pass s (opening_progress s.script) lasts journal are,
+      one_passed (progress_of s.script journal).jobs i f there,
+      few_final journal,
+    )
+
 -- ---- no job passes more than its block has
 abbrev IsWithinBlock : Script → Following → Type 0
 IsWithinBlock script f = f.job.next ≤ length (transactions_at script f.job.block)
@@ -147,15 +182,16 @@ outcome_within script p f e (Committed late) less each =
     (each_map (IsWithinBlock script) (started_following script job (p.entered + 1)) blocks (λ b. omega arith))
 outcome_within script p f e (Aborted r) less each = cause_within script p f e r.cause less each
 
-all_within : (s : Setting) (p : Progress) (lasts : List Ask) (journal : List Entry) → AreTrue s p lasts journal → AllByRecursion (IsWithinBlock s.script) p.jobs
-    → AllByRecursion (IsWithinBlock s.script) (fold (after_entry s.script) p journal).jobs
-all_within s p lasts [] are each = each
-all_within s p [] (e ∷ journal) are each = absurd are
-all_within s p (last ∷ lasts) (e ∷ journal) are each =
+all_within : (s : Setting) (p : Progress) (lasts : List Ask) (journal : List Entry) → IsScripted s.script → AreTrue s p lasts journal
+    → AllByRecursion (IsWithinBlock s.script) p.jobs → AllByRecursion (IsWithinBlock s.script) (fold (after_entry s.script) p journal).jobs
+all_within s p lasts [] own are each = each
+all_within s p [] (e ∷ journal) own are each = absurd are
+all_within s p (last ∷ lasts) (e ∷ journal) own are each =
     let f = are.0.following in
-    let less = some_within (transactions_at s.script f.job.block) f.job.next are.0.entry.story.left in
+    let less = some_within (transactions_at s.script f.job.block) f.job.next
+    (subst IsSome (scripted_body s.script f.job own) are.0.entry.story.left) in
     let next = outcome_within s.script p f e e.outcome less each in
-    all_within s (after_entry s.script p e) lasts journal are.1
+    all_within s (after_entry s.script p e) lasts journal own are.1
     (subst (λ o. AllByRecursion (IsWithinBlock s.script) (after_following s.script p e o).jobs) (sym are.0.started) next)
 
 -- ---- where no job is starved at the end none was before, and each entry is settled or tried again
@@ -209,34 +245,35 @@ past_all [] n e = omega arith
 past_all (x ∷ xs) zero e = cc
 past_all (x ∷ xs) (suc n) e = let le = past_all xs n e in omega arith
 
-done_is : (s : Setting) (entries : ℕ) (f : Following) (end : JobEnd) → is_done_end end ≡ true → IsEnd s entries f end
+done_is : (s : Setting) (entries : ℕ) (f : Following) (end : JobEnd) → IsScripted s.script → is_done_end end ≡ true → IsEnd s entries f end
     → IsNotStarved f × (next_body s.script f.job ≡ None)
-done_is s entries f job_end.Done e h = h
-done_is s entries f (job_end.GaveUp c) e h = cc
-done_is s entries f job_end.JournalFull e h = cc
-done_is s entries f job_end.NoMemory e h = cc
+done_is s entries f job_end.Done own e h = (h.0, h.1 own)
+done_is s entries f (job_end.GaveUp c) own e h = cc
+done_is s entries f job_end.JournalFull own e h = cc
+done_is s entries f job_end.NoMemory own e h = cc
 
-ends_done : (s : Setting) (entries : ℕ) (fs : List Following) (lines : List JobLine) → AreEnds s entries fs lines → all_done lines ≡ true
+ends_done : (s : Setting) (entries : ℕ) (fs : List Following) (lines : List JobLine) → IsScripted s.script → AreEnds s entries fs lines → all_done lines ≡ true
     → AllByRecursion (IsWithinBlock s.script) fs → AllByRecursion IsNotStarved fs × (passed_by fs ≡ transactions_of_jobs s.script fs)
-ends_done s entries [] lines ends done within = (tt, refl)
-ends_done s entries (f ∷ fs) [] ends done within = absurd ends
-ends_done s entries (f ∷ fs) (line ∷ lines) ends done within =
+ends_done s entries [] lines own ends done within = (tt, refl)
+ends_done s entries (f ∷ fs) [] own ends done within = absurd ends
+ends_done s entries (f ∷ fs) (line ∷ lines) own ends done within =
     let both = and_parts (is_done_end line.end) (all_done lines) done in
-    let here = done_is s entries f line.end both.0 ends.0.end in
-    let rest = ends_done s entries fs lines ends.1 both.1 within.1 in
-    let past = past_all (transactions_at s.script f.job.block) f.job.next here.1 in
+    let here = done_is s entries f line.end own both.0 ends.0.end in
+    let rest = ends_done s entries fs lines own ends.1 both.1 within.1 in
+    let past = past_all (transactions_at s.script f.job.block) f.job.next (sym (scripted_body s.script f.job own) ∙ here.1) in
     ((here.0, rest.0), omega (arith, past, within.0, rest.1, sum_by-cons (λ (g : Following). g.job.next) f fs))
 
 -- where all are done all is complete
-pub complete : (s : Setting) (lasts : List Ask) (entries : List Entry) (lines : List JobLine) → AreTrue s (opening_progress s.script) lasts entries
+pub complete : (s : Setting) (lasts : List Ask) (entries : List Entry) (lines : List JobLine) → IsScripted s.script
+    → AreTrue s (opening_progress s.script) lasts entries
     → AreEnds s (length entries) (progress_of s.script entries).jobs lines → all_done lines ≡ true → IsComplete s.script entries
-complete s lasts entries lines are ends done =
+complete s lasts entries lines own are ends done =
     let start : Progress = opening_progress s.script in
     let opened : List ℕ → Following = λ name. untried name (fresh_job s.script (block_place s.script name)) 0 in
     let none : passed_by start.jobs ≡ 0 = passed_none opened s.script.outline.jobs (λ name. refl) in
     let first : AllByRecursion (IsWithinBlock s.script) start.jobs = each_map (IsWithinBlock s.script) opened s.script.outline.jobs (λ name. omega arith) in
     let jobs : List Following = (progress_of s.script entries).jobs in
-    let end = ends_done s (length entries) jobs lines ends done (all_within s start lasts entries are first) in
+    let end = ends_done s (length entries) jobs lines own ends done (all_within s start lasts entries own are first) in
     record {
       others = (all_go s start lasts entries are end.0).1;
       count = omega (arith, all_pass s start lasts entries are, none, end.1);

@@ -31,7 +31,7 @@ use Rattle.xc_model.specs.Progress.{Following, progress_of}
 use Rattle.xc_model.specs.Moment.{TxView, SavedView, JobView, Doing, Idle, Active, Starved, Ended, Moment}
 use Rattle.xc_model.specs.Moment.{active_in, active_of, actives, late_left, revoked, asked_to_wait}
 use Rattle.xc_model.specs.Moment.{with_job, entering}
-use Rattle.xc_model.specs.Movers.{asked_at, with_tx}
+use Rattle.xc_model.specs.Movers.{answered_with, asked_at, with_tx}
 use Rattle.xc_model.specs.IdleRows.{beginning_job}
 use Rattle.xc_model.specs.PlainSteps.{claims_at, noting, wanting}
 use Rattle.xc_model.specs.Entering.{entry_of, behind_commit, behind_abort}
@@ -58,7 +58,7 @@ use Rattle.xc_turns.proofs.CountedSums.{adds, sum_set, fault_as_count}
 -- ---- by its phase a transaction has ended records or late ends
 -- the job's story, with what its phase says
 pub story_in_phase : (s : Setting) (at : ℕ) (now : Moment) (job : JobView) (tx : TxView) → slice_get now.jobs at ≡ Some job → job.doing ≡ Active tx
-    → StoriesHold s (length now.words) now.marks now.journal now.jobs → (f : Following) × IsInPhase s f job.place tx tx.phase
+    → StoriesHold s (length now.words) now.marks now.journal now.jobs → (f : Following) × IsInPhase s job.place (asked_at s job) tx tx.phase
 story_in_phase s at now job tx stands is told =
     let f = get_beside (progress_of s.script now.journal).jobs now.jobs at job told.count stands in
     let j = told.jobs_told at f.0 job f.1 stands in
@@ -70,7 +70,7 @@ none_ended : (s : Setting) (at : ℕ) (now : Moment) (job : JobView) (tx : TxVie
     → tx.phase ≡ Committing → StoriesHold s (length now.words) now.marks now.journal now.jobs → tx.undo.ended ≡ []
 none_ended s at now job tx stands is commits told =
     let phase = story_in_phase s at now job tx stands is told in
-    let committing : IsCommitting s phase.0 job.place tx = subst (IsInPhase s phase.0 job.place tx) commits phase.1 in
+    let committing : IsCommitting s job.place (asked_at s job) tx = subst (IsInPhase s job.place (asked_at s job) tx) commits phase.1 in
     committing.none
 
 -- an undoing one has no end of a late call
@@ -78,7 +78,7 @@ pub none_late : (s : Setting) (at : ℕ) (now : Moment) (job : JobView) (tx : Tx
     → tx.phase ≡ Undoing c → StoriesHold s (length now.words) now.marks now.journal now.jobs → tx.ends ≡ []
 none_late s at now job tx c stands is undoes told =
     let phase = story_in_phase s at now job tx stands is told in
-    let undoing : IsUndoing s phase.0 job.place tx c = subst (IsInPhase s phase.0 job.place tx) undoes phase.1 in
+    let undoing : IsUndoing s (asked_at s job) tx c = subst (IsInPhase s job.place (asked_at s job) tx) undoes phase.1 in
     undoing.no_ends
 
 -- a reply that tells of no way back tells of a fault, or of none
@@ -161,7 +161,7 @@ module _ (s : Setting) (at from : ℕ) (old : Moment) (job : JobView) (new : Mom
         let ended : sum_by undo_faults row.parts.undo.ended ≡ sum_by undo_faults tx.undo.ended = ap (λ (u : Records). sum_by undo_faults u.ended) row.undo in
         let sums : sum_by entry_faults new.journal ≡ sum_by entry_faults old.journal = ap (λ (n : Moment). sum_by entry_faults n.journal) row.behind in
         let was = recorded in
-        more_counted (with_tx job row.place tx') one (ap (λ (n : Moment). actives n.jobs) row.behind) (omega (arith, replies, ended, sums, was))
+        more_counted (answered_with job row.place tx') one (ap (λ (n : Moment). actives n.jobs) row.behind) (omega (arith, replies, ended, sums, was))
         (fault_as_count (is_fault_reply row.reply) old.faults new.faults row.cause)
 
     by_call : (c : Call) → CalledTurn (mover s at old job) tx c new → AreCounted from new
@@ -180,7 +180,7 @@ module _ (s : Setting) (at from : ℕ) (old : Moment) (job : JobView) (new : Mom
     by_ask ask.End row = absurd row
 
     by_running : (answer : Turn) → RunningTurn (mover s at old job) tx answer new → AreCounted from new
-    by_running turn.Went row = by_ask (asked_at s job.place) row
+    by_running turn.Went row = by_ask (asked_at s job) row
     by_running turn.NoMemory row =
         still_counted (with_tx job row.place (wanting tx row.left row.held)) (ap (λ (n : Moment). n.jobs) row.behind)
         (ap (λ (n : Moment). n.journal) row.behind)
@@ -265,7 +265,7 @@ module _ (s : Setting) (at from : ℕ) (old : Moment) (job : JobView) (new : Mom
         sum_by_push reply_faults tx.replies (reply.Undone faults) in
         let sums : sum_by entry_faults new.journal ≡ sum_by entry_faults old.journal = ap (λ (n : Moment). sum_by entry_faults n.journal) row.behind in
         let was = recorded in
-        more_counted (with_tx job row.place (backed tx kept)) 0 (ap (λ (n : Moment). actives n.jobs) row.behind) (omega (arith, replies, sums, was))
+        more_counted (answered_with job row.place (backed tx kept)) 0 (ap (λ (n : Moment). actives n.jobs) row.behind) (omega (arith, replies, sums, was))
         (ap (λ (n : Moment). n.faults) row.behind)
 
     by_block : (kept : SavedView) (b : Bool) → BackingRow (mover s at old job) tx kept b new → AreCounted from new

@@ -1,5 +1,5 @@
 -- A turn in which an entry comes keeps each conflict and each revocation grounded.
-use Rattle.std.proofs.Common.{◌≡◌, ◌≢◌, ◌⊎◌, inl, inr, ℕ, ◌+◌, ◌-◌, ◌<◌, ◌≤◌, List, [], ◌∷◌, ◌++◌, length, get_or, refl, ap, sym, ◌∙◌, subst}
+use Rattle.std.proofs.Common.{◌≡◌, ◌≢◌, ◌⊎◌, inl, inr, ℕ, ◌+◌, ◌<◌, ◌≤◌, List, [], ◌∷◌, ◌++◌, length, get_or, refl, ap, sym, ◌∙◌, subst}
 use Rattle.std.proofs.Common.{arith, length-set}
 use Rattle.std.specs.Prelude.{IsTrue, Option, slice_get, slice_set}
 use Rattle.std.specs.declared.option.Option.TheVariants.{None, Some}
@@ -49,7 +49,7 @@ module _ (s : Setting) (at : ℕ) (old new : Moment) (job : JobView) (stands : s
 
   -- what its job was asked last
   abbrev last : Ask
-  last = asked_at s job.place
+  last = asked_at s job
 
   abbrev log : List Part
   log = entry_parts s told.lasts old.journal
@@ -58,10 +58,10 @@ module _ (s : Setting) (at : ℕ) (old new : Moment) (job : JobView) (stands : s
   before = active_parts (reading s words old.marks) 1 old.jobs
 
   abbrev part_here : (ℕ → Option Mark) → TxView → Part
-  part_here marks tx = part_under_way (reading s words marks) (at + 1) job.place tx
+  part_here marks tx = part_under_way (reading s words marks) (at + 1) job tx
 
   module _ (k : EntersJournal at old job new)
-      (played : IsTrue s.tells → (tx : TxView) → (is : IsActiveAt old.jobs at tx) → IsPlayedSoFar (asked_at s is.0.place) words led at tx) where
+      (played : IsTrue s.tells → (tx : TxView) → (is : IsActiveAt old.jobs at tx) → IsPlayedSoFar (asked_at s is.0) words led at tx) where
     abbrev entry : Entry
     entry = entry_of k.tx at k.outcome
 

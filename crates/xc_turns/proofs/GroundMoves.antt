@@ -69,17 +69,17 @@ module _ (s : Setting) (at : ℕ) (old new : Moment) (job : JobView) (stands : s
 
   -- the part of its transaction, where it stands
   abbrev part_here : (ℕ → Option Mark) → JobView → TxView → Part
-  part_here marks there tx = part_under_way (reading s words marks) (at + 1) there.place tx
+  part_here marks there tx = part_under_way (reading s words marks) (at + 1) there tx
 
-  pub here_before : (o : Option TxView) → active_of job ≡ o → get_or before at None ≡ active_part (reading s words old.marks) (at + 1) job.place o
+  pub here_before : (o : Option TxView) → active_of job ≡ o → get_or before at None ≡ active_part (reading s words old.marks) (at + 1) job o
   here_before o e = part_read s words old.marks old.jobs at job o stands e
 
-  here_after : (marks : ℕ → Option Mark) (behind : JobView) (o : Option TxView) → active_of behind ≡ o
-      → get_or (behind_of marks behind) at None ≡ active_part (reading s words marks) (at + 1) behind.place o
+  pub here_after : (marks : ℕ → Option Mark) (behind : JobView) (o : Option TxView) → active_of behind ≡ o
+      → get_or (behind_of marks behind) at None ≡ active_part (reading s words marks) (at + 1) behind o
   here_after marks behind o e =
       part_read s words marks (slice_set old.jobs at behind) at behind o (get_set_same old.jobs at job behind stands) e
 
-  is_part : (parts : List (Option Part)) (a b : Part) → get_or parts at None ≡ Some a → get_or parts at None ≡ Some b → a ≡ b
+  pub is_part : (parts : List (Option Part)) (a b : Part) → get_or parts at None ≡ Some a → get_or parts at None ≡ Some b → a ≡ b
   is_part parts a b e got = let both : Some a ≡ Some b = sym e ∙ got in cc
 
   -- the marks of the others stay
@@ -87,7 +87,7 @@ module _ (s : Setting) (at : ℕ) (old new : Moment) (job : JobView) (stands : s
   MarksElsewhere marks = (j : ℕ) (tx : TxView) → j ≢ at → IsActiveAt old.jobs j tx → marks tx.number ≡ old.marks tx.number
 
   -- ---- no transaction enters
-  go_at : (marks : ℕ → Option Mark) (behind : JobView) → MarksElsewhere marks
+  pub go_at : (marks : ℕ → Option Mark) (behind : JobView) → MarksElsewhere marks
       → ((a : Part) → get_or before at None ≡ Some a → (b : Part) × Follows s.tells a b × (get_or (behind_of marks behind) at None ≡ Some b))
       → ((b : Part) → get_or (behind_of marks behind) at None ≡ Some b → IsGrounded (scene_of s.tells log before) (length log) b b.cause)
       → AreGrounded (scene_of s.tells log (behind_of marks behind))
@@ -141,9 +141,9 @@ module _ (s : Setting) (at : ℕ) (old new : Moment) (job : JobView) (stands : s
 
   -- ---- an active one goes on
   -- what it wants depends on its private state and on what it is asked alone
-  wanted_on : (behind : JobView) (was tx : TxView) → tx.me ≡ was.me → asked_at s behind.place ≡ asked_at s job.place
-      → wanted_by words tx (asked_at s behind.place) ≡ wanted_by words was (asked_at s job.place)
-  wanted_on behind was tx me still = by_me (asked_at s behind.place) ∙ ap (wanted_by words was) still
+  wanted_on : (behind : JobView) (was tx : TxView) → tx.me ≡ was.me → asked_at s behind ≡ asked_at s job
+      → wanted_by words tx (asked_at s behind) ≡ wanted_by words was (asked_at s job)
+  wanted_on behind was tx me still = by_me (asked_at s behind) ∙ ap (wanted_by words was) still
     where
       by_me : (a : Ask) → wanted_by words tx a ≡ wanted_by words was a
       by_me (ask.Call call) = ap (λ (m : Private). claims_of call m words) me
@@ -162,7 +162,7 @@ module _ (s : Setting) (at : ℕ) (old new : Moment) (job : JobView) (stands : s
   rival_named j number rival active numbered other =
       let there = active in
       record {
-        who = part_under_way (reading s words old.marks) (j + 1) there.0.place rival;
+        who = part_under_way (reading s words old.marks) (j + 1) there.0 rival;
         present = inr (j, part_read s words old.marks old.jobs j there.0 (Some rival) there.1 there.2);
         numbered = numbered;
         other = λ (e : j + 1 ≡ at + 1). other (omega arith);
@@ -177,12 +177,12 @@ module _ (s : Setting) (at : ℕ) (old new : Moment) (job : JobView) (stands : s
       record { claim = holds.0; names = holds.2.0 ∙ names; among = holds.1 }
 
   -- what it is asked next claims the object
-  pub asked_wants : (behind : JobView) (was tx : TxView) → tx.me ≡ was.me → asked_at s behind.place ≡ asked_at s job.place → (call : Call)
-      → asked_at s job.place ≡ ask.Call call → wanted_by words tx (asked_at s behind.place) ≡ claims_at old was call
+  pub asked_wants : (behind : JobView) (was tx : TxView) → tx.me ≡ was.me → asked_at s behind ≡ asked_at s job → (call : Call)
+      → asked_at s job ≡ ask.Call call → wanted_by words tx (asked_at s behind) ≡ claims_at old was call
   asked_wants behind was tx me still call asked = wanted_on behind was tx me still ∙ ap (wanted_by words was) asked
 
   -- a back claims nothing
-  back_wants : (was : TxView) → asked_at s job.place ≡ ask.Call call.Back → wanted_by words was (asked_at s job.place) ≡ []
+  back_wants : (was : TxView) → asked_at s job ≡ ask.Call call.Back → wanted_by words was (asked_at s job) ≡ []
   back_wants was backs = ap (wanted_by words was) backs
 
   -- the claim that meets is one of those

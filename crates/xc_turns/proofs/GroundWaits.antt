@@ -25,7 +25,7 @@ use Rattle.xc_turns.proofs.Progressing.{parts_length}
 use Rattle.xc_turns.proofs.HeldClaims.{covered_same}
 use Rattle.xc_turns.proofs.GroundSteps.{Follows, ground_as, grounds_go_on}
 use Rattle.xc_turns.proofs.GivenNumbers.{given_once}
-use Rattle.xc_turns.proofs.Jobs.{active_same, active_was, active_is, active_before}
+use Rattle.xc_turns.proofs.Jobs.{active_same, active_was, alike_before}
 use Rattle.xc_data.proofs.Laws.{get_set_same, get_set_other}
 use Rattle.xc_turns.proofs.GroundReads.{part_read, part_there}
 use Rattle.xc_turns.proofs.KindsOfTurns.{cause_on}
@@ -75,14 +75,10 @@ module _ (s : Setting) (at : ℕ) (old new : Moment) (job : JobView) (stands : s
 
     -- all transactions are as before
     active_still : (j : ℕ) (tx : TxView) → IsActiveAt (slice_set old.jobs at k.behind) j tx → IsActiveAt old.jobs j tx
-    active_still j tx a = dite (ℕ_discrete j at)
-        (λ (here : j ≡ at).
-        let is = active_is old.jobs at job stands k.behind tx (subst (λ n. IsActiveAt (slice_set old.jobs at k.behind) n tx) here a) in
-        subst (λ n. IsActiveAt old.jobs n tx) (sym here) (job, stands, k.before ∙ sym k.after ∙ is))
-        (λ (away : j ≢ at). active_before old.jobs at j k.behind tx away a)
+    active_still = alike_before old.jobs at job k.behind stands (k.after ∙ sym k.before)
 
     abbrev part_at : (ℕ → Option Mark) → ℕ → JobView → TxView → Part
-    part_at marks j there tx = part_under_way (reading s words marks) (j + 1) there.place tx
+    part_at marks j there tx = part_under_way (reading s words marks) (j + 1) there tx
 
     old_part : (j : ℕ) (tx : TxView) → (a : IsActiveAt old.jobs j tx) → get_or before j None ≡ Some (part_at old.marks j a.0 tx)
     old_part j tx a = part_read s words old.marks old.jobs j a.0 (Some tx) a.1 a.2

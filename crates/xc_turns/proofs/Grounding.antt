@@ -35,9 +35,9 @@ restated s words words' marks marks' lasts lasts' journal journal' jobs jobs' e 
 
 kind_grounded : (s : Setting) (at : ℕ) (old new : Moment) (job : JobView) → slice_get old.jobs at ≡ Some job
     → (IsTrue s.tells → (tx : TxView) → (is : IsActiveAt old.jobs at tx)
-    → IsPlayedSoFar (asked_at s is.0.place) (length old.words) (progress_of s.script old.journal) at tx)
+    → IsPlayedSoFar (asked_at s is.0) (length old.words) (progress_of s.script old.journal) at tx)
     → (told : StoriesHold s (length old.words) old.marks old.journal old.jobs) → Kind s at old job new
-    → AreAllGrounded (reading s (length new.words) new.marks) (lasts_behind (asked_at s job.place) old.journal new.journal told.lasts)
+    → AreAllGrounded (reading s (length new.words) new.marks) (lasts_behind (asked_at s job) old.journal new.journal told.lasts)
     new.journal new.jobs
 kind_grounded s at old new job stands played told (rests k) =
     restated s _ _ _ _ _ _ _ _ _ _ k.sets.words k.marks (lasts_stay _ _ _ told.lasts k.journal) k.journal k.sets.jobs
@@ -58,9 +58,9 @@ kind_grounded s at old new job stands played told (enters k) =
 -- after a turn each conflict names a holder, and each revocation an older transaction
 pub grounds_kept : (s : Setting) (at : ℕ) (old new : Moment) (answer : Turn) → (t : IsTurn s at old answer new)
     → (IsTrue s.tells → (tx : TxView) → (is : IsActiveAt old.jobs at tx)
-    → IsPlayedSoFar (asked_at s is.0.place) (length old.words) (progress_of s.script old.journal) at tx)
+    → IsPlayedSoFar (asked_at s is.0) (length old.words) (progress_of s.script old.journal) at tx)
     → (told : StoriesHold s (length old.words) old.marks old.journal old.jobs)
-    → AreAllGrounded (reading s (length new.words) new.marks) (lasts_behind (asked_at s t.job.place) old.journal new.journal told.lasts)
+    → AreAllGrounded (reading s (length new.words) new.marks) (lasts_behind (asked_at s t.job) old.journal new.journal told.lasts)
     new.journal new.jobs
 grounds_kept s at old new answer t played told =
     kind_grounded s at old new t.job t.there played told (row_kind s at old new answer t)

@@ -115,7 +115,7 @@ module _ (s : Setting) (lasts : List Ask) (journal : List Entry) (jobs : List Jo
   module _ (tx : TxView) (made : HasMade s job tx there.made) where
     -- what was asked last of it
     abbrev last : Ask
-    last = asked_at s job.place
+    last = asked_at s job
 
     -- its entry leads to these handles
     enters_handled : (o : Outcome) (ends : List HostCallKind) (places : List (List Place)) → EndMakes last tx.late o ends

@@ -21,8 +21,6 @@ use Rattle.xc_host.specs.Cause.{IsCalled, times}
 use Rattle.xc_host.specs.Uses.{BacksFor, LatesFor}
 use Rattle.xc_script.specs.declared.ask.Ask.{Ask}
 use Rattle.xc_script.specs.declared.ask.Ask.TheVariants as ask
-use Rattle.xc_script.specs.Asking.{asks}
-use Rattle.xc_script.specs.Blocks.{block_from}
 use Rattle.xc_script.specs.Position.{Position}
 use Rattle.xc_world.specs.Fits.{is_back}
 use Rattle.xc_world.specs.Late.{kept_call}
@@ -37,7 +35,7 @@ use Rattle.xc_model.specs.Handling.{HandlesAgree, HasMade, MadeBy, StopsIn}
 use Rattle.xc_model.specs.IdleRows.{IdleTurn, beginning_job}
 use Rattle.xc_model.specs.Moment.{TxView, SavedView, JobView, Doing, Idle, Active, Starved, Ended, Moment}
 use Rattle.xc_model.specs.Moment.{active_in, active_of, begun_count, late_left, rank_of, revoked}
-use Rattle.xc_model.specs.Movers.{HasCalled, asked_at, mover}
+use Rattle.xc_model.specs.Movers.{HasCalled, answered_with, asked_at, mover}
 use Rattle.xc_model.specs.PlainSteps.{StopsAt, claims_at, noting, wanting}
 use Rattle.xc_model.specs.Progress.{Following, progress_of}
 use Rattle.xc_model.specs.Rows.{StarvedTurn, ActiveTurn, TurnOf, IsTurn, lasts_behind}
@@ -52,7 +50,7 @@ use Rattle.xc_turns.proofs.Jobs.{behind_abort_none}
 use Rattle.xc_turns.proofs.LateEnds.{Ends, next_ends, next_uses}
 use Rattle.xc_turns.proofs.Lists.{get_beside}
 use Rattle.xc_turns.proofs.Progressing.{lasts_grow, lasts_stay}
-use Rattle.xc_turns.proofs.StoryAsks.{asks-count}
+use Rattle.xc_model.proofs.Laws.{asked_same, in_time-count}
 
 -- an abort leaves the job's handles
 abort_places : (job : JobView) (tx : TxView) (c : Cause) → (behind_abort job tx c).me.places ≡ job.me.places
@@ -76,14 +74,14 @@ module _ (s : Setting) (at : ℕ) (old : Moment) (job : JobView) (new : Moment) 
     (told : StoriesHold s (length old.words) old.marks old.journal old.jobs) (lasts : List Ask) (h : HandlesAgree s lasts old.journal old.jobs old.calls) where
   -- the handles of the new moment
   abbrev After : Type 0
-  After = HandlesAgree s (lasts_behind (asked_at s job.place) old.journal new.journal lasts) new.journal new.jobs new.calls
+  After = HandlesAgree s (lasts_behind (asked_at s job) old.journal new.journal lasts) new.journal new.jobs new.calls
 
   -- what the job's active transaction made
   abbrev was : MadeAt s job h.under_way at
   was = there s lasts old.journal old.jobs old.calls at job stands h
 
   -- with these asks, this journal and these jobs
-  become : (asked : List Ask) (journal : List Entry) (jobs : List JobView) → lasts_behind (asked_at s job.place) old.journal new.journal lasts ≡ asked
+  become : (asked : List Ask) (journal : List Entry) (jobs : List JobView) → lasts_behind (asked_at s job) old.journal new.journal lasts ≡ asked
       → new.journal ≡ journal → new.jobs ≡ jobs → HandlesAgree s asked journal jobs new.calls → After
   become asked journal jobs l p q so =
       subst (λ (xs : List Ask). HandlesAgree s xs new.journal new.jobs new.calls) (sym l)
@@ -92,9 +90,9 @@ module _ (s : Setting) (at : ℕ) (old : Moment) (job : JobView) (new : Moment) 
 
   -- where an entry comes
   enters_as : (e : Entry) (jobs : List JobView) → new.journal ≡ old.journal ++ e ∷ [] → new.jobs ≡ jobs
-      → HandlesAgree s (lasts ++ asked_at s job.place ∷ []) (old.journal ++ e ∷ []) jobs new.calls → After
+      → HandlesAgree s (lasts ++ asked_at s job ∷ []) (old.journal ++ e ∷ []) jobs new.calls → After
   enters_as e jobs p q so =
-      become (lasts ++ asked_at s job.place ∷ []) (old.journal ++ e ∷ []) jobs (lasts_grow _ _ _ lasts e p) p q so
+      become (lasts ++ asked_at s job ∷ []) (old.journal ++ e ∷ []) jobs (lasts_grow _ _ _ lasts e p) p q so
 
   -- the job goes on, and made more calls
   goes_on : (job' : JobView) (made' more : List HostCallKind) → job'.me.places ≡ job.me.places → MadeBy s job' (active_of job') made'
@@ -164,12 +162,12 @@ module _ (s : Setting) (at : ℕ) (old : Moment) (job : JobView) (new : Moment) 
     made : HasMade s job tx was.made
     made = subst (λ (d : Doing). MadeBy s job (active_in d) was.made) is was.by
 
-    under : IsUnderway s follows.0 job.place tx
+    under : IsUnderway s follows.0 job.place (asked_at s job) tx
     under = subst (IsDoing s (begun_count old) follows.0 job) is story.doing
 
     -- each call has its reply
     each : length tx.calls ≡ length tx.replies
-    each = asks-count (block_from s.script follows.0.job) tx.calls tx.replies under.asked
+    each = in_time-count tx.calls tx.replies under.in_time
 
     -- part by part
     made_times : (kind : HostCallKind)
@@ -177,8 +175,8 @@ module _ (s : Setting) (at : ℕ) (old : Moment) (job : JobView) (new : Moment) 
     made_times kind = ap (times kind) made.all ∙ parts_times kind made.body made.stops made.backs made.lates
 
     -- in its phase
-    in_phase : (p : Phase) → tx.phase ≡ p → IsInPhase s follows.0 job.place tx p
-    in_phase p q = subst (IsInPhase s follows.0 job.place tx) q under.phase
+    in_phase : (p : Phase) → tx.phase ≡ p → IsInPhase s job.place (asked_at s job) tx p
+    in_phase p q = subst (IsInPhase s job.place (asked_at s job) tx) q under.phase
 
     -- the job with the transaction like this, in this place
     abbrev going : Position → ℕ → TxView → JobView
@@ -202,7 +200,7 @@ module _ (s : Setting) (at : ℕ) (old : Moment) (job : JobView) (new : Moment) 
           backs = made.backs;
           lates = made.lates;
           calls = made.calls;
-          stopped = subst (StopsIn p (asked_at s place)) (sym none) (stopped (asked_at s place));
+          stopped = subst (StopsIn p (asked_at s (going place busy tx'))) (sym none) (stopped (asked_at s (going place busy tx')));
           undone = made.undone;
           ended = made.ended;
           all = made.all;
@@ -212,25 +210,25 @@ module _ (s : Setting) (at : ℕ) (old : Moment) (job : JobView) (new : Moment) 
     -- ---- a running one
     module _ (runs : tx.phase ≡ Running) where
       none_yet : made.stops ≡ []
-      none_yet = subst (λ (x : Phase). StopsIn x (asked_at s job.place) made.stops) runs made.stopped
+      none_yet = subst (λ (x : Phase). StopsIn x (asked_at s job) made.stops) runs made.stopped
 
       call_handled : (c : Call) → is_back c ≡ false → Calls (mover s at old job) tx c new → After
       call_handled c ahead row =
           let (more, named, used) = row.uses in
           let tx' = noting tx c row.reply (claims_at old tx c) row.parts in
-          let so : HasMade s (going row.place job.busy tx') tx' ((made.body ++ more) ++ made.stops ++ made.backs ++ made.lates) = record {
+          let so : HasMade s (answered_with job row.place tx') tx' ((made.body ++ more) ++ made.stops ++ made.backs ++ made.lates) = record {
             body = made.body ++ more;
             stops = made.stops;
             backs = made.backs;
             lates = made.lates;
             calls = called_handled tx c row.reply (claims_at old tx c) row.parts (handled_anew job.me.places) made.body more ahead each
                 row.checked row.after named made.calls;
-            stopped = subst (λ (x : Phase). StopsIn x (asked_at s row.place) made.stops) (sym runs) none_yet;
+            stopped = subst (λ (x : Phase). StopsIn x (asked_at s (answered_with job row.place tx')) made.stops) (sym runs) none_yet;
             undone = subst (λ (u : Records). BacksMake u.ended made.backs) (sym row.undo) made.undone;
             ended = other_lates tx.late (tx.late ++ kept_call c tx.me row.reply) tx.ends made.lates (in_phase Running runs).no_ends made.ended;
             all = refl;
           } in
-          moves row.place job.busy tx' ((made.body ++ more) ++ made.stops ++ made.backs ++ made.lates) more so
+          goes_on (answered_with job row.place tx') ((made.body ++ more) ++ made.stops ++ made.backs ++ made.lates) more refl so
           (λ kind.
           let before = made_times kind in
           let after = parts_times kind (made.body ++ more) made.stops made.backs made.lates in
@@ -268,7 +266,7 @@ module _ (s : Setting) (at : ℕ) (old : Moment) (job : JobView) (new : Moment) 
             backs = made.backs;
             lates = made.lates;
             calls = made.calls;
-            stopped = subst (λ (a : Ask). StopsAt a more) (sym (ap asks row.same.walk)) named;
+            stopped = subst (λ (a : Ask). StopsAt a more) (sym (asked_same s job row.place row.same)) named;
             undone = made.undone;
             ended = made.ended;
             all = refl;
@@ -282,7 +280,7 @@ module _ (s : Setting) (at : ℕ) (old : Moment) (job : JobView) (new : Moment) 
           used (ap (λ (n : Moment). n.journal) row.behind) (ap (λ (n : Moment). n.jobs) row.behind)
 
       by_running : (answer : Turn) → RunningTurn (mover s at old job) tx answer new → After
-      by_running turn.Went row = by_ask (asked_at s job.place) row
+      by_running turn.Went row = by_ask (asked_at s job) row
       by_running turn.NoMemory row = wants_handled row
       by_running (turn.Busy object holder) row =
           turns row.place (job.busy + 1) tx.phase none_yet (λ last. subst (λ (x : Phase). StopsIn x last []) (sym runs) refl)
@@ -298,7 +296,7 @@ module _ (s : Setting) (at : ℕ) (old : Moment) (job : JobView) (new : Moment) 
       by_mark (Some m) _ row = absurd row
 
     -- one more compensation ended
-    tried : (p : Phase) (older : List Undo) (undo : Undo) (end : UndoEnd) → StopsIn p (asked_at s job.place) made.stops
+    tried : (p : Phase) (older : List Undo) (undo : Undo) (end : UndoEnd) → StopsIn p (asked_at s job) made.stops
         → HasCalled (BacksFor undo end) old new → new.journal ≡ old.journal
         → new.jobs ≡ slice_set old.jobs at
         (going job.place job.busy (record tx { phase = p; undo = record { pending = older; ended = (undo, end) ∷ tx.undo.ended } })) → After
@@ -326,13 +324,13 @@ module _ (s : Setting) (at : ℕ) (old : Moment) (job : JobView) (new : Moment) 
     -- ---- one whose block goes back
     module _ (backs : tx.phase ≡ Backing) where
       none_back : made.stops ≡ []
-      none_back = subst (λ (x : Phase). StopsIn x (asked_at s job.place) made.stops) backs made.stopped
+      none_back = subst (λ (x : Phase). StopsIn x (asked_at s job) made.stops) backs made.stopped
 
       block_back : (kept : SavedView) → tx.saved ≡ Some kept → EndsBack (mover s at old job) tx kept new → After
       block_back kept opened row =
           let tx' = backed tx kept in
           let phase = in_phase Backing backs in
-          let so : HasMade s (going row.place job.busy tx') tx' ((made.body ++ made.backs) ++ [] ++ [] ++ made.lates) = record {
+          let so : HasMade s (answered_with job row.place tx') tx' ((made.body ++ made.backs) ++ [] ++ [] ++ made.lates) = record {
             body = made.body ++ made.backs;
             stops = [];
             backs = [];
@@ -343,7 +341,7 @@ module _ (s : Setting) (at : ℕ) (old : Moment) (job : JobView) (new : Moment) 
             ended = other_lates tx.late kept.late tx.ends made.lates phase.no_ends made.ended;
             all = refl;
           } in
-          moves row.place job.busy tx' ((made.body ++ made.backs) ++ [] ++ [] ++ made.lates) [] so
+          goes_on (answered_with job row.place tx') ((made.body ++ made.backs) ++ [] ++ [] ++ made.lates) [] refl so
           (same_times ((made.body ++ made.backs) ++ [] ++ [] ++ made.lates) (λ kind.
           let before = made_times kind in
           let none : times kind made.stops ≡ 0 = ap (times kind) none_back in
@@ -356,8 +354,8 @@ module _ (s : Setting) (at : ℕ) (old : Moment) (job : JobView) (new : Moment) 
       by_block : (kept : SavedView) (b : Bool) → tx.saved ≡ Some kept → BackingRow (mover s at old job) tx kept b new → After
       by_block kept true opened row =
           tried (phase_after (length row.older + 1) row.end) row.older row.tried row.end
-          (subst (StopsIn (phase_after (length row.older + 1) row.end) (asked_at s job.place)) (sym none_back)
-          (none_stopped (length row.older + 1) row.end (asked_at s job.place)))
+          (subst (StopsIn (phase_after (length row.older + 1) row.end) (asked_at s job)) (sym none_back)
+          (none_stopped (length row.older + 1) row.end (asked_at s job)))
           row.uses (ap (λ (n : Moment). n.journal) row.behind) (ap (λ (n : Moment). n.jobs) row.behind)
       by_block kept false opened row = block_back kept opened row
 
@@ -410,7 +408,7 @@ module _ (s : Setting) (at : ℕ) (old : Moment) (job : JobView) (new : Moment) 
         (λ kind.
         let before = made_times kind in
         let none : times kind made.stops ≡ 0 =
-        ap (times kind) (subst (λ (x : Phase). StopsIn x (asked_at s job.place) made.stops) commits made.stopped) in
+        ap (times kind) (subst (λ (x : Phase). StopsIn x (asked_at s job) made.stops) commits made.stopped) in
         let backs : times kind made.backs ≡ 0 = ap (times kind) (no_backs tx.undo.ended made.backs phase.none made.undone) in
         omega (arith, before, none, backs))
         (λ kind. ap (λ (n : Moment). n.calls kind) row.0))
@@ -430,8 +428,8 @@ module _ (s : Setting) (at : ℕ) (old : Moment) (job : JobView) (new : Moment) 
     abort_handled c undoes row =
         let phase = in_phase (Undoing c) undoes in
         let report : Report = record { cause = c; records = tx.undo.ended } in
-        let stopped : StopsBy c (asked_at s job.place) made.stops =
-        subst (λ (x : Phase). StopsIn x (asked_at s job.place) made.stops) undoes made.stopped in
+        let stopped : StopsBy c (asked_at s job) made.stops =
+        subst (λ (x : Phase). StopsIn x (asked_at s job) made.stops) undoes made.stopped in
         enters_as _ _ (ap (λ (n : Moment). n.journal) row.behind) (ap (λ (n : Moment). n.jobs) row.behind)
         (aborted_handled s lasts old.journal old.jobs old.calls at job stands h tx made report (behind_abort job tx c) (made.stops ++ made.backs) new.calls
         (abort_places job tx c)
@@ -470,5 +468,5 @@ module _ (s : Setting) (at : ℕ) (old : Moment) (job : JobView) (new : Moment) 
 -- a turn keeps the handles, and the count of the host's calls
 pub turn_keeps_handles : (s : Setting) (at : ℕ) (old new : Moment) (answer : Turn) (lasts : List Ask) → (t : IsTurn s at old answer new)
     → StoriesHold s (length old.words) old.marks old.journal old.jobs → HandlesAgree s lasts old.journal old.jobs old.calls
-    → HandlesAgree s (lasts_behind (asked_at s t.job.place) old.journal new.journal lasts) new.journal new.jobs new.calls
+    → HandlesAgree s (lasts_behind (asked_at s t.job) old.journal new.journal lasts) new.journal new.jobs new.calls
 turn_keeps_handles s at old new answer lasts t told h = by_doing s at old t.job new t.there told lasts h t.job.doing refl answer t.row

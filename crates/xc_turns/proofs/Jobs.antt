@@ -1,8 +1,10 @@
 -- Active transactions by the place of their jobs.
-use Rattle.std.proofs.Common.{◌≡◌, ◌≢◌, ℕ, zero, suc, List, [], ◌∷◌, map, refl, ap, sym, ◌∙◌}
+use Rattle.std.proofs.Common.{◌≡◌, ◌≢◌, ℕ, zero, suc, List, [], ◌∷◌, ◌++◌, map, refl, ap, sym, ◌∙◌, subst}
 use Rattle.std.specs.Prelude.{Contains, Option, slice_get, slice_set}
 use Rattle.std.specs.List.{cons_option}
 use Rattle.std.specs.declared.option.Option.TheVariants.{None, Some}
+use mathlib.Core.Logic.{dite}
+use native.Mathlib.Decide.{ℕ_discrete}
 use Rattle.xc_data.specs.declared.entry.Cause.{Cause}
 use Rattle.xc_data.specs.declared.entry.Cause.TheVariants as cause
 use Rattle.xc_text.specs.declared.script.Script.{Script}
@@ -10,7 +12,7 @@ use Rattle.xc_model.specs.Moment.{TxView, JobView, active_of, actives}
 use Rattle.xc_model.specs.Movers.{IsActiveAt}
 use Rattle.xc_model.specs.Entering.{behind_abort}
 use Rattle.xc_model.specs.Opened.{opened_job}
-use Rattle.xc_turns.proofs.Lists.{contains_picked, not_both}
+use Rattle.xc_turns.proofs.Lists.{around, contains_picked, not_both}
 use Rattle.xc_data.proofs.Laws.{get_set_same, get_set_other}
 
 -- ---- one place of the jobs is set
@@ -46,6 +48,30 @@ active_before jobs at j job' t ne a = (a.0, sym (get_set_other jobs at j job' ne
 -- and those that were still are
 pub active_after : (jobs : List JobView) (at j : ℕ) (job' : JobView) (t : TxView) → j ≢ at → IsActiveAt jobs j t → IsActiveAt (slice_set jobs at job') j t
 active_after jobs at j job' t ne a = (a.0, get_set_other jobs at j job' ne ∙ a.1, a.2)
+
+-- ---- a job has the same active transaction as before, or none as before
+module _ (jobs : List JobView) (at : ℕ) (job job' : JobView) (stands : slice_get jobs at ≡ Some job) (same : active_of job' ≡ active_of job) where
+  -- then all that are active were
+  pub alike_before : (j : ℕ) (t : TxView) → IsActiveAt (slice_set jobs at job') j t → IsActiveAt jobs j t
+  alike_before j t a = dite (ℕ_discrete j at)
+      (λ (here : j ≡ at).
+      let is = active_is jobs at job stands job' t (subst (λ k. IsActiveAt (slice_set jobs at job') k t) here a) in
+      subst (λ k. IsActiveAt jobs k t) (sym here) (job, stands, sym same ∙ is))
+      (λ (away : j ≢ at). active_before jobs at j job' t away a)
+
+  -- and still are
+  pub alike_after : (j : ℕ) (t : TxView) → IsActiveAt jobs j t → IsActiveAt (slice_set jobs at job') j t
+  alike_after j t a = dite (ℕ_discrete j at)
+      (λ (here : j ≡ at).
+      let was = active_was jobs at job stands t (subst (λ k. IsActiveAt jobs k t) here a) in
+      subst (λ k. IsActiveAt (slice_set jobs at job') k t) (sym here) (active_here jobs at job stands job' t (same ∙ was)))
+      (λ (away : j ≢ at). active_after jobs at j job' t away a)
+
+  -- they are the same ones
+  pub alike_actives : actives (slice_set jobs at job') ≡ actives jobs
+  alike_actives =
+      let here = around active_of jobs at job stands in
+      here.is job' ∙ ap (λ o. here.front ++ cons_option o here.back) same ∙ sym here.was
 
 -- ---- all active ones
 -- an active one is among them

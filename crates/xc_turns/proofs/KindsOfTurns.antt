@@ -60,14 +60,14 @@ HoldsOn jobs at was held = (held ≡ was) ⊎ ((claims : List Claim) × All (Has
 -- the call that it was asked is done: it holds what that claims
 pub record HoldsAsked (s : Setting) (old : Moment) (job : JobView) (was tx : TxView) : Type 0 where
   pub call : Call
-  pub asked : asked_at s job.place ≡ ask.Call call
+  pub asked : asked_at s job ≡ ask.Call call
   pub held : tx.held ≡ holding was.held (claims_at old was call)
 
 -- what it is asked stays, or the asked call is done; a block's way back claims nothing
 abbrev pub AsksOn : Mover → JobView → TxView → TxView → Type 0
 AsksOn m behind was tx =
-    ((tx.me ≡ was.me) × (asked_at m.setting behind.place ≡ asked_at m.setting m.job.place))
-    ⊎ (HoldsAsked m.setting m.old m.job was tx ⊎ (asked_at m.setting m.job.place ≡ ask.Call call.Back))
+    ((tx.me ≡ was.me) × (asked_at m.setting behind ≡ asked_at m.setting m.job))
+    ⊎ (HoldsAsked m.setting m.old m.job was tx ⊎ (asked_at m.setting m.job ≡ ask.Call call.Back))
 
 -- no conflict and no revocation
 abbrev pub IsNoConflict : Option Cause → Type 0
@@ -83,18 +83,18 @@ cause_on now tx = cause_of_phase (now.marks tx.number) tx.phase
 pub record IsSameCause (m : Mover) (behind : JobView) (was tx : TxView) : Type 0 where
   pub cause : cause_on m.old tx ≡ cause_on m.old was
   pub me : tx.me ≡ was.me
-  pub still : asked_at m.setting behind.place ≡ asked_at m.setting m.job.place
+  pub still : asked_at m.setting behind ≡ asked_at m.setting m.job
 
 -- the call that it is asked meets a holder
 pub record MeetsRival (m : Mover) (behind : JobView) (was tx : TxView) : Type 0 where
   pub call : Call
-  pub asked : asked_at m.setting m.job.place ≡ ask.Call call
+  pub asked : asked_at m.setting m.job ≡ ask.Call call
   pub object : Object
   pub holder : ℕ
   pub met : IsFirstRival m.old.jobs m.at (claims_at m.old was call) object holder
   pub phase : tx.phase ≡ Undoing (cause.Conflict object holder (length m.old.journal))
   pub me : tx.me ≡ was.me
-  pub still : asked_at m.setting behind.place ≡ asked_at m.setting m.job.place
+  pub still : asked_at m.setting behind ≡ asked_at m.setting m.job
 
 -- it has the old cause, none that names a holder, or a new one that does
 pub data CauseOn (m : Mover) (behind : JobView) (was tx : TxView) : Type 0 where
@@ -127,7 +127,7 @@ pub record Stays (s : Setting) (at : ℕ) (old : Moment) (job : JobView) (new : 
   pub tx : TxView
   pub before : active_of job ≡ Some tx
   pub after : active_of behind ≡ Some tx
-  pub still : asked_at s behind.place ≡ asked_at s job.place
+  pub still : asked_at s behind ≡ asked_at s job
   pub object : Object
   pub holder : ℕ
   pub waits : Waits (mover s at old job) tx object holder new

@@ -18,6 +18,8 @@ pub use Rattle.xc_turns.proofs.Closings.{ends_told}
 -- where each job has ended the words are those that the journal left
 pub use Rattle.xc_turns.proofs.Closings.{words_are_left}
 -- ---- Completions: Where each job was done, each of its transactions has the one entry by which it was done with.
+-- a job has passed no more transactions than the journal has entries
+pub use Rattle.xc_turns.proofs.Completions.{passed_few}
 -- a job isn't starved
 pub use Rattle.xc_turns.proofs.Completions.{IsNotStarved}
 -- of all entries
@@ -72,6 +74,11 @@ pub use Rattle.xc_turns.proofs.Halves.{jobs_more}
 pub use Rattle.xc_turns.proofs.Halves.{course_opened}
 -- the script's part of it
 pub use Rattle.xc_turns.proofs.Halves.{jobs_opened}
+-- ---- HandedOver: What a client hands in keeps all that is true between two turns.
+-- what is handed in keeps all that is true between two turns
+pub use Rattle.xc_turns.proofs.HandedOver.{handed_consistent}
+-- and that one job goes on alone
+pub use Rattle.xc_turns.proofs.HandedOver.{handed_alone}
 -- ---- HandledTurns: Each row of the table of turns keeps the handles, and the count of the host's calls.
 -- a turn keeps the handles, and the count of the host's calls
 pub use Rattle.xc_turns.proofs.HandledTurns.{turn_keeps_handles}
@@ -91,6 +98,9 @@ pub use Rattle.xc_turns.proofs.Lists.{get_front}
 pub use Rattle.xc_turns.proofs.Lists.{get_inside}
 -- with one more there are those before, and that one
 pub use Rattle.xc_turns.proofs.Lists.{get_cases}
+-- ---- LiveSteps: What a job is asked where it stands, by a script or by clients.
+-- of a script what its walk asks
+pub use Rattle.xc_turns.proofs.LiveSteps.{asks_scripted}
 -- ---- Orders: Turns of one job alone keep transactions one after another.
 -- a turn of the one job that goes on
 pub use Rattle.xc_turns.proofs.Orders.{alone_turned}

@@ -2,7 +2,7 @@
 use Rattle.std.proofs.Common.{◌≡◌, ℕ, ◌+◌, ◌-◌, ◌<◌, ◌≤◌, List, [], ◌∷◌, ◌++◌, length, drop}
 use Rattle.std.proofs.Common.{refl, ap, sym, ◌∙◌, subst, arith, inl, inr, length-append}
 use Rattle.std.proofs.lemmas.List.{drop_all}
-use Rattle.std.specs.Prelude.{Option, slice_get, slice_set, sum_by, unwrap_or}
+use Rattle.std.specs.Prelude.{IsSome, Option, slice_get, slice_set, sum_by, unwrap_or}
 use Rattle.std.specs.declared.option.Option.TheVariants.{None, Some}
 use Rattle.xc_data.specs.declared.entry.KeptItem.{KeptItem}
 use Rattle.xc_data.specs.declared.call.Call.{Call}
@@ -22,7 +22,10 @@ use Rattle.xc_text.specs.Stated.{Statement}
 use Rattle.xc_script.specs.declared.ask.Ask.{Ask}
 use Rattle.xc_script.specs.declared.ask.Ask.TheVariants as ask
 use Rattle.xc_script.specs.Ask.{block_place, transactions_at, transactions_of}
-use Rattle.xc_script.specs.Position.{Position}
+use Rattle.xc_script.specs.Asking.{asks}
+use Rattle.xc_script.specs.Position.{Position, job_of, walk_of}
+use Rattle.xc_script.proofs.Laws.{scripted_body}
+use Rattle.xc_model.specs.Live.{IsScripted}
 use Rattle.xc_world.specs.Late.{kept_call}
 use Rattle.xc_host.specs.Contents.{Contents}
 use Rattle.xc_data.specs.declared.entry.Mark.{Mark}
@@ -64,6 +67,7 @@ use Rattle.xc_model.specs.Movers.{Mover, mover}
 use Rattle.xc_turns.proofs.LateEnds.{next_ends}
 use Rattle.xc_turns.proofs.LeftParts.{again_falls, begun_falls, called_less, late_less, on_falls, on_stays, passed_falls, tried_less, turned_less}
 use Rattle.xc_turns.proofs.LeftParts.{wanting_less, cut_less, backs_less, gone_less}
+use Rattle.xc_turns.proofs.LiveSteps.{asks_scripted}
 
 -- ---- one job of all
 one_falls : (f : JobView → ℕ) (jobs : List JobView) (at : ℕ) (was is : JobView) → slice_get jobs at ≡ Some was → f is < f was
@@ -150,62 +154,79 @@ below_waiting s job d n is patient less =
     let le = subst (λ e. n ≤ doing_turns s (failures job.attempts) job.place.at (bodies_at s job.place) e) (sym is) less in omega arith
 
 -- ---- an idle job
-idle_falls : (s : Setting) (at : ℕ) (old new : Moment) (job : JobView) (answer : Turn) → slice_get old.jobs at ≡ Some job → job.doing ≡ Idle
+idle_falls : (s : Setting) (own : IsScripted s.script) (at : ℕ) (old new : Moment) (job : JobView) (answer : Turn) → slice_get old.jobs at ≡ Some job
+    → job.doing ≡ Idle
     → IdleTurn (mover s at old job) answer new → turns_left s new < turns_left s old
-idle_falls s at old new job turn.Went stands is (ready, same) =
+idle_falls s own at old new job turn.Went stands is (ready, same) =
     falls_by s at old new job (beginning_job old job) stands (ap (λ (n : Moment). n.jobs) same)
     (below_doing s job Idle (job_turns s (beginning_job old job)) is
     (begun_falls s (failures job.attempts) job.place.at (bodies_at s job.place) (begun_count old + 1) (rank_of job.attempts (begun_count old + 1))
-    (length old.journal) job.me ready.attempts (some_there (transactions_at s.script job.place.block) job.place.next ready.left)))
-idle_falls s at old new job (turn.Ended end) stands is (ending, same) =
+    (length old.journal) job.me ready.attempts (some_there (transactions_at s.script job.place.block) job.place.next
+    (subst IsSome (scripted_body s.script (job_of job.place) own) ready.left))))
+idle_falls s own at old new job (turn.Ended end) stands is (ending, same) =
     let bodies = bodies_at s job.place in
     falls_by s at old new job (record job { doing = Ended end }) stands (ap (λ (n : Moment). n.jobs) same)
     (subst (λ n. (s.rules.patience - job.busy) + n < job_turns s job) (sym (ended_is s (failures job.attempts) job.place.at bodies end))
     (below_same s job Idle 0 is (idle_some s (failures job.attempts) job.place.at bodies)))
-idle_falls s at old new job (turn.Busy object number) stands is (waits, same) =
+idle_falls s own at old new job (turn.Busy object number) stands is (waits, same) =
     let now_left = doing_turns s (failures job.attempts) job.place.at (bodies_at s job.place) job.doing in
     falls_by s at old new job (asked_to_wait job) stands (ap (λ (n : Moment). n.jobs) same)
     (below_waiting s job job.doing now_left refl waits.patient (omega arith))
-idle_falls s at old new job turn.NoMemory stands is h = absurd h
+idle_falls s own at old new job turn.NoMemory stands is h = absurd h
 
 -- ---- a job with an active transaction that goes on
+moves_on : (s : Setting) (at : ℕ) (old new : Moment) (job : JobView) (place : Position) (handed : Option Ask) (tx next : TxView)
+    → slice_get old.jobs at ≡ Some job
+    → job.doing ≡ Active tx → new.jobs ≡ slice_set old.jobs at (record job { place = place; handed = handed; doing = Active next })
+    → IsSameBegin job.place place
+    → ((n : ℕ) → n ≡ length (first_body (bodies_at s job.place))
+    → phase_turns n place.at next next.phase < phase_turns n job.place.at tx tx.phase)
+    → turns_left s new < turns_left s old
+moves_on s at old new job place handed tx next stands is jobs begin falls =
+    let moved : doing_turns s (failures job.attempts) place.at (bodies_at s place) (Active next)
+    ≡ doing_turns s (failures job.attempts) place.at (bodies_at s job.place) (Active next) =
+    λ i. doing_turns s (failures job.attempts) place.at (drop (begin.next i) (transactions_at s.script (begin.block i))) (Active next) in
+    falls_by s at old new job (record job { place = place; handed = handed; doing = Active next }) stands jobs
+    (subst (λ n. (s.rules.patience - job.busy) + n < job_turns s job) (sym moved)
+    (below_same s job (Active tx) (doing_turns s (failures job.attempts) place.at (bodies_at s job.place) (Active next)) is
+    (on_falls s (failures job.attempts) job.place.at place.at (bodies_at s job.place) tx next falls)))
+
 goes_on : (s : Setting) (at : ℕ) (old new : Moment) (job : JobView) (place : Position) (tx next : TxView) → slice_get old.jobs at ≡ Some job
     → job.doing ≡ Active tx → new.jobs ≡ slice_set old.jobs at (with_tx job place next) → IsSameBegin job.place place
     → ((n : ℕ) → n ≡ length (first_body (bodies_at s job.place))
     → phase_turns n place.at next next.phase < phase_turns n job.place.at tx tx.phase)
     → turns_left s new < turns_left s old
-goes_on s at old new job place tx next stands is jobs begin falls =
-    let moved : doing_turns s (failures job.attempts) place.at (bodies_at s place) (Active next)
-    ≡ doing_turns s (failures job.attempts) place.at (bodies_at s job.place) (Active next) =
-    λ i. doing_turns s (failures job.attempts) place.at (drop (begin.next i) (transactions_at s.script (begin.block i))) (Active next) in
-    falls_by s at old new job (with_tx job place next) stands jobs
-    (subst (λ n. (s.rules.patience - job.busy) + n < job_turns s job) (sym moved)
-    (below_same s job (Active tx) (doing_turns s (failures job.attempts) place.at (bodies_at s job.place) (Active next)) is
-    (on_falls s (failures job.attempts) job.place.at place.at (bodies_at s job.place) tx next falls)))
+goes_on s at old new job place tx next stands is jobs begin falls = moves_on s at old new job place job.handed tx next stands is jobs begin falls
 
 -- ---- a call
 -- where nothing is left the commit is asked
-commits_past : (s : Setting) (place : Position) → drop place.at (unwrap_or (body_at s place) []) ≡ [] → asked_at s place ≡ ask.Commit
+commits_past : (s : Setting) (place : Position) → drop place.at (unwrap_or (body_at s place) []) ≡ [] → asks (walk_of s.script place) ≡ ask.Commit
 commits_past s place e = rw e
 
 -- a call is asked before the end
-asked_before : (s : Setting) (place : Position) (call : Call) → asked_at s place ≡ ask.Call call → place.at < length (first_body (bodies_at s place))
-asked_before s place call e =
+asked_before : (s : Setting) (own : IsScripted s.script) (job : JobView) (call : Call) → asked_at s job ≡ ask.Call call
+    → job.place.at < length (first_body (bodies_at s job.place))
+asked_before s own job call e =
+    let place = job.place in
+    let is : asks (walk_of s.script place) ≡ ask.Call call = sym (asks_scripted s job own) ∙ e in
     let body = unwrap_or (body_at s place) [] in
-    let there : length body ≡ length (first_body (bodies_at s place)) = ap length (first_there (transactions_at s.script place.block) place.next) in
+    let there : length body ≡ length (first_body (bodies_at s place)) =
+    ap (λ (o : Option (List Statement)). length (unwrap_or o [])) (scripted_body s.script (job_of place) own)
+    ∙ ap length (first_there (transactions_at s.script place.block) place.next) in
     let within : length body ≤ place.at → ⊥ = λ le. let past = commits_past s place (drop_all place.at body le) in cc in
     omega arith
 
-call_falls : (s : Setting) (at : ℕ) (old new : Moment) (job : JobView) (tx : TxView) (call : Call) → slice_get old.jobs at ≡ Some job
-    → job.doing ≡ Active tx → tx.phase ≡ Running → asked_at s job.place ≡ ask.Call call → Calls (mover s at old job) tx call new
+call_falls : (s : Setting) (own : IsScripted s.script) (at : ℕ) (old new : Moment) (job : JobView) (tx : TxView) (call : Call)
+    → slice_get old.jobs at ≡ Some job
+    → job.doing ≡ Active tx → tx.phase ≡ Running → asked_at s job ≡ ask.Call call → Calls (mover s at old job) tx call new
     → turns_left s new < turns_left s old
-call_falls s at old new job tx call stands is runs asked c =
+call_falls s own at old new job tx call stands is runs asked c =
     let noted : TxView = noting tx call c.reply (claims_at old tx call) c.parts in
     let records : length c.parts.undo.pending ≡ length tx.undo.pending + length c.made =
     ap (λ (u : Records). length u.pending) c.undo ∙ length-append tx.undo.pending c.made in
     let one = c.one in
-    goes_on s at old new job c.place tx noted stands is (ap (λ (n : Moment). n.jobs) c.behind) c.begin
-    (λ n e. called_less n job.place.at c.place.at tx noted runs refl c.nearer (omega (arith, asked_before s job.place call asked)) (omega arith)
+    moves_on s at old new job c.place None tx noted stands is (ap (λ (n : Moment). n.jobs) c.behind) c.begin
+    (λ n e. called_less n job.place.at c.place.at tx noted runs refl (c.nearer own) (omega (arith, asked_before s own job call asked)) (omega arith)
     (left_more tx.late (kept_call call tx.me c.reply) (length tx.ends) (kept_few (world_of old.contents) tx.me tx.number call c.reply c.in_time)))
 
 -- ---- a transaction that leaves its running
@@ -217,75 +238,83 @@ turn_falls s at old new job place tx next stands is runs jobs same other records
     goes_on s at old new job place tx next stands is jobs same.begin
     (λ n e. turned_less n job.place.at place.at tx next tx.phase next.phase same.at runs other records kept)
 
-called_falls : (s : Setting) (at : ℕ) (old new : Moment) (job : JobView) (tx : TxView) (c : Call) → slice_get old.jobs at ≡ Some job → job.doing ≡ Active tx
-    → tx.phase ≡ Running → asked_at s job.place ≡ ask.Call c → CalledTurn (mover s at old job) tx c new → turns_left s new < turns_left s old
-called_falls s at old new job tx call.Back stands is runs asked row =
+called_falls : (s : Setting) (own : IsScripted s.script) (at : ℕ) (old new : Moment) (job : JobView) (tx : TxView) (c : Call) → slice_get old.jobs at ≡ Some job
+    → job.doing ≡ Active tx
+    → tx.phase ≡ Running → asked_at s job ≡ ask.Call c → CalledTurn (mover s at old job) tx c new → turns_left s new < turns_left s old
+called_falls s own at old new job tx call.Back stands is runs asked row =
     turn_falls s at old new job row.place tx (record tx { phase = Backing }) stands is runs (ap (λ (n : Moment). n.jobs) row.behind) row.same
     (λ e. cc) refl refl
-called_falls s at old new job tx c stands is runs asked (inl row) = call_falls s at old new job tx c stands is runs asked row
-called_falls s at old new job tx c stands is runs asked (inr row) =
+called_falls s own at old new job tx c stands is runs asked (inl row) = call_falls s own at old new job tx c stands is runs asked row
+called_falls s own at old new job tx c stands is runs asked (inr row) =
     turn_falls s at old new job row.place tx (record tx { phase = Undoing (cause.Conflict row.object row.holder (length old.journal)) }) stands is runs
     (ap (λ (n : Moment). n.jobs) row.behind) row.same (λ e. cc) refl refl
 
 -- ---- one whose block goes back
-record_falls : (s : Setting) (at : ℕ) (old new : Moment) (job : JobView) (tx : TxView) (kept : SavedView) (b : Bool) → slice_get old.jobs at ≡ Some job
+record_falls : (s : Setting) (own : IsScripted s.script) (at : ℕ) (old new : Moment) (job : JobView) (tx : TxView) (kept : SavedView) (b : Bool)
+    → slice_get old.jobs at ≡ Some job
     → job.doing ≡ Active tx → tx.phase ≡ Backing → BackingRow (mover s at old job) tx kept b new → turns_left s new < turns_left s old
-record_falls s at old new job tx kept true stands is backs t =
+record_falls s own at old new job tx kept true stands is backs t =
     let next : TxView = record tx {
       phase = phase_after (length t.older + 1) t.end;
       undo = record { pending = t.older; ended = (t.tried, t.end) ∷ tx.undo.ended };
     } in
     goes_on s at old new job job.place tx next stands is (ap (λ (n : Moment). n.jobs) t.behind) (record { block = refl; next = refl; begun = refl })
     (λ n e. backs_less n job.place.at (length t.older + 1) tx next t.tried t.end tx.phase backs t.newest refl)
-record_falls s at old new job tx kept false stands is backs t =
+record_falls s own at old new job tx kept false stands is backs t =
     let ends = length tx.ends in
-    goes_on s at old new job t.place tx (backed tx kept) stands is (ap (λ (n : Moment). n.jobs) t.behind) t.begin
-    (λ n e. gone_less n job.place.at t.place.at tx (backed tx kept) tx.phase backs t.nearer (omega (arith, e, asked_before s job.place call.Back t.asked)) refl
+    moves_on s at old new job t.place None tx (backed tx kept) stands is (ap (λ (n : Moment). n.jobs) t.behind) t.begin
+    (λ n e. gone_less n job.place.at t.place.at tx (backed tx kept) tx.phase backs (t.nearer own)
+    (omega (arith, e, asked_before s own job call.Back t.asked)) refl
     (omega (arith, length-drop ends kept.late, length-drop ends tx.late, ap length t.cut, length-append kept.late t.more)))
 
-open_falls : (s : Setting) (at : ℕ) (old new : Moment) (job : JobView) (tx : TxView) (k : Option SavedView) → slice_get old.jobs at ≡ Some job
+open_falls : (s : Setting) (own : IsScripted s.script) (at : ℕ) (old new : Moment) (job : JobView) (tx : TxView) (k : Option SavedView)
+    → slice_get old.jobs at ≡ Some job
     → job.doing ≡ Active tx → tx.phase ≡ Backing → OpenRow (mover s at old job) tx k new → turns_left s new < turns_left s old
-open_falls s at old new job tx None stands is backs row = absurd row
-open_falls s at old new job tx (Some kept) stands is backs row =
-    record_falls s at old new job tx kept (nat_lt (length kept.trail) (length tx.undo.pending)) stands is backs row
+open_falls s own at old new job tx None stands is backs row = absurd row
+open_falls s own at old new job tx (Some kept) stands is backs row =
+    record_falls s own at old new job tx kept (nat_lt (length kept.trail) (length tx.undo.pending)) stands is backs row
 
-back_marked_falls : (s : Setting) (at : ℕ) (old new : Moment) (job : JobView) (tx : TxView) (m : Option Mark) (answer : Turn) → slice_get old.jobs at ≡ Some job
+back_marked_falls : (s : Setting) (own : IsScripted s.script) (at : ℕ) (old new : Moment) (job : JobView) (tx : TxView) (m : Option Mark) (answer : Turn)
+    → slice_get old.jobs at ≡ Some job
     → job.doing ≡ Active tx → tx.phase ≡ Backing → MarkedBack (mover s at old job) tx m answer new → turns_left s new < turns_left s old
-back_marked_falls s at old new job tx None turn.Went stands is backs row = open_falls s at old new job tx tx.saved stands is backs row
-back_marked_falls s at old new job tx None _ stands is backs row = absurd row
-back_marked_falls s at old new job tx (Some m) turn.Went stands is backs row =
+back_marked_falls s own at old new job tx None turn.Went stands is backs row = open_falls s own at old new job tx tx.saved stands is backs row
+back_marked_falls s own at old new job tx None _ stands is backs row = absurd row
+back_marked_falls s own at old new job tx (Some m) turn.Went stands is backs row =
     let next : TxView = record tx { phase = Undoing (revoked m) } in
     goes_on s at old new job job.place tx next stands is (ap (λ (n : Moment). n.jobs) row) (record { block = refl; next = refl; begun = refl })
     (λ n e. cut_less n job.place.at (revoked m) tx next tx.phase backs refl)
-back_marked_falls s at old new job tx (Some m) _ stands is backs row = absurd row
+back_marked_falls s own at old new job tx (Some m) _ stands is backs row = absurd row
 
-ask_falls : (s : Setting) (at : ℕ) (old new : Moment) (job : JobView) (tx : TxView) (a : Ask) → slice_get old.jobs at ≡ Some job → job.doing ≡ Active tx
-    → tx.phase ≡ Running → asked_at s job.place ≡ a → AskedTurn (mover s at old job) tx a new → turns_left s new < turns_left s old
-ask_falls s at old new job tx (ask.Call c) stands is runs asked row = called_falls s at old new job tx c stands is runs asked row
-ask_falls s at old new job tx ask.Commit stands is runs asked c =
+ask_falls : (s : Setting) (own : IsScripted s.script) (at : ℕ) (old new : Moment) (job : JobView) (tx : TxView) (a : Ask) → slice_get old.jobs at ≡ Some job
+    → job.doing ≡ Active tx
+    → tx.phase ≡ Running → asked_at s job ≡ a → AskedTurn (mover s at old job) tx a new → turns_left s new < turns_left s old
+ask_falls s own at old new job tx (ask.Call c) stands is runs asked row = called_falls s own at old new job tx c stands is runs asked row
+ask_falls s own at old new job tx ask.Commit stands is runs asked c =
     turn_falls s at old new job c.place tx (record tx { phase = Committing }) stands is runs (ap (λ (n : Moment). n.jobs) c.behind) c.same (λ e. cc) refl refl
-ask_falls s at old new job tx ask.Abort stands is runs asked c =
+ask_falls s own at old new job tx ask.Abort stands is runs asked c =
     turn_falls s at old new job c.place tx (record tx { phase = Undoing cause.Asked }) stands is runs (ap (λ (n : Moment). n.jobs) c.behind) c.same
     (λ e. cc) refl refl
-ask_falls s at old new job tx ask.End stands is runs asked c = absurd c
+ask_falls s own at old new job tx ask.End stands is runs asked c = absurd c
 
 -- what left a record is a call, whose statement is still to come
-left_before : (m : Mover) (tx : TxView) (a : Ask) (left : List Undo) (held : List Claim) → asked_at m.setting m.job.place ≡ a → length left ≤ 1
+left_before : (m : Mover) (own : IsScripted m.setting.script) (tx : TxView) (a : Ask) (left : List Undo) (held : List Claim) → asked_at m.setting m.job ≡ a
+    → length left ≤ 1
     → HoldsWanting m tx a left held → length left ≤ length (first_body (bodies_at m.setting m.job.place)) - m.job.place.at
-left_before m tx (ask.Call call) left held asked one holds = omega (arith, asked_before m.setting m.job.place call asked)
-left_before m tx ask.Commit left held asked one kept = let none = ap length kept.0 in omega arith
-left_before m tx ask.Abort left held asked one kept = let none = ap length kept.0 in omega arith
-left_before m tx ask.End left held asked one kept = let none = ap length kept.0 in omega arith
+left_before m own tx (ask.Call call) left held asked one holds = omega (arith, asked_before m.setting own m.job call asked)
+left_before m own tx ask.Commit left held asked one kept = let none = ap length kept.0 in omega arith
+left_before m own tx ask.Abort left held asked one kept = let none = ap length kept.0 in omega arith
+left_before m own tx ask.End left held asked one kept = let none = ap length kept.0 in omega arith
 
-running_falls : (s : Setting) (at : ℕ) (old new : Moment) (job : JobView) (tx : TxView) (answer : Turn) → slice_get old.jobs at ≡ Some job
+running_falls : (s : Setting) (own : IsScripted s.script) (at : ℕ) (old new : Moment) (job : JobView) (tx : TxView) (answer : Turn)
+    → slice_get old.jobs at ≡ Some job
     → job.doing ≡ Active tx → tx.phase ≡ Running → RunningTurn (mover s at old job) tx answer new → turns_left s new < turns_left s old
-running_falls s at old new job tx turn.Went stands is runs h = ask_falls s at old new job tx (asked_at s job.place) stands is runs refl h
-running_falls s at old new job tx turn.NoMemory stands is runs c =
+running_falls s own at old new job tx turn.Went stands is runs h = ask_falls s own at old new job tx (asked_at s job) stands is runs refl h
+running_falls s own at old new job tx turn.NoMemory stands is runs c =
     goes_on s at old new job c.place tx (wanting tx c.left c.held) stands is (ap (λ (n : Moment). n.jobs) c.behind) c.same.begin
     (λ n e. subst (λ m. m + 2 < phase_turns n job.place.at tx tx.phase) (sym (length-append tx.undo.pending c.left))
     (wanting_less n job.place.at (length c.left) tx tx.phase runs
-    (subst (λ m. length c.left ≤ m - job.place.at) (sym e) (left_before (mover s at old job) tx (asked_at s job.place) c.left c.held refl c.one c.holds))))
-running_falls s at old new job tx (turn.Busy object holder) stands is runs w =
+    (subst (λ m. length c.left ≤ m - job.place.at) (sym e) (left_before (mover s at old job) own tx (asked_at s job) c.left c.held refl c.one c.holds))))
+running_falls s own at old new job tx (turn.Busy object holder) stands is runs w =
     let moved : doing_turns s (failures job.attempts) w.place.at (bodies_at s w.place) (Active tx)
     ≡ doing_turns s (failures job.attempts) w.place.at (bodies_at s job.place) (Active tx) =
     λ i. doing_turns s (failures job.attempts) w.place.at (drop (w.same.begin.next i) (transactions_at s.script (w.same.begin.block i))) (Active tx) in
@@ -293,18 +322,19 @@ running_falls s at old new job tx (turn.Busy object holder) stands is runs w =
     (subst (λ n. (s.rules.patience - (job.busy + 1)) + n < job_turns s job) (sym moved)
     (below_waiting s job (Active tx) (doing_turns s (failures job.attempts) w.place.at (bodies_at s job.place) (Active tx)) is w.patient
     (on_stays s (failures job.attempts) job.place.at w.place.at (bodies_at s job.place) tx runs w.same.at)))
-running_falls s at old new job tx (turn.Ended end) stands is runs h = absurd h
+running_falls s own at old new job tx (turn.Ended end) stands is runs h = absurd h
 
 -- a marked one turns back
-marked_falls : (s : Setting) (at : ℕ) (old new : Moment) (job : JobView) (tx : TxView) (m : Option Mark) (answer : Turn) → slice_get old.jobs at ≡ Some job
+marked_falls : (s : Setting) (own : IsScripted s.script) (at : ℕ) (old new : Moment) (job : JobView) (tx : TxView) (m : Option Mark) (answer : Turn)
+    → slice_get old.jobs at ≡ Some job
     → job.doing ≡ Active tx → tx.phase ≡ Running → MarkedTurn (mover s at old job) tx m answer new → turns_left s new < turns_left s old
-marked_falls s at old new job tx None answer stands is runs h = running_falls s at old new job tx answer stands is runs h
-marked_falls s at old new job tx (Some m) turn.Went stands is runs same =
+marked_falls s own at old new job tx None answer stands is runs h = running_falls s own at old new job tx answer stands is runs h
+marked_falls s own at old new job tx (Some m) turn.Went stands is runs same =
     turn_falls s at old new job job.place tx (record tx { phase = Undoing (revoked m) }) stands is runs (ap (λ (n : Moment). n.jobs) same)
     (record { begin = record { block = refl; next = refl; begun = refl }; walk = refl; saved = refl; at = omega arith }) (λ e. cc) refl refl
-marked_falls s at old new job tx (Some m) turn.NoMemory stands is runs h = absurd h
-marked_falls s at old new job tx (Some m) (turn.Busy object holder) stands is runs h = absurd h
-marked_falls s at old new job tx (Some m) (turn.Ended end) stands is runs h = absurd h
+marked_falls s own at old new job tx (Some m) turn.NoMemory stands is runs h = absurd h
+marked_falls s own at old new job tx (Some m) (turn.Busy object holder) stands is runs h = absurd h
+marked_falls s own at old new job tx (Some m) (turn.Ended end) stands is runs h = absurd h
 
 -- ---- an entry
 enters : (s : Setting) (at : ℕ) (old new : Moment) (job next : JobView) (tx : TxView) (entry : Entry) (contents : Contents) (kept : List KeptItem)
@@ -372,14 +402,15 @@ undoing_falls s at old new job tx c (turn.Busy object holder) stands is undoes h
 undoing_falls s at old new job tx c (turn.Ended end) stands is undoes h = absurd h
 
 -- ---- all rows
-active_falls : (s : Setting) (at : ℕ) (old new : Moment) (job : JobView) (tx : TxView) (p : Phase) (answer : Turn) → slice_get old.jobs at ≡ Some job
+active_falls : (s : Setting) (own : IsScripted s.script) (at : ℕ) (old new : Moment) (job : JobView) (tx : TxView) (p : Phase) (answer : Turn)
+    → slice_get old.jobs at ≡ Some job
     → job.doing ≡ Active tx → tx.phase ≡ p → ActiveTurn (mover s at old job) tx p answer new → turns_left s new < turns_left s old
-active_falls s at old new job tx Running answer stands is phase h =
-    marked_falls s at old new job tx (old.marks tx.number) answer stands is phase h
-active_falls s at old new job tx Committing answer stands is phase h = commit_falls s at old new job tx answer stands is phase h
-active_falls s at old new job tx Backing answer stands is phase h =
-    back_marked_falls s at old new job tx (old.marks tx.number) answer stands is phase h
-active_falls s at old new job tx (Undoing c) answer stands is phase h = undoing_falls s at old new job tx c answer stands is phase h
+active_falls s own at old new job tx Running answer stands is phase h =
+    marked_falls s own at old new job tx (old.marks tx.number) answer stands is phase h
+active_falls s own at old new job tx Committing answer stands is phase h = commit_falls s at old new job tx answer stands is phase h
+active_falls s own at old new job tx Backing answer stands is phase h =
+    back_marked_falls s own at old new job tx (old.marks tx.number) answer stands is phase h
+active_falls s own at old new job tx (Undoing c) answer stands is phase h = undoing_falls s at old new job tx c answer stands is phase h
 
 starved_falls : (s : Setting) (at : ℕ) (old new : Moment) (job : JobView) (answer : Turn) → slice_get old.jobs at ≡ Some job → job.doing ≡ Starved
     → StarvedTurn (mover s at old job) answer new → turns_left s new < turns_left s old
@@ -396,13 +427,15 @@ starved_falls s at old new job turn.Went stands is h = absurd h
 starved_falls s at old new job turn.NoMemory stands is h = absurd h
 starved_falls s at old new job (turn.Busy object holder) stands is h = absurd h
 
-doing_falls : (s : Setting) (at : ℕ) (old new : Moment) (job : JobView) (d : Doing) (answer : Turn) → slice_get old.jobs at ≡ Some job → job.doing ≡ d
+doing_falls : (s : Setting) (own : IsScripted s.script) (at : ℕ) (old new : Moment) (job : JobView) (d : Doing) (answer : Turn)
+    → slice_get old.jobs at ≡ Some job → job.doing ≡ d
     → TurnOf (mover s at old job) d answer new → turns_left s new < turns_left s old
-doing_falls s at old new job Idle answer stands is h = idle_falls s at old new job answer stands is h
-doing_falls s at old new job (Active tx) answer stands is h = active_falls s at old new job tx tx.phase answer stands is refl h
-doing_falls s at old new job Starved answer stands is h = starved_falls s at old new job answer stands is h
-doing_falls s at old new job (Ended end) answer stands is h = absurd h
+doing_falls s own at old new job Idle answer stands is h = idle_falls s own at old new job answer stands is h
+doing_falls s own at old new job (Active tx) answer stands is h = active_falls s own at old new job tx tx.phase answer stands is refl h
+doing_falls s own at old new job Starved answer stands is h = starved_falls s at old new job answer stands is h
+doing_falls s own at old new job (Ended end) answer stands is h = absurd h
 
 -- each turn leaves fewer
-pub leaves_fewer : (s : Setting) (at : ℕ) (old new : Moment) (answer : Turn) → IsTurn s at old answer new → turns_left s new < turns_left s old
-leaves_fewer s at old new answer h = doing_falls s at old new h.job h.job.doing answer h.there refl h.row
+pub leaves_fewer : (s : Setting) (at : ℕ) (old new : Moment) (answer : Turn) → IsScripted s.script → IsTurn s at old answer new
+    → turns_left s new < turns_left s old
+leaves_fewer s at old new answer own h = doing_falls s own at old new h.job h.job.doing answer h.there refl h.row

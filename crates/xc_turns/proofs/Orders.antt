@@ -39,7 +39,7 @@ use Rattle.std.specs.Prelude.{Bool, true, nat_lt}
 use Rattle.xc_model.specs.CommittingRows.{CommittingTurn}
 use Rattle.xc_model.specs.UndoingRows.{UndoingTurn, BackTurn}
 use Rattle.xc_model.specs.CommittingRows.{LateTurn}
-use Rattle.xc_model.specs.Movers.{IsActiveAt, asked_at, with_tx}
+use Rattle.xc_model.specs.Movers.{IsActiveAt, answered_with, asked_at, with_tx}
 use Rattle.xc_model.specs.Entering.{entry_of, behind_commit}
 use Rattle.xc_model.specs.PlainSteps.{noting, wanting, claims_at}
 use Rattle.xc_model.specs.IdleRows.{new_tx, beginning_job}
@@ -107,7 +107,7 @@ call_row s at old new job tx call.Back stands is c alone =
 call_row s at old new job tx asked stands is (inl c) alone =
     let next = active_is_next at old job tx stands is alone in
     let noted : TxView = noting tx asked c.reply (claims_at old tx asked) c.parts in
-    alone_goes_on at old new job (with_tx job c.place noted) noted stands (ap (λ (n : Moment). n.jobs) c.behind) (ap (λ (n : Moment). n.journal) c.behind)
+    alone_goes_on at old new job (answered_with job c.place noted) noted stands (ap (λ (n : Moment). n.jobs) c.behind) (ap (λ (n : Moment). n.journal) c.behind)
     (none_marked old new (ap (λ (n : Moment). n.marks) c.behind) alone.unmarked) refl next alone
 call_row s at old new job tx asked stands is (inr c) alone =
     let r = c.met.rival in absurd (r.other (alone.others r.place r.rival r.active))
@@ -129,7 +129,7 @@ one_back_row s at old new job tx kept true stands is t alone =
     (none_marked old new (ap (λ (n : Moment). n.marks) t.behind) alone.unmarked) refl (next.0, next.1, meets_nobody (length t.older + 1) t.end, next.3) alone
 one_back_row s at old new job tx kept false stands is t alone =
     let next = active_is_next at old job tx stands is alone in
-    alone_goes_on at old new job (with_tx job t.place (backed tx kept)) (backed tx kept) stands (ap (λ (n : Moment). n.jobs) t.behind)
+    alone_goes_on at old new job (answered_with job t.place (backed tx kept)) (backed tx kept) stands (ap (λ (n : Moment). n.jobs) t.behind)
     (ap (λ (n : Moment). n.journal) t.behind)
     (none_marked old new (ap (λ (n : Moment). n.marks) t.behind) alone.unmarked) refl (next.0, next.1, tt, next.3) alone
 
@@ -165,7 +165,7 @@ ask_row s at old new job tx ask.End stands is h alone = absurd h
 
 running_row : (s : Setting) (at : ℕ) (old new : Moment) (job : JobView) (tx : TxView) (answer : Turn) → slice_get old.jobs at ≡ Some job
     → job.doing ≡ Active tx → RunningTurn (mover s at old job) tx answer new → AreAlone old at → AreAlone new at
-running_row s at old new job tx turn.Went stands is h alone = ask_row s at old new job tx (asked_at s job.place) stands is h alone
+running_row s at old new job tx turn.Went stands is h alone = ask_row s at old new job tx (asked_at s job) stands is h alone
 running_row s at old new job tx turn.NoMemory stands is c alone =
     let next = active_is_next at old job tx stands is alone in
     let tx' : TxView = wanting tx c.left c.held in

@@ -1,6 +1,6 @@
 -- Where no job may wait, a turn revokes nothing.
-use Rattle.std.proofs.Common.{◌≡◌, ◌≢◌, ◌<◌, ℕ, Bool, true, false, List, [], ◌∷◌, ◌++◌, refl, ap, sym, ◌∙◌, subst, arith}
-use Rattle.std.specs.Prelude.{All, Option, nat_eq, slice_get, slice_set, if◌then◌else◌}
+use Rattle.std.proofs.Common.{◌≡◌, ◌≢◌, ◌<◌, ℕ, Bool, true, false, List, [], ◌∷◌, refl, ap, sym, ◌∙◌, subst, arith}
+use Rattle.std.specs.Prelude.{Option, nat_eq, slice_get, slice_set, if◌then◌else◌}
 use Rattle.std.specs.declared.option.Option.TheVariants.{None, Some}
 use Rattle.std.proofs.lemmas.List.Elements.{All-nil, All-cons, All-append}
 use mathlib.Core.Logic.{dite}
@@ -11,11 +11,11 @@ use Rattle.xc_data.specs.declared.entry.Entry.{Entry}
 use Rattle.xc_data.specs.declared.entry.Mark.{Mark}
 use Rattle.xc_data.specs.declared.entry.Turn.{Turn}
 use Rattle.xc_model.specs.declared.phase.Phase.{Phase}
-use Rattle.xc_model.specs.declared.phase.Phase.TheVariants.{Running, Committing, Undoing, Backing}
+use Rattle.xc_model.specs.declared.phase.Phase.TheVariants.{Undoing}
 use Rattle.xc_model.specs.EntryEnds.{AreUnrevoked, IsUnrevoked, cause_in}
 use Rattle.xc_model.specs.Entering.{entry_of}
 use Rattle.xc_model.specs.Moment.{TxView, JobView, Moment, active_of, unmarked}
-use Rattle.xc_model.specs.Movers.{IsActiveAt, Mover, mover}
+use Rattle.xc_model.specs.Movers.{IsActiveAt, mover}
 use Rattle.xc_model.specs.Patience.{NoneIsRevoked}
 use Rattle.xc_model.specs.Rows.{IsTurn}
 use Rattle.xc_model.specs.Setting.{Setting}

@@ -37,7 +37,7 @@ use Rattle.xc_model.specs.Stories.{StoriesHold, IsInPhase, IsRunning}
 use Rattle.xc_model.specs.Holding.{AreApart}
 use Rattle.xc_model.specs.Moment.{TxView, JobView, Doing, Idle, Active, Starved, Ended, Moment, active_in, active_of, actives, late_left, asked_to_wait}
 use Rattle.xc_model.specs.Started.{AreStarted, HasStartEnds, blocks, is_start, keeps_start, started_by, start_count}
-use Rattle.xc_model.specs.Movers.{IsActiveAt, with_tx}
+use Rattle.xc_model.specs.Movers.{IsActiveAt, answered_with, with_tx}
 use Rattle.xc_model.specs.RunningRows.{Calls, CalledTurn, HoldsWanting}
 use Rattle.xc_model.specs.BackingRows.{BackingRow, OpenRow, MarkedBack, backed}
 use Rattle.xc_model.specs.Moment.{SavedView}
@@ -231,7 +231,7 @@ module _ (s : Setting) (at : ℕ) (old : Moment) (job : JobView) (new : Moment) 
     runs_none : tx.phase ≡ Running → tx.ends ≡ []
     runs_none runs =
         let phase = story_in_phase s at old job tx stands is told in
-        let running : IsRunning s phase.0 job.place tx = subst (IsInPhase s phase.0 job.place tx) runs phase.1 in
+        let running : IsRunning tx = subst (IsInPhase s job.place (asked_at s job) tx) runs phase.1 in
         running.no_ends
 
     -- without ends it has started none
@@ -242,7 +242,7 @@ module _ (s : Setting) (at : ℕ) (old : Moment) (job : JobView) (new : Moment) 
     call_started call runs row =
         let tx' = noting tx call row.reply (claims_at old tx call) row.parts in
         let none = runs_none runs in
-        still_started (with_tx job row.place tx') (ap (λ (n : Moment). n.jobs) row.behind) (ap (λ (n : Moment). n.started) row.behind) refl
+        still_started (answered_with job row.place tx') (ap (λ (n : Moment). n.jobs) row.behind) (ap (λ (n : Moment). n.started) row.behind) refl
         (no_ends tx' none ∙ sym (no_ends tx none) ∙ mine)
         (λ t has. one_holds tx' t has
         (record { holds = noted_holds tx call row.reply (length old.words) holds_here; right = without_ends tx' none }))
@@ -276,7 +276,7 @@ module _ (s : Setting) (at : ℕ) (old : Moment) (job : JobView) (new : Moment) 
     by_running : tx.phase ≡ Running → (answer : Turn) → RunningTurn (mover s at old job) tx answer new → AreStarted s.script new
     by_running runs turn.Went row = by_ask runs _ row
     by_running runs turn.NoMemory row =
-        goes row.place _ refl refl (wanting_owns (asked_at s job.place) row.left row.held row.holds) (ap (λ (n : Moment). n.jobs) row.behind)
+        goes row.place _ refl refl (wanting_owns (asked_at s job) row.left row.held row.holds) (ap (λ (n : Moment). n.jobs) row.behind)
         (ap (λ (n : Moment). n.started) row.behind)
     by_running runs (turn.Busy object holder) row =
         still_started (asked_to_wait (with_tx job row.place tx)) (ap (λ (n : Moment). n.jobs) row.behind) (ap (λ (n : Moment). n.started) row.behind) refl mine
@@ -413,7 +413,7 @@ module _ (s : Setting) (at : ℕ) (old : Moment) (job : JobView) (new : Moment) 
     backs_none : tx.phase ≡ Backing → tx.ends ≡ []
     backs_none backs =
         let phase = story_in_phase s at old job tx stands is told in
-        let backing : IsBacking s phase.0 job.place tx = subst (IsInPhase s phase.0 job.place tx) backs phase.1 in
+        let backing : IsBacking s job.place (asked_at s job) tx = subst (IsInPhase s job.place (asked_at s job) tx) backs phase.1 in
         backing.no_ends
 
     by_one : tx.phase ≡ Backing → (kept : SavedView) (b : Bool) → BackingRow (mover s at old job) tx kept b new → AreStarted s.script new
@@ -422,7 +422,7 @@ module _ (s : Setting) (at : ℕ) (old : Moment) (job : JobView) (new : Moment) 
     by_one backs kept false row =
         let tx' = backed tx kept in
         let none = backs_none backs in
-        still_started (with_tx job row.place tx') (ap (λ (n : Moment). n.jobs) row.behind) (ap (λ (n : Moment). n.started) row.behind) refl
+        still_started (answered_with job row.place tx') (ap (λ (n : Moment). n.jobs) row.behind) (ap (λ (n : Moment). n.started) row.behind) refl
         (no_ends tx' none ∙ sym (no_ends tx none) ∙ mine)
         (λ t has. one_holds tx' t has (record {
           holds = λ keeps. holds_here (ap (list_any is_start) row.cut ∙ list_any-append is_start kept.late row.more

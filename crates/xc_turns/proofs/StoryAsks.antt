@@ -1,5 +1,5 @@
 -- A script's asks, and calls that reply in time, with one reply more.
-use Rattle.std.proofs.Common.{◌≡◌, List, [], ◌∷◌, ◌++◌, length, refl, ap, sym, suc}
+use Rattle.std.proofs.Common.{◌≡◌, List, [], ◌∷◌, ◌++◌, refl}
 use Rattle.xc_data.specs.declared.call.Call.{Call}
 use Rattle.xc_data.specs.declared.call.Reply.{Reply}
 use Rattle.xc_script.specs.declared.ask.Ask.TheVariants as ask
@@ -20,12 +20,6 @@ asks-more walk [] [] c r h e = (e, refl)
 asks-more walk [] (q ∷ replies) c r h e = cc
 asks-more walk (d ∷ calls) [] c r h e = absurd h
 asks-more walk (d ∷ calls) (q ∷ replies) c r h e = (h.0, asks-more (replied walk q) calls replies c r h.1 e)
-
--- each call has its reply
-pub asks-count : (walk : BlockWalk) (calls : List Call) (replies : List Reply) → AsksEach walk calls replies → length calls ≡ length replies
-asks-count walk [] replies h = ap length (sym h)
-asks-count walk (d ∷ calls) [] h = absurd h
-asks-count walk (d ∷ calls) (q ∷ replies) h = ap suc (asks-count (replied walk q) calls replies h.1)
 
 -- one call more replies in time too
 pub in_time-more : (calls : List Call) (replies : List Reply) (c : Call) (r : Reply) → RepliesInTime c r → AreInTime calls replies

@@ -13,12 +13,13 @@ use Rattle.xc_script.specs.Ask.{Job}
 use Rattle.xc_script.specs.Values.{Variables}
 use Rattle.xc_script.specs.Position.{at_begin}
 use Rattle.xc_script.specs.Slots.{with_ends}
-use Rattle.xc_script.specs.Blocks.{BlockWalk, kept_calls}
+use Rattle.xc_script.specs.Blocks.{kept_calls}
 use Rattle.xc_model.specs.declared.phase.Attempts.{Attempts}
 use Rattle.xc_model.specs.declared.phase.Phase.TheVariants.{Committing}
 use Rattle.xc_model.specs.Setting.{Setting}
 use Rattle.xc_model.specs.Progress.{Following, Progress, after_entry, following_abort, progress_of, started_from, started_following as progress_started}
 use Rattle.xc_model.specs.Joint.{IsTrueEntry}
+use Rattle.xc_model.specs.Movers.{asked_at}
 use Rattle.xc_model.specs.Moment.{TxView, JobView, Active, Idle, active_of}
 use Rattle.xc_model.specs.Entering.{attempts_with, behind_abort, behind_commit, entry_of, started_job}
 use Rattle.xc_model.specs.Stories.{AreAttempts, IsCommitting, IsDoing, IsInPhase, StoryHolds, IsUnderway, active_begin, begins_of, entry_begin}
@@ -28,6 +29,7 @@ use Rattle.xc_turns.proofs.Progressing.{progress-more, true-more}
 use Rattle.xc_turns.proofs.StoryBegins.{begins_count, begins_entered, begins_moved}
 use Rattle.xc_turns.proofs.StoryJobs.{JobStoriesHold, StoriesHoldBut, begun_in, told_append, told_in_place}
 use Rattle.xc_turns.proofs.StoryRows.{attempts_count}
+use Rattle.xc_turns.proofs.LiveSteps.{variables_behind}
 use Rattle.xc_turns.proofs.StoryEntries.{aborted_by, gone_on}
 
 -- ---- an entry after the journal
@@ -80,13 +82,13 @@ same_job a b block next variables = λ i. record { block = block i; next = next 
 pub committed_told : (s : Setting) (begun entered led : ℕ) (f : Following) (job : JobView) (tx : TxView) → job.doing ≡ Active tx → tx.phase ≡ Committing
     → led ≡ entered → StoryHolds s begun entered f job → StoryHolds s begun (entered + 1) (gone_on s.script led f tx) (behind_commit job tx)
 committed_told s begun entered led f job tx active commits count told =
-    let under : IsUnderway s f job.place tx = subst (IsDoing s begun f job) active told.doing in
-    let committing : IsCommitting s f job.place tx = subst (IsInPhase s f job.place tx) commits under.phase in
+    let under : IsUnderway s f job.place (asked_at s job) tx = subst (IsDoing s begun f job) active told.doing in
+    let committing : IsCommitting s job.place (asked_at s job) tx = subst (IsInPhase s job.place (asked_at s job) tx) commits under.phase in
     let g = gone_on s.script led f tx in
     let ended : Variables → Variables = λ v. with_ends v (kept_calls tx.calls tx.replies) tx.ends in
     let passed_job : Job = record { block = job.place.block; next = job.place.next + 1; variables = ended job.place.variables } in
     let same : passed_job ≡ g.job = same_job passed_job g.job under.standing.block (ap (λ n. n + 1) under.standing.next)
-    (ap ended (committing.settled.variables ∙ ap (λ (b : BlockWalk). b.walk.variables) committing.ahead)) in
+    (ap ended (committing.settled.variables ∙ variables_behind s f job.place tx under.ahead under.client)) in
     record {
       block = told.block;
       fresh = refl;
@@ -127,7 +129,7 @@ attempts_same f g (Some a) first failed are = (first ∙ are.0, ap length failed
 
 -- after an abort that the script asked
 asked_told : (s : Setting) (begun entered led : ℕ) (f : Following) (job : JobView) (tx : TxView) (e : Entry) → led ≡ entered
-    → IsUnderway s f job.place tx → StoryHolds s begun entered f job
+    → IsUnderway s f job.place (asked_at s job) tx → StoryHolds s begun entered f job
     → StoryHolds s begun (entered + 1) (following_abort led f e cause.Asked) (behind_abort job tx cause.Asked)
 asked_told s begun entered led f job tx e count under told =
     let passed_job : Job = record { block = job.place.block; next = job.place.next + 1; variables = job.place.begun } in
@@ -145,7 +147,7 @@ asked_told s begun entered led f job tx e count under told =
 
 -- after one for lack of memory
 wanted_told : (s : Setting) (begun entered led : ℕ) (f : Following) (job : JobView) (tx : TxView) (e : Entry) → led ≡ entered
-    → IsUnderway s f job.place tx → StoryHolds s begun entered f job
+    → IsUnderway s f job.place (asked_at s job) tx → StoryHolds s begun entered f job
     → StoryHolds s begun (entered + 1) (following_abort led f e cause.NoMemory) (behind_abort job tx cause.NoMemory)
 wanted_told s begun entered led f job tx e count under told =
     let g = following_abort led f e cause.NoMemory in
@@ -167,13 +169,14 @@ abbrev behind_attempt : JobView → TxView → Cause → JobView
 behind_attempt job tx c =
     record job {
       place = at_begin (record { block = job.place.block; next = job.place.next; variables = job.place.begun });
+      handed = None;
       attempts = Some (attempts_with job.attempts tx c);
       busy = 0;
       doing = Idle;
     }
 
 tried_told : (s : Setting) (begun entered led : ℕ) (f : Following) (job : JobView) (tx : TxView) (c : Cause) → led ≡ entered
-    → IsUnderway s f job.place tx → StoryHolds s begun entered f job
+    → IsUnderway s f job.place (asked_at s job) tx → StoryHolds s begun entered f job
     → StoryHolds s begun (entered + 1) (tried_again led f tx.number c) (behind_attempt job tx c)
 tried_told s begun entered led f job tx c count under told =
     let stood : Job = record { block = job.place.block; next = job.place.next; variables = job.place.begun } in
@@ -190,7 +193,7 @@ tried_told s begun entered led f job tx c count under told =
     }
 
 aborted_under : (s : Setting) (begun entered led at : ℕ) (f : Following) (job : JobView) (tx : TxView) (c : Cause) → led ≡ entered
-    → IsUnderway s f job.place tx → StoryHolds s begun entered f job
+    → IsUnderway s f job.place (asked_at s job) tx → StoryHolds s begun entered f job
     → StoryHolds s begun (entered + 1) (following_abort led f (entry_of tx at (aborted_by c tx)) c) (behind_abort job tx c)
 aborted_under s begun entered led at f job tx (cause.Stuck failed) count under told =
     asked_told s begun entered led f job tx (entry_of tx at (aborted_by (cause.Stuck failed) tx)) count under told

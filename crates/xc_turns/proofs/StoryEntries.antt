@@ -13,12 +13,13 @@ use Rattle.xc_data.specs.declared.undo.Undo.{Undo}
 use Rattle.xc_text.specs.declared.script.Script.{Script}
 use Rattle.xc_script.specs.declared.ask.Ask.{Ask}
 use Rattle.xc_script.specs.Asking.{asks}
-use Rattle.xc_script.specs.Position.{Position}
+use Rattle.xc_script.specs.Position.{Position, walk_of}
 use Rattle.xc_script.specs.Blocks.{BlockWalk, kept_calls}
 use Rattle.xc_world.specs.Ends.{AreLegal, Ending}
 use Rattle.xc_world.specs.Run.{BodyResult, late_asked_of, lates, lates_fit}
 use Rattle.xc_model.specs.declared.phase.Phase.{Phase}
 use Rattle.xc_model.specs.declared.phase.Phase.TheVariants.{Committing, Undoing}
+use Rattle.xc_model.specs.Live.{IsScripted}
 use Rattle.xc_model.specs.Setting.{Setting}
 use Rattle.xc_model.specs.WordCalls.{AreWordReplies}
 use Rattle.xc_model.specs.Progress.{Following, Progress, after_entry, after_following, following_abort, following_of}
@@ -30,7 +31,6 @@ use Rattle.xc_model.specs.Moment.{TxView, late_left}
 use Rattle.xc_model.specs.LateCalls.{started_late}
 use Rattle.xc_data.specs.Calls.{thread_asked, thread_in}
 use Rattle.xc_model.specs.Entering.{entry_of}
-use Rattle.xc_model.specs.Movers.{asked_at}
 use Rattle.xc_model.specs.Stories.{HasRecordsIn, IsCommitting, IsInPhase, IsUndoing, IsUnderway}
 use Rattle.xc_model.specs.Played.{HoldsFor, IsPlayedSoFar, RecordsFor, ran_behind}
 use Rattle.xc_model.specs.Started.{HasStartEnds}
@@ -65,12 +65,13 @@ commit_played next words p at tx commits all so =
     }
 
 -- the entry of a commit is true after a true journal
-pub commit_true : (s : Setting) (words : ℕ) (p : Progress) (f : Following) (at : ℕ) (place : Position) (tx : TxView) → slice_get p.jobs at ≡ Some f
-    → tx.phase ≡ Committing → late_left tx ≡ [] → IsUnderway s f place tx → tx.began ≤ p.entered → AreWordReplies p.words tx.calls tx.replies
-    → HasStartEnds s.script (map (λ (g : Following). g.block) p.jobs) tx → (IsTrue s.tells → IsPlayedSoFar (asked_at s place) words p at tx)
-    → IsTrueEntry s p (asked_at s place) (entry_of tx at (Committed tx.ends))
-commit_true s words p f at place tx got commits none under began said starts played =
-    let committing : IsCommitting s f place tx = subst (IsInPhase s f place tx) commits under.phase in
+pub commit_true : (s : Setting) (words : ℕ) (p : Progress) (f : Following) (at : ℕ) (place : Position) (last : Ask) (tx : TxView)
+    → (IsScripted s.script → last ≡ asks (walk_of s.script place)) → slice_get p.jobs at ≡ Some f
+    → tx.phase ≡ Committing → late_left tx ≡ [] → IsUnderway s f place last tx → tx.began ≤ p.entered → AreWordReplies p.words tx.calls tx.replies
+    → HasStartEnds s.script (map (λ (g : Following). g.block) p.jobs) tx → (IsTrue s.tells → IsPlayedSoFar last words p at tx)
+    → IsTrueEntry s p last (entry_of tx at (Committed tx.ends))
+commit_true s words p f at place last tx own_ask got commits none under began said starts played =
+    let committing : IsCommitting s place last tx = subst (IsInPhase s place last tx) commits under.phase in
     let all : length tx.ends ≡ length tx.late = left_none tx.late tx.ends committing.few_ends none in
     record {
       following = f;
@@ -84,15 +85,17 @@ commit_true s words p f at place tx got commits none under began said starts pla
           began = began;
           rank = under.rank;
           failures = let lt = under.attempts in omega arith;
-          calls = under.asked;
-          after = ap (λ (b : BlockWalk). asks b.walk) committing.ahead;
+          scripted = λ own. record {
+            calls = under.asked own;
+            after = own_ask own ∙ ap (λ (b : BlockWalk). asks b.walk) (under.ahead own);
+          };
           asked = (committing.asked, all ∙ late_as_many tx.late (kept_calls tx.calls tx.replies) under.kept.0);
           faults = under.faults;
         };
         words = said;
         in_time = under.in_time;
         starts = subst (λ calls. AreStarts s.script (map (λ (g : Following). g.block) p.jobs) calls tx.ends) under.kept.0 starts;
-        played = λ t. commit_played (asked_at s place) words p at tx commits all (played t);
+        played = λ t. commit_played last words p at tx commits all (played t);
       };
     }
 
@@ -158,10 +161,10 @@ few_tried true n m lt = omega arith
 few_tried false n m lt = omega arith
 
 -- its report has the records of its calls, with their ends
-report_so : (s : Setting) (f : Following) (place : Position) (tx : TxView) (c : Cause) → tx.phase ≡ Undoing c → tx.undo.pending ≡ []
-    → IsUnderway s f place tx → IsUndoing s f place tx c
+report_so : (s : Setting) (f : Following) (place : Position) (last : Ask) (tx : TxView) (c : Cause) → tx.phase ≡ Undoing c → tx.undo.pending ≡ []
+    → IsUnderway s f place last tx → IsUndoing s last tx c
     → IsReport s.rules.undo_tries (all_records no_records tx.calls tx.replies) (record { cause = c; records = tx.undo.ended })
-report_so s f place tx c undoes none under undoing =
+report_so s f place last tx c undoes none under undoing =
     let k = all_records no_records tx.calls tx.replies in
     let ended : List Undo = map (λ (r : Ending). r.0) tx.undo.ended in
     let count = subst (λ (ph : Phase). HasRecordsIn k ph (tx.undo.pending ++ ended)) undoes under.counted.now in
@@ -171,9 +174,9 @@ report_so s f place tx c undoes none under undoing =
     }
 
 -- and its cause is what it was asked, or a way back that got stuck
-caused_so : (s : Setting) (f : Following) (place : Position) (tx : TxView) (c : Cause) → tx.undo.pending ≡ [] → IsUndoing s f place tx c
-    → HasAbortCause (all_records no_records tx.calls tx.replies) (asked_at s place) (record { cause = c; records = tx.undo.ended })
-caused_so s f place tx c none undoing =
+caused_so : (s : Setting) (f : Following) (place : Position) (last : Ask) (tx : TxView) (c : Cause) → tx.undo.pending ≡ [] → IsUndoing s last tx c
+    → HasAbortCause (all_records no_records tx.calls tx.replies) last (record { cause = c; records = tx.undo.ended })
+caused_so s f place last tx c none undoing =
     let k = all_records no_records tx.calls tx.replies in
     record {
       asked = undoing.caused;
@@ -181,11 +184,12 @@ caused_so s f place tx c none undoing =
     }
 
 -- the entry of an abort is true after a true journal
-pub abort_true : (s : Setting) (words : ℕ) (p : Progress) (f : Following) (at : ℕ) (place : Position) (tx : TxView) (c : Cause) → slice_get p.jobs at ≡ Some f
-    → tx.phase ≡ Undoing c → tx.undo.pending ≡ [] → IsUnderway s f place tx → tx.began ≤ p.entered → AreWordReplies p.words tx.calls tx.replies
-    → (IsTrue s.tells → IsPlayedSoFar (asked_at s place) words p at tx) → IsTrueEntry s p (asked_at s place) (entry_of tx at (aborted_by c tx))
-abort_true s words p f at place tx c got undoes none under began said played =
-    let undoing : IsUndoing s f place tx c = subst (IsInPhase s f place tx) undoes under.phase in
+pub abort_true : (s : Setting) (words : ℕ) (p : Progress) (f : Following) (at : ℕ) (place : Position) (last : Ask) (tx : TxView) (c : Cause)
+    → (IsScripted s.script → last ≡ asks (walk_of s.script place)) → slice_get p.jobs at ≡ Some f
+    → tx.phase ≡ Undoing c → tx.undo.pending ≡ [] → IsUnderway s f place last tx → tx.began ≤ p.entered → AreWordReplies p.words tx.calls tx.replies
+    → (IsTrue s.tells → IsPlayedSoFar last words p at tx) → IsTrueEntry s p last (entry_of tx at (aborted_by c tx))
+abort_true s words p f at place last tx c own_ask got undoes none under began said played =
+    let undoing : IsUndoing s last tx c = subst (IsInPhase s place last tx) undoes under.phase in
     record {
       following = f;
       numbered = omega arith;
@@ -198,15 +202,17 @@ abort_true s words p f at place tx c got undoes none under began said played =
           began = began;
           rank = under.rank;
           failures = few_tried (is_tried_again c) (length f.failed) s.rules.attempts under.attempts;
-          calls = under.asked;
-          after = ap (λ (b : BlockWalk). asks b.walk) undoing.ahead;
-          asked = (caused_so s f place tx c none undoing, report_so s f place tx c undoes none under undoing);
+          scripted = λ own. record {
+            calls = under.asked own;
+            after = own_ask own ∙ ap (λ (b : BlockWalk). asks b.walk) (under.ahead own);
+          };
+          asked = (caused_so s f place last tx c none undoing, report_so s f place last tx c undoes none under undoing);
           faults = under.faults;
         };
         words = said;
         in_time = under.in_time;
         starts = tt;
-        played = λ t. abort_played (asked_at s place) words p at tx c undoes none (played t);
+        played = λ t. abort_played last words p at tx c undoes none (played t);
       };
     }
 

@@ -17,6 +17,7 @@ use Rattle.xc_data.specs.declared.private.Private.{Private}
 use Rattle.xc_data.specs.declared.undo.Undo.{Undo}
 use Rattle.xc_data.specs.declared.undo.UndoEnd.{UndoEnd}
 use Rattle.xc_compensate.specs.Records.{Records, way_of}
+use Rattle.xc_script.specs.declared.ask.Ask.{Ask}
 use Rattle.xc_script.specs.declared.ask.Ask.TheVariants as ask
 use Rattle.xc_script.specs.Answers.{answered}
 use Rattle.xc_script.specs.Blocks.{BlockWalk, replied, all_replied, after_ask, block_after_call, block_from, none_kept, all_kept}
@@ -43,20 +44,25 @@ use Rattle.xc_data.specs.declared.entry.Mark.{Mark}
 use Rattle.xc_model.specs.declared.phase.Attempts.{Attempts}
 use Rattle.xc_model.specs.declared.phase.Phase.{Phase}
 use Rattle.xc_model.specs.declared.phase.Phase.TheVariants.{Running, Committing, Undoing, Backing}
+use Rattle.xc_script.specs.Values.{Variables}
+use Rattle.xc_script.specs.Walks.{Walk}
+use Rattle.xc_model.specs.Live.{IsScripted, asked_by, has_clients}
 use Rattle.xc_model.specs.Setting.{Setting}
 use Rattle.xc_model.specs.Progress.{Following}
 use Rattle.xc_model.specs.EntryEnds.{IsCauseOf}
 use Rattle.xc_model.specs.Ending.{IsEnd}
 use Rattle.xc_model.specs.Moment.{TxView, SavedView, JobView, Doing, Idle, Active, Starved, Ended, Moment, begun_count, failures, rank_of, revoked}
 use Rattle.xc_model.specs.Moment.{asked_to_wait}
-use Rattle.xc_model.specs.IdleRows.{IsEnding, MayBegin, IsSpent, beginning_job}
+use Rattle.xc_model.specs.IdleRows.{IsEnding, IsOver, MayBegin, IsSpent, beginning_job}
 use Rattle.xc_model.specs.Movers.{IsSameBegin, IsSamePosition, Mover, asked_at, body_at}
 use Rattle.xc_model.specs.IdleRows.{new_tx}
 use Rattle.xc_model.specs.PlainSteps.{claims_at, noting, noting_plain, copied, saved_by}
-use Rattle.xc_model.specs.Movers.{with_tx}
-use Rattle.xc_model.specs.Stories.{AreKeptSo, HasRecordsIn, IsCounted, IsCountedSave, IsAboveSave, IsWithinSave, IsSidedSave, IsBacking}
+use Rattle.xc_model.specs.Stories.{AreKeptSo, HasRecordsIn, IsCounted, IsCountedSave, IsAboveSave, IsWithinSave, IsSidedSave, IsBacking, IsKeptSo, IsOfClient}
+use Rattle.xc_model.specs.Stories.{FitsWhereItRuns}
 use Rattle.xc_model.specs.Stories.{AreAttempts, IsDoing, IsInPhase, IsCommitting, StoryHolds, IsRunning, IsInNextTx, IsUndoing, IsUnderway}
-use Rattle.xc_turns.proofs.StoryAsks.{answered-more, asks-more, asks-count, in_time-more}
+use Rattle.xc_turns.proofs.LiveSteps.{answered_live, asks_scripted, back_live, begin_live, kept_live, live_none}
+use Rattle.xc_turns.proofs.StoryAsks.{answered-more, asks-more, in_time-more}
+use Rattle.xc_model.proofs.Laws.{in_time-count, nothing_asked, unasked_fits}
 use Rattle.xc_turns.proofs.LateCounts.{late-more, back-more}
 use Rattle.xc_turns.proofs.Sided.{sided_after}
 
@@ -81,7 +87,8 @@ given_up s f (Some a) c spent are =
 -- it ends as its story does
 end_told : (s : Setting) (now : Moment) (f : Following) (job : JobView) (end : JobEnd) → IsEnding s now job end → AreAttempts f job.attempts
     → f.starved ≡ false → job.place ≡ at_begin f.job → IsEnd s (begun_count now) f end
-end_told s now f job job_end.Done ending are goes place = (goes, ap (λ (p : Position). body_at s p) (sym place) ∙ ending)
+end_told s now f job job_end.Done ending are goes place =
+    (goes, λ own. ap (λ (p : Position). body_at s p) (sym place) ∙ subst (λ b. IsOver b s job) own ending)
 end_told s now f job (job_end.GaveUp c) ending are goes place =
     (goes, subst (λ (p : Position). IsSome (body_at s p)) place ending.0, given_up s f job.attempts c ending.1 are)
 end_told s now f job job_end.JournalFull ending are goes place =
@@ -150,11 +157,12 @@ newest_tried : (older pending : List Undo) (u : Undo) (e : UndoEnd) (ended : Lis
 newest_tried older pending u e ended newest = ap (λ us. us ++ tried ended) newest ∙ append_assoc older (u ∷ []) (tried ended)
 
 -- a transaction that begins
-begun_underway : (s : Setting) (now : Moment) (f : Following) (job : JobView) → MayBegin s now job → AreAttempts f job.attempts
-    → f.starved ≡ false → job.place ≡ at_begin f.job → f.since ≤ length now.journal → job.me ≡ beginning job.me.places → All IsSided job.me.places
-    → IsUnderway s f (record job.place { begun = job.place.variables })
+begun_underway : (s : Setting) (now : Moment) (f : Following) (job : JobView) (last : Ask) → (has_clients s.script ≡ true → last ≡ ask.End)
+    → MayBegin s now job → AreAttempts f job.attempts → f.starved ≡ false → job.place ≡ at_begin f.job → f.since ≤ length now.journal
+    → job.me ≡ beginning job.me.places → All IsSided job.me.places
+    → IsUnderway s f (record job.place { begun = job.place.variables }) last
     (new_tx (begun_count now + 1) (rank_of job.attempts (begun_count now + 1)) (length now.journal) job.me)
-begun_underway s now f job ready are goes place since fresh sided =
+begun_underway s now f job last unasked ready are goes place since fresh sided =
     let none : job.me.stored ≡ 0 = ap (λ (m : Private). m.stored) fresh in
     record {
       goes_on = goes;
@@ -167,7 +175,13 @@ begun_underway s now f job ready are goes place since fresh sided =
         next = ap (λ (p : Position). p.next) place;
         begun = ap (λ (p : Position). p.variables) place;
       };
-      asked = refl;
+      asked = λ own. refl;
+      ahead = λ own. ap (λ (p : Position). stands_at s (record p { begun = p.variables })) place;
+      client = λ live. record {
+        variables = ap (λ (p : Position). (walk_of s.script p).variables) place ∙ begin_live s.script f.job live;
+        saved = subst (λ o. IsKeptSo o f.job.variables.values) (sym (ap (λ (p : Position). p.saved) place)) tt;
+      };
+      fits = λ live. unasked_fits Running None last (unasked live);
       kept = (refl, tt);
       in_time = refl;
       stored = omega arith;
@@ -177,7 +191,6 @@ begun_underway s now f job ready are goes place since fresh sided =
       counted = record { now = refl; saved = tt };
       faults = tt;
       phase = record {
-        ahead = ap (λ (p : Position). stands_at s (record p { begun = p.variables })) place;
         none = refl;
         no_ends = refl;
         within = tt;
@@ -196,15 +209,17 @@ begun_told s now f job idle ready told =
       since = told.since;
       attempts = told.attempts;
       few = told.few;
-      doing = begun_underway s now f job ready told.attempts goes place told.since told.fresh told.sided;
+      doing = begun_underway s now f job (asked_at s (beginning_job now job)) (λ live. nothing_asked s (beginning_job now job) live refl) ready
+          told.attempts goes place told.since told.fresh told.sided;
     }
 
 -- ---- a job with an active transaction that stays active
 -- its story goes on where its transaction does
-pub active_told : (s : Setting) (begun entered : ℕ) (f : Following) (job : JobView) (place : Position) (tx next : TxView) → job.doing ≡ Active tx
-    → (IsUnderway s f job.place tx → IsUnderway s f place next)
-    → StoryHolds s begun entered f job → StoryHolds s begun entered f (with_tx job place next)
-active_told s begun entered f job place tx next active moves told =
+pub active_told : (s : Setting) (begun entered : ℕ) (f : Following) (job : JobView) (place : Position) (handed : Option Ask) (tx next : TxView)
+    → job.doing ≡ Active tx
+    → (IsUnderway s f job.place (asked_at s job) tx → IsUnderway s f place (asked_by (has_clients s.script) s.script handed place) next)
+    → StoryHolds s begun entered f job → StoryHolds s begun entered f (record job { place = place; handed = handed; doing = Active next })
+active_told s begun entered f job place handed tx next active moves told =
     record {
       block = told.block;
       fresh = told.fresh;
@@ -221,17 +236,26 @@ same_next_tx f old new same stands =
     record { block = same.block ∙ stands.block; next = same.next ∙ stands.next; begun = same.begun ∙ stands.begun }
 
 -- a running one's phase
-pub running_phase : (s : Setting) (f : Following) (place : Position) (tx : TxView) → tx.phase ≡ Running → IsUnderway s f place tx → IsRunning s f place tx
-running_phase s f place tx runs under = subst (IsInPhase s f place tx) runs under.phase
+pub running_phase : (s : Setting) (f : Following) (place : Position) (last : Ask) (tx : TxView) → tx.phase ≡ Running → IsUnderway s f place last tx
+    → IsRunning tx
+running_phase s f place last tx runs under = subst (IsInPhase s place last tx) runs under.phase
 
 -- its records, by its phase
-records_in : (s : Setting) (f : Following) (place : Position) (tx : TxView) (ph : Phase) → tx.phase ≡ ph → IsUnderway s f place tx
+records_in : (s : Setting) (f : Following) (place : Position) (last : Ask) (tx : TxView) (ph : Phase) → tx.phase ≡ ph → IsUnderway s f place last tx
     → HasRecordsIn (left_records tx) ph (all_of tx)
-records_in s f place tx ph is under = subst (λ p. HasRecordsIn (left_records tx) p (all_of tx)) is under.counted.now
+records_in s f place last tx ph is under = subst (λ p. HasRecordsIn (left_records tx) p (all_of tx)) is under.counted.now
 
 -- past silent statements it stands on the same way
 same_way : (s : Setting) (old new : Position) → IsSamePosition s old new → stands_at s new ≡ stands_at s old
 same_way s old new same = λ i. record { walk = same.walk i; saved = same.saved i }
+
+-- where clients ask, too
+client_same : (s : Setting) (f : Following) (old new : Position) → IsSamePosition s old new → IsOfClient s f old → IsOfClient s f new
+client_same s f old new same client =
+    record {
+      variables = ap (λ (w : Walk). w.variables) same.walk ∙ client.variables;
+      saved = subst (λ o. IsKeptSo o f.job.variables.values) (sym same.saved) client.saved;
+    }
 
 -- ---- after a call
 -- where it doesn't go back, the walk is answered, and the block is opened or closed
@@ -262,26 +286,29 @@ noted_within call.Back saved copy pending made is was = tt
 noted_within _ saved copy pending made is was = grown saved pending made was
 
 -- after a call
-pub called_underway : (m : Mover) (f : Following) (tx : TxView) (call : Call) (now : Moment) → is_back call ≡ false → tx.phase ≡ Running
-    → asked_at m.setting m.job.place ≡ ask.Call call → (row : Calls m tx call now) → IsUnderway m.setting f m.job.place tx
-    → IsUnderway m.setting f row.place (noting tx call row.reply (claims_at m.old tx call) row.parts)
-called_underway m f tx call now ahead runs asked row under =
+pub called_underway : (m : Mover) (f : Following) (tx : TxView) (call : Call) (now : Moment) (last : Ask)
+    → (has_clients m.setting.script ≡ true → last ≡ ask.End) → is_back call ≡ false → tx.phase ≡ Running → asked_at m.setting m.job ≡ ask.Call call
+    → (row : Calls m tx call now) → IsUnderway m.setting f m.job.place (asked_at m.setting m.job) tx
+    → IsUnderway m.setting f row.place last (noting tx call row.reply (claims_at m.old tx call) row.parts)
+called_underway m f tx call now last unasked ahead runs asked row under =
     let s = m.setting in
-    let running = running_phase s f m.job.place tx runs under in
+    let running = running_phase s f m.job.place (asked_at s m.job) tx runs under in
     let begin = block_from s.script f.job in
     let claims = claims_at m.old tx call in
     let next = noting tx call row.reply claims row.parts in
     let copy = copied (noting_plain tx call row.reply claims row.parts) in
     let was = stands_at s m.job.place in
-    let is : asks (all_replied begin tx.replies).walk ≡ ask.Call call = ap (λ (b : BlockWalk). asks b.walk) (sym running.ahead) ∙ asked in
-    let count = asks-count begin tx.calls tx.replies under.asked in
+    let own_ask : IsScripted s.script → asks (walk_of s.script m.job.place) ≡ ask.Call call = λ own. sym (asks_scripted s m.job own) ∙ asked in
+    let is : IsScripted s.script → asks (all_replied begin tx.replies).walk ≡ ask.Call call =
+    λ own. ap (λ (b : BlockWalk). asks b.walk) (sym (under.ahead own)) ∙ own_ask own in
+    let count = in_time-count tx.calls tx.replies under.in_time in
     let pending : row.parts.undo.pending ≡ tx.undo.pending ++ row.made = ap (λ (u : Records). u.pending) row.undo in
-    let answers : block_after_call was call row.reply ≡ replied was row.reply = ap (λ a. after_ask was a row.reply) (sym asked) in
+    let answers : IsScripted s.script → block_after_call was call row.reply ≡ replied was row.reply =
+    λ own. ap (λ a. after_ask was a row.reply) (sym (own_ask own)) in
     let stepped : stands_at s row.place ≡ block_after_call was call row.reply =
     (λ i. record { walk = row.walk i; saved = row.saved i }) ∙ after_noted call was row.reply ahead in
     let w = world_of m.old.contents in
-    let phase : IsRunning s f row.place next = record {
-      ahead = stepped ∙ answers ∙ ap (λ (b : BlockWalk). replied b row.reply) running.ahead ∙ sym (answered-more begin tx.replies row.reply);
+    let phase : IsRunning next = record {
       none = ap (λ u. u.ended) row.undo ∙ running.none;
       no_ends = running.no_ends;
       within = subst (IsWithinSave next.saved) (sym pending) (noted_within call tx.saved copy tx.undo.pending row.made pending running.within);
@@ -291,7 +318,7 @@ called_underway m f tx call now ahead runs asked row under =
     let more = records-more no_records tx.calls tx.replies call row.reply count in
     let calls = k.now ++ left_by call row.reply in
     let had : AreRecordsOf k.now tx.undo.pending =
-    subst (AreRecordsOf k.now) (none_tried tx.undo.pending tx.undo.ended running.none) (records_in s f m.job.place tx Running runs under) in
+    subst (AreRecordsOf k.now) (none_tried tx.undo.pending tx.undo.ended running.none) (records_in s f m.job.place (asked_at s m.job) tx Running runs under) in
     let are : AreRecordsOf calls row.parts.undo.pending = subst (AreRecordsOf calls) (sym pending)
     (more_records k.now (left_by call row.reply) tx.undo.pending row.made had row.kinds) in
     let ended : row.parts.undo.ended ≡ [] = ap (λ (u : Records). u.ended) row.undo ∙ running.none in
@@ -310,7 +337,16 @@ called_underway m f tx call now ahead runs asked row under =
       rank = under.rank;
       since = under.since;
       standing = same_next_tx f m.job.place row.place row.begin under.standing;
-      asked = asks-more begin tx.calls tx.replies call row.reply under.asked is;
+      asked = λ own. asks-more begin tx.calls tx.replies call row.reply (under.asked own) (is own);
+      ahead = λ own. stepped ∙ answers own ∙ ap (λ (b : BlockWalk). replied b row.reply) (under.ahead own) ∙ sym (answered-more begin tx.replies row.reply);
+      client = λ live. record {
+        variables = ap (λ (w : Walk). w.variables) (row.walk ∙ answered_live (walk_of s.script m.job.place) row.reply (live_none s.script m.job.place live))
+            ∙ (under.client live).variables;
+        saved = subst (λ o. IsKeptSo o f.job.variables.values) (sym row.saved)
+            (kept_live call m.job.place.saved (values_at m) f.job.variables.values (ap (λ (v : Variables). v.values) (under.client live).variables)
+            (under.client live).saved);
+      };
+      fits = λ live. unasked_fits next.phase next.saved last (unasked live);
       kept = late-more w tx.me tx.number tx.late tx.saved copy tx.calls tx.replies call row.reply ahead row.in_time refl count under.kept;
       in_time = in_time-more tx.calls tx.replies call row.reply
           (record { kept = λ waiting. (tx.me, tx.number, row.in_time.kept waiting); now = row.in_time.now }) under.in_time;
@@ -321,16 +357,16 @@ called_underway m f tx call now ahead runs asked row under =
       counted = subst (IsCounted next) (sym more) counted;
       faults = faults-more s.rules.undo_tries no_records tx.calls tx.replies call row.reply count
           (no_faults s.rules.undo_tries (block_records k) row.reply row.no_way_back) under.faults;
-      phase = subst (IsInPhase s f row.place next) (sym runs) phase;
+      phase = subst (IsInPhase s row.place last next) (sym runs) phase;
     }
 
 -- ---- a block goes back
 -- its way back begins
-pub begins_back_underway : (s : Setting) (f : Following) (old new : Position) (tx : TxView) → tx.phase ≡ Running → IsSamePosition s old new
-    → IsPastSilent s.script new → asked_at s old ≡ ask.Call call.Back → IsSome tx.saved
-    → IsUnderway s f old tx → IsUnderway s f new (record tx { phase = Backing })
-begins_back_underway s f old new tx runs same settled asked opened under =
-    let running = running_phase s f old tx runs under in
+pub begins_back_underway : (s : Setting) (f : Following) (old new : Position) (last : Ask) (tx : TxView) → tx.phase ≡ Running → IsSamePosition s old new
+    → IsPastSilent s.script new → last ≡ ask.Call call.Back → IsSome tx.saved
+    → IsUnderway s f old last tx → IsUnderway s f new last (record tx { phase = Backing })
+begins_back_underway s f old new last tx runs same settled asked opened under =
+    let running = running_phase s f old last tx runs under in
     record {
       goes_on = under.goes_on;
       left = under.left;
@@ -339,17 +375,19 @@ begins_back_underway s f old new tx runs same settled asked opened under =
       since = under.since;
       standing = same_next_tx f old new same.begin under.standing;
       asked = under.asked;
+      ahead = λ own. same_way s old new same ∙ under.ahead own;
+      client = λ live. client_same s f old new same (under.client live);
+      fits = λ live. tt;
       kept = under.kept;
       in_time = under.in_time;
       stored = under.stored;
       sided = under.sided;
       saved_sided = under.saved_sided;
       together = ap is_some same.saved ∙ under.together;
-      counted = record { now = records_in s f old tx Running runs under; saved = under.counted.saved };
+      counted = record { now = records_in s f old last tx Running runs under; saved = under.counted.saved };
       faults = under.faults;
       phase = record {
-        ahead = same_way s old new same ∙ running.ahead;
-        asked = ap asks same.walk ∙ asked;
+        asked = asked;
         settled = settled;
         legal = subst (λ ends. AreLegal s.rules.undo_tries (length tx.undo.pending + 1) ends) (sym running.none) tt;
         undone = subst (All (λ e. is_undone e.1 ≡ true)) (sym running.none) (All-nil (λ (e : Ending). is_undone e.1 ≡ true));
@@ -363,17 +401,19 @@ begins_back_underway s f old new tx runs same settled asked opened under =
     by_save (Some kept) some was = was
 
 -- the phase of one whose block goes back
-pub backing_phase : (s : Setting) (f : Following) (place : Position) (tx : TxView) → tx.phase ≡ Backing → IsUnderway s f place tx → IsBacking s f place tx
-backing_phase s f place tx backing under = subst (IsInPhase s f place tx) backing under.phase
+pub backing_phase : (s : Setting) (f : Following) (place : Position) (last : Ask) (tx : TxView) → tx.phase ≡ Backing → IsUnderway s f place last tx
+    → IsBacking s place last tx
+backing_phase s f place last tx backing under = subst (IsInPhase s place last tx) backing under.phase
 
 -- a record of the block is tried
-pub backs_one_underway : (s : Setting) (f : Following) (place : Position) (tx : TxView) (kept : SavedView) (older : List Undo) (u : Undo) (end : UndoEnd)
+pub backs_one_underway : (s : Setting) (f : Following) (place : Position) (last : Ask) (tx : TxView) (kept : SavedView) (older : List Undo) (u : Undo)
+    (end : UndoEnd)
     → tx.phase ≡ Backing → tx.saved ≡ Some kept → length kept.trail < length tx.undo.pending
     → tx.undo.pending ≡ older ++ u ∷ [] → IsLegalEnd s.rules.undo_tries u end (way_of older u tx.undo)
-    → IsUnderway s f place tx
-    → IsUnderway s f place (record tx { phase = phase_after (length older + 1) end; undo = record { pending = older; ended = (u, end) ∷ tx.undo.ended } })
-backs_one_underway s f place tx kept older u end backs is above newest legal under =
-    let backing = backing_phase s f place tx backs under in
+    → IsUnderway s f place last tx
+    → IsUnderway s f place last (record tx { phase = phase_after (length older + 1) end; undo = record { pending = older; ended = (u, end) ∷ tx.undo.ended } })
+backs_one_underway s f place last tx kept older u end backs is above newest legal under =
+    let backing = backing_phase s f place last tx backs under in
     let next : TxView = record tx { phase = phase_after (length older + 1) end; undo = record { pending = older; ended = (u, end) ∷ tx.undo.ended } } in
     let count : length tx.undo.pending ≡ length older + 1 = ap length newest ∙ length-append older (u ∷ []) in
     let all_legal : AreLegal s.rules.undo_tries (length older + 1) ((u, end) ∷ tx.undo.ended) =
@@ -386,6 +426,9 @@ backs_one_underway s f place tx kept older u end backs is above newest legal und
       since = under.since;
       standing = under.standing;
       asked = under.asked;
+      ahead = under.ahead;
+      client = under.client;
+      fits = λ live. fits_so end;
       kept = under.kept;
       in_time = under.in_time;
       stored = under.stored;
@@ -394,13 +437,18 @@ backs_one_underway s f place tx kept older u end backs is above newest legal und
       together = under.together;
       counted = record {
         now = counted_so end (subst (AreRecordsOf (left_records tx).now) (newest_tried older tx.undo.pending u end tx.undo.ended newest)
-            (records_in s f place tx Backing backs under));
+            (records_in s f place last tx Backing backs under));
         saved = under.counted.saved;
       };
       faults = under.faults;
       phase = by_end end all_legal backing count;
     }
   where
+    fits_so : (e : UndoEnd) → FitsWhereItRuns (phase_after (length older + 1) e) tx.saved last
+    fits_so (Undone faults) = tt
+    fits_so (Failed done faults) = tt
+    fits_so (Blocked by) = tt
+
     counted_so : (e : UndoEnd) → AreRecordsOf (left_records tx).now (older ++ tried ((u, e) ∷ tx.undo.ended))
         → HasRecordsIn (left_records tx) (phase_after (length older + 1) e) (older ++ tried ((u, e) ∷ tx.undo.ended))
     counted_so (Undone faults) so = so
@@ -410,13 +458,12 @@ backs_one_underway s f place tx kept older u end backs is above newest legal und
     saved_count : IsCountedSave (Some kept) (left_records tx).saved
     saved_count = subst (λ o. IsCountedSave o (left_records tx).saved) is under.counted.saved
 
-    by_end : (e : UndoEnd) → AreLegal s.rules.undo_tries (length older + 1) ((u, e) ∷ tx.undo.ended) → IsBacking s f place tx
+    by_end : (e : UndoEnd) → AreLegal s.rules.undo_tries (length older + 1) ((u, e) ∷ tx.undo.ended) → IsBacking s place last tx
         → length tx.undo.pending ≡ length older + 1
-        → IsInPhase s f place (record tx { phase = phase_after (length older + 1) e; undo = record { pending = older; ended = (u, e) ∷ tx.undo.ended } })
+        → IsInPhase s place last (record tx { phase = phase_after (length older + 1) e; undo = record { pending = older; ended = (u, e) ∷ tx.undo.ended } })
         (phase_after (length older + 1) e)
     by_end (Undone faults) all_legal backing count =
         record {
-          ahead = backing.ahead;
           asked = backing.asked;
           settled = backing.settled;
           legal = all_legal;
@@ -427,7 +474,6 @@ backs_one_underway s f place tx kept older u end backs is above newest legal und
     -- it is the newest that failed, and of the block
     by_end (Failed done faults) all_legal backing count =
         record {
-          ahead = backing.ahead;
           caused = backing.asked;
           legal = all_legal;
           stuck = (
@@ -452,25 +498,30 @@ backs_one_underway s f place tx kept older u end backs is above newest legal und
         cc some
 
 -- its block has gone back
-pub ends_back_underway : (m : Mover) (f : Following) (tx : TxView) (kept : SavedView) (now : Moment) → tx.phase ≡ Backing → tx.saved ≡ Some kept
-    → length tx.undo.pending ≤ length kept.trail → (row : EndsBack m tx kept now) → IsUnderway m.setting f m.job.place tx
-    → IsUnderway m.setting f row.place (backed tx kept)
-ends_back_underway m f tx kept now backs is few row under =
+pub ends_back_underway : (m : Mover) (f : Following) (tx : TxView) (kept : SavedView) (now : Moment) (last : Ask)
+    → (has_clients m.setting.script ≡ true → last ≡ ask.End) → tx.phase ≡ Backing → tx.saved ≡ Some kept → length tx.undo.pending ≤ length kept.trail
+    → (row : EndsBack m tx kept now) → IsUnderway m.setting f m.job.place (asked_at m.setting m.job) tx
+    → IsUnderway m.setting f row.place last (backed tx kept)
+ends_back_underway m f tx kept now last unasked backs is few row under =
     let s = m.setting in
     let tries = s.rules.undo_tries in
-    let backing = backing_phase s f m.job.place tx backs under in
+    let backing = backing_phase s f m.job.place (asked_at s m.job) tx backs under in
     let begin = block_from s.script f.job in
     let reply = reply.Undone (sum_by undo_faults tx.undo.ended) in
     let was = stands_at s m.job.place in
-    let next_is : asks (all_replied begin tx.replies).walk ≡ ask.Call call.Back = ap (λ (b : BlockWalk). asks b.walk) (sym backing.ahead) ∙ backing.asked in
-    let count = asks-count begin tx.calls tx.replies under.asked in
-    let answers : block_after_call was call.Back reply ≡ replied was reply = ap (λ a. after_ask was a reply) (sym backing.asked) in
+    let own_ask : IsScripted s.script → asks (walk_of s.script m.job.place) ≡ ask.Call call.Back =
+    λ own. sym (asks_scripted s m.job own) ∙ backing.asked in
+    let next_is : IsScripted s.script → asks (all_replied begin tx.replies).walk ≡ ask.Call call.Back =
+    λ own. ap (λ (b : BlockWalk). asks b.walk) (sym (under.ahead own)) ∙ own_ask own in
+    let count = in_time-count tx.calls tx.replies under.in_time in
+    let answers : IsScripted s.script → block_after_call was call.Back reply ≡ replied was reply =
+    λ own. ap (λ a. after_ask was a reply) (sym (own_ask own)) in
     let stepped : stands_at s row.place ≡ block_after_call was call.Back reply = λ i. record { walk = row.walk i; saved = row.closed i } in
     let k = left_records tx in
     let saved_count : IsCountedSave (Some kept) k.saved = subst (λ o. IsCountedSave o k.saved) is under.counted.saved in
     let above : length kept.trail ≤ length tx.undo.pending = subst (λ o. IsAboveSave o tx.undo.pending) is backing.within in
     let left : length tx.undo.pending ≡ length kept.trail = omega (arith, above, few) in
-    let all : AreRecordsOf k.now (all_of tx) = records_in s f m.job.place tx Backing backs under in
+    let all : AreRecordsOf k.now (all_of tx) = records_in s f m.job.place (asked_at s m.job) tx Backing backs under in
     let (calls, before, same) = counted_block kept k saved_count in
     let (block, front) = subst (λ o. IsInFront o k.now) before (save_in_front no_records tx.calls tx.replies tt) in
     let older : AreRecordsOf calls tx.undo.pending = front_records calls block tx.undo.pending (tried tx.undo.ended) (left ∙ same)
@@ -488,7 +539,15 @@ ends_back_underway m f tx kept now backs is few row under =
       rank = under.rank;
       since = under.since;
       standing = same_next_tx f m.job.place row.place row.begin under.standing;
-      asked = asks-more begin tx.calls tx.replies call.Back reply under.asked next_is;
+      asked = λ own. asks-more begin tx.calls tx.replies call.Back reply (under.asked own) (next_is own);
+      ahead = λ own. stepped ∙ answers own ∙ ap (λ (b : BlockWalk). replied b reply) (under.ahead own) ∙ sym (answered-more begin tx.replies reply);
+      client = λ live. record {
+        variables = ap (λ (w : Walk). w.variables) row.walk
+            ∙ back_live (walk_of s.script m.job.place) m.job.place.saved f.job.variables (live_none s.script m.job.place live)
+            (under.client live).variables (under.client live).saved;
+        saved = subst (λ o. IsKeptSo o f.job.variables.values) (sym row.closed) tt;
+      };
+      fits = λ live. unasked_fits (backed tx kept).phase None last (unasked live);
       kept = back-more tx.late kept tx.calls tx.replies reply count (subst (λ o. AreKeptSo tx.late o (all_kept none_kept tx.calls tx.replies)) is under.kept);
       in_time = in_time-more tx.calls tx.replies call.Back reply (record { kept = λ waiting. cc waiting; now = λ _. refl }) under.in_time;
       stored = under.stored;
@@ -499,7 +558,6 @@ ends_back_underway m f tx kept now backs is few row under =
       faults = faults-more tries no_records tx.calls tx.replies call.Back reply count
           (few_in_block tries kept k tx.undo.pending tx.undo.ended saved_count left many backing.legal backing.undone) under.faults;
       phase = record {
-        ahead = stepped ∙ answers ∙ ap (λ (b : BlockWalk). replied b reply) backing.ahead ∙ sym (answered-more begin tx.replies reply);
         none = refl;
         no_ends = backing.no_ends;
         within = tt;
@@ -507,10 +565,10 @@ ends_back_underway m f tx kept now backs is few row under =
     }
 
 -- a mark cuts its way back short
-pub cut_underway : (s : Setting) (f : Following) (place : Position) (tx : TxView) (m : Mark)
-    → tx.phase ≡ Backing → IsUnderway s f place tx → IsUnderway s f place (record tx { phase = Undoing (revoked m) })
-cut_underway s f place tx m backs under =
-    let backing = backing_phase s f place tx backs under in
+pub cut_underway : (s : Setting) (f : Following) (place : Position) (last : Ask) (tx : TxView) (m : Mark)
+    → tx.phase ≡ Backing → IsUnderway s f place last tx → IsUnderway s f place last (record tx { phase = Undoing (revoked m) })
+cut_underway s f place last tx m backs under =
+    let backing = backing_phase s f place last tx backs under in
     record {
       goes_on = under.goes_on;
       left = under.left;
@@ -519,28 +577,31 @@ cut_underway s f place tx m backs under =
       since = under.since;
       standing = under.standing;
       asked = under.asked;
+      ahead = under.ahead;
+      client = under.client;
+      fits = λ live. tt;
       kept = under.kept;
       in_time = under.in_time;
       stored = under.stored;
       sided = under.sided;
       saved_sided = under.saved_sided;
       together = under.together;
-      counted = record { now = records_in s f place tx Backing backs under; saved = under.counted.saved };
+      counted = record { now = records_in s f place last tx Backing backs under; saved = under.counted.saved };
       faults = under.faults;
-      phase = record { ahead = backing.ahead; caused = tt; legal = backing.legal; stuck = tt; no_ends = backing.no_ends };
+      phase = record { caused = tt; legal = backing.legal; stuck = tt; no_ends = backing.no_ends };
     }
 
 -- rolling back
-pub back_underway : (s : Setting) (f : Following) (old new : Position) (tx : TxView) (c : Cause) (undo : Records) (held : List Claim)
+pub back_underway : (s : Setting) (f : Following) (old new : Position) (last : Ask) (tx : TxView) (c : Cause) (undo : Records) (held : List Claim)
     → undo.ended ≡ tx.undo.ended → tx.phase ≡ Running → IsSamePosition s old new
-    → IsCauseOf c (asked_at s old)
+    → IsCauseOf c (last)
     → (AreRecordsOf (left_records tx).now tx.undo.pending → HasRecords (left_records tx) c undo.pending)
     → IsStuckIn (saved_records (left_records tx)) (length undo.pending + 1) undo.ended c
-    → IsUnderway s f old tx → IsUnderway s f new (record tx { phase = Undoing c; undo = undo; held = held })
-back_underway s f old new tx c undo held ended runs same caused count stuck under =
-    let running = running_phase s f old tx runs under in
+    → IsUnderway s f old last tx → IsUnderway s f new last (record tx { phase = Undoing c; undo = undo; held = held })
+back_underway s f old new last tx c undo held ended runs same caused count stuck under =
+    let running = running_phase s f old last tx runs under in
     let had : AreRecordsOf (left_records tx).now tx.undo.pending =
-    subst (AreRecordsOf (left_records tx).now) (none_tried tx.undo.pending tx.undo.ended running.none) (records_in s f old tx Running runs under) in
+    subst (AreRecordsOf (left_records tx).now) (none_tried tx.undo.pending tx.undo.ended running.none) (records_in s f old last tx Running runs under) in
     let has : HasRecords (left_records tx) c (undo.pending ++ tried undo.ended) =
     subst (HasRecords (left_records tx) c) (sym (none_tried undo.pending undo.ended (ended ∙ running.none))) (count had) in
     record {
@@ -551,6 +612,9 @@ back_underway s f old new tx c undo held ended runs same caused count stuck unde
       since = under.since;
       standing = same_next_tx f old new same.begin under.standing;
       asked = under.asked;
+      ahead = λ own. same_way s old new same ∙ under.ahead own;
+      client = λ live. client_same s f old new same (under.client live);
+      fits = λ live. tt;
       kept = under.kept;
       in_time = under.in_time;
       stored = under.stored;
@@ -560,8 +624,7 @@ back_underway s f old new tx c undo held ended runs same caused count stuck unde
       counted = record { now = has; saved = under.counted.saved };
       faults = under.faults;
       phase = record {
-        ahead = same_way s old new same ∙ running.ahead;
-        caused = subst (IsCauseOf c) (sym (ap asks same.walk)) caused;
+        caused = caused;
         legal = subst (λ ends. AreLegal s.rules.undo_tries (length undo.pending + 1) ends) (sym (ended ∙ running.none)) tt;
         stuck = stuck;
         no_ends = running.no_ends;
@@ -569,12 +632,11 @@ back_underway s f old new tx c undo held ended runs same caused count stuck unde
     }
 
 -- passed silent statements at most
-pub same_underway : (s : Setting) (f : Following) (old new : Position) (tx : TxView) → tx.phase ≡ Running → IsSamePosition s old new
-    → IsUnderway s f old tx → IsUnderway s f new tx
-same_underway s f old new tx runs same under =
-    let running = running_phase s f old tx runs under in
-    let phase : IsRunning s f new tx = record {
-      ahead = same_way s old new same ∙ running.ahead;
+pub same_underway : (s : Setting) (f : Following) (old new : Position) (last : Ask) (tx : TxView) → tx.phase ≡ Running → IsSamePosition s old new
+    → IsUnderway s f old last tx → IsUnderway s f new last tx
+same_underway s f old new last tx runs same under =
+    let running = running_phase s f old last tx runs under in
+    let phase : IsRunning tx = record {
       none = running.none;
       no_ends = running.no_ends;
       within = running.within;
@@ -587,6 +649,9 @@ same_underway s f old new tx runs same under =
       since = under.since;
       standing = same_next_tx f old new same.begin under.standing;
       asked = under.asked;
+      ahead = λ own. same_way s old new same ∙ under.ahead own;
+      client = λ live. client_same s f old new same (under.client live);
+      fits = under.fits;
       kept = under.kept;
       in_time = under.in_time;
       stored = under.stored;
@@ -595,15 +660,15 @@ same_underway s f old new tx runs same under =
       together = ap is_some same.saved ∙ under.together;
       counted = under.counted;
       faults = under.faults;
-      phase = subst (IsInPhase s f new tx) (sym runs) phase;
+      phase = subst (IsInPhase s new last tx) (sym runs) phase;
     }
 
 -- over to its commit
-pub commits_underway : (s : Setting) (f : Following) (old new : Position) (tx : TxView) → tx.phase ≡ Running → IsSamePosition s old new
+pub commits_underway : (s : Setting) (f : Following) (old new : Position) (last : Ask) (tx : TxView) → tx.phase ≡ Running → IsSamePosition s old new
     → IsPastSilent s.script new
-    → asked_at s old ≡ ask.Commit → IsUnderway s f old tx → IsUnderway s f new (record tx { phase = Committing })
-commits_underway s f old new tx runs same settled asked under =
-    let running = running_phase s f old tx runs under in
+    → last ≡ ask.Commit → IsUnderway s f old last tx → IsUnderway s f new last (record tx { phase = Committing })
+commits_underway s f old new last tx runs same settled asked under =
+    let running = running_phase s f old last tx runs under in
     record {
       goes_on = under.goes_on;
       left = under.left;
@@ -612,17 +677,19 @@ commits_underway s f old new tx runs same settled asked under =
       since = under.since;
       standing = same_next_tx f old new same.begin under.standing;
       asked = under.asked;
+      ahead = λ own. same_way s old new same ∙ under.ahead own;
+      client = λ live. client_same s f old new same (under.client live);
+      fits = λ live. tt;
       kept = under.kept;
       in_time = under.in_time;
       stored = under.stored;
       sided = under.sided;
       saved_sided = under.saved_sided;
       together = ap is_some same.saved ∙ under.together;
-      counted = record { now = records_in s f old tx Running runs under; saved = under.counted.saved };
+      counted = record { now = records_in s f old last tx Running runs under; saved = under.counted.saved };
       faults = under.faults;
       phase = record {
-        ahead = same_way s old new same ∙ running.ahead;
-        asked = ap asks same.walk ∙ asked;
+        asked = asked;
         settled = settled;
         none = running.none;
         few_ends = let none = ap length running.no_ends in omega arith;
@@ -630,13 +697,13 @@ commits_underway s f old new tx runs same settled asked under =
     }
 
 -- after a late call
-pub ended_underway : (s : Setting) (f : Following) (place : Position) (tx : TxView) (end : LateEnd) → tx.phase ≡ Committing → length tx.ends < length tx.late
-    → IsUnderway s f place tx → IsUnderway s f place (record tx { ends = tx.ends ++ end ∷ [] })
-ended_underway s f place tx end commits some under =
+pub ended_underway : (s : Setting) (f : Following) (place : Position) (last : Ask) (tx : TxView) (end : LateEnd) → tx.phase ≡ Committing
+    → length tx.ends < length tx.late
+    → IsUnderway s f place last tx → IsUnderway s f place last (record tx { ends = tx.ends ++ end ∷ [] })
+ended_underway s f place last tx end commits some under =
     let next : TxView = record tx { ends = tx.ends ++ end ∷ [] } in
-    let committing : IsCommitting s f place tx = subst (IsInPhase s f place tx) commits under.phase in
-    let phase : IsCommitting s f place next = record {
-      ahead = committing.ahead;
+    let committing : IsCommitting s place last tx = subst (IsInPhase s place last tx) commits under.phase in
+    let phase : IsCommitting s place last next = record {
       asked = committing.asked;
       settled = committing.settled;
       none = committing.none;
@@ -650,6 +717,9 @@ ended_underway s f place tx end commits some under =
       since = under.since;
       standing = under.standing;
       asked = under.asked;
+      ahead = under.ahead;
+      client = under.client;
+      fits = under.fits;
       kept = under.kept;
       in_time = under.in_time;
       stored = under.stored;
@@ -658,7 +728,7 @@ ended_underway s f place tx end commits some under =
       together = under.together;
       counted = record { now = under.counted.now; saved = under.counted.saved };
       faults = under.faults;
-      phase = subst (IsInPhase s f place next) (sym commits) phase;
+      phase = subst (IsInPhase s place last next) (sym commits) phase;
     }
 
 -- where a way back got stuck stays with one end more
@@ -684,16 +754,15 @@ stuck_on k (cause.Conflict object holder at) from next e ended one so = tt
 stuck_on k (cause.Revoked object by at) from next e ended one so = tt
 
 -- after a compensation
-pub tried_underway : (s : Setting) (f : Following) (place : Position) (tx : TxView) (c : Cause) (older : List Undo) (u : Undo) (end : UndoEnd)
+pub tried_underway : (s : Setting) (f : Following) (place : Position) (last : Ask) (tx : TxView) (c : Cause) (older : List Undo) (u : Undo) (end : UndoEnd)
     → tx.phase ≡ Undoing c → tx.undo.pending ≡ older ++ u ∷ [] → IsLegalEnd s.rules.undo_tries u end (way_of older u tx.undo)
-    → IsUnderway s f place tx → IsUnderway s f place (record tx { undo = record { pending = older; ended = (u, end) ∷ tx.undo.ended } })
-tried_underway s f place tx c older u end undoes newest legal under =
-    let undoing : IsUndoing s f place tx c = subst (IsInPhase s f place tx) undoes under.phase in
+    → IsUnderway s f place last tx → IsUnderway s f place last (record tx { undo = record { pending = older; ended = (u, end) ∷ tx.undo.ended } })
+tried_underway s f place last tx c older u end undoes newest legal under =
+    let undoing : IsUndoing s last tx c = subst (IsInPhase s place last tx) undoes under.phase in
     let next : TxView = record tx { undo = record { pending = older; ended = (u, end) ∷ tx.undo.ended } } in
     let count : length tx.undo.pending ≡ length older + 1 = ap length newest ∙ length-append older (u ∷ []) in
     let as_before : all_of tx ≡ all_of next = newest_tried older tx.undo.pending u end tx.undo.ended newest in
-    let phase : IsUndoing s f place next c = record {
-      ahead = undoing.ahead;
+    let phase : IsUndoing s last next c = record {
       caused = undoing.caused;
       legal = (legal, subst (λ n. AreLegal s.rules.undo_tries (n + 1) tx.undo.ended) count undoing.legal);
       stuck = stuck_on (saved_records (left_records tx)) c (length tx.undo.pending + 1) (length older + 1) (u, end) tx.undo.ended (omega (arith, count))
@@ -708,6 +777,9 @@ tried_underway s f place tx c older u end undoes newest legal under =
       since = under.since;
       standing = under.standing;
       asked = under.asked;
+      ahead = under.ahead;
+      client = under.client;
+      fits = under.fits;
       kept = under.kept;
       in_time = under.in_time;
       stored = under.stored;
@@ -716,7 +788,7 @@ tried_underway s f place tx c older u end undoes newest legal under =
       together = under.together;
       counted = record { now = subst (HasRecordsIn (left_records tx) tx.phase) as_before under.counted.now; saved = under.counted.saved };
       faults = under.faults;
-      phase = subst (IsInPhase s f place next) (sym undoes) phase;
+      phase = subst (IsInPhase s place last next) (sym undoes) phase;
     }
 
 -- ---- a job that asks nothing more

@@ -21,6 +21,7 @@ use Rattle.xc_script.specs.Position.{Position, is_call_asked}
 use Rattle.xc_data.specs.declared.entry.Mark.{Mark}
 use Rattle.xc_model.specs.declared.phase.Phase.{Phase}
 use Rattle.xc_model.specs.declared.phase.Phase.TheVariants.{Running, Committing, Undoing, Backing}
+use Rattle.xc_model.specs.Live.{asked_by, has_clients}
 use Rattle.xc_model.specs.Setting.{Setting}
 use Rattle.xc_model.specs.WordCalls.{AreWordReplies}
 use Rattle.xc_model.specs.Progress.{Following, following_abort, progress_of}
@@ -54,6 +55,8 @@ use Rattle.xc_model.specs.Stories.{StoriesHold, IsDoing, IsUnderway, active_begi
 use Rattle.xc_model.specs.Played.{IsPlayedSoFar}
 use Rattle.xc_model.specs.Started.{AreStarted, HasStartEnds, blocks}
 use Rattle.xc_model.specs.Words.{WordsAgree}
+use Rattle.xc_turns.proofs.LiveSteps.{asks_scripted}
+use Rattle.xc_model.proofs.Laws.{asked_same}
 use Rattle.xc_turns.proofs.Lists.{get_beside}
 use Rattle.xc_turns.proofs.Jobs.{behind_abort_none}
 use Rattle.xc_turns.proofs.Progressing.{entered-all, lasts_grow, lasts_stay}
@@ -95,7 +98,7 @@ pub record Before (s : Setting) (at : ℕ) (old : Moment) (job : JobView) : Type
   pub there : slice_get old.jobs at ≡ Some job
   pub spoken : WordsAgree (progress_of s.script old.journal).words old.words old.jobs
   pub played : IsTrue s.tells → (tx : TxView) → (is : IsActiveAt old.jobs at tx)
-      → IsPlayedSoFar (asked_at s is.0.place) (length old.words) (progress_of s.script old.journal) at tx
+      → IsPlayedSoFar (asked_at s is.0) (length old.words) (progress_of s.script old.journal) at tx
   pub started : AreStarted s.script old
   pub lasts : List Ask
   pub told : StoriesHoldBut s lasts old.journal old.jobs
@@ -103,7 +106,7 @@ pub record Before (s : Setting) (at : ℕ) (old : Moment) (job : JobView) : Type
 module _ (s : Setting) (at : ℕ) (old new : Moment) (job : JobView) (b : Before s at old job) where
   -- the new moment's stories
   abbrev After : Type 0
-  After = StoriesHoldBut s (lasts_behind (asked_at s job.place) old.journal new.journal b.lasts) new.journal new.jobs
+  After = StoriesHoldBut s (lasts_behind (asked_at s job) old.journal new.journal b.lasts) new.journal new.jobs
 
   -- where none enters
   stays_as : (jobs : List JobView) → new.journal ≡ old.journal → new.jobs ≡ jobs → StoriesHoldBut s b.lasts old.journal jobs → After
@@ -111,9 +114,9 @@ module _ (s : Setting) (at : ℕ) (old new : Moment) (job : JobView) (b : Before
 
   -- where this one does
   enters_as : (e : Entry) (jobs : List JobView) → new.journal ≡ old.journal ++ e ∷ [] → new.jobs ≡ jobs
-      → StoriesHoldBut s (b.lasts ++ asked_at s job.place ∷ []) (old.journal ++ e ∷ []) jobs → After
+      → StoriesHoldBut s (b.lasts ++ asked_at s job ∷ []) (old.journal ++ e ∷ []) jobs → After
   enters_as e jobs journal same told =
-      told_as s (b.lasts ++ asked_at s job.place ∷ []) _ (old.journal ++ e ∷ []) new.journal jobs new.jobs (lasts_grow _ _ _ b.lasts e journal) journal
+      told_as s (b.lasts ++ asked_at s job ∷ []) _ (old.journal ++ e ∷ []) new.journal jobs new.jobs (lasts_grow _ _ _ b.lasts e journal) journal
       same told
 
   -- ---- an idle job
@@ -155,28 +158,40 @@ module _ (s : Setting) (at : ℕ) (old new : Moment) (job : JobView) (b : Before
   starved_row turn.NoMemory starved row = absurd row
 
   -- ---- a job with an active transaction that stays active
-  active_row : (place : Position) (tx next : TxView) → job.doing ≡ Active tx → active_begin next ≡ active_begin tx
-      → ((f : Following) → IsUnderway s f job.place tx → IsUnderway s f place next)
-      → new.journal ≡ old.journal → new.jobs ≡ slice_set old.jobs at (with_tx job place next) → After
-  active_row place tx next active same moves journal jobs =
-      stays_as (slice_set old.jobs at (with_tx job place next)) journal jobs
-      (story_goes_on s b.lasts old.journal old.jobs at job (with_tx job place next) b.there
-      (ap Some same ∙ ap (option_map active_begin) (sym (ap active_in active)))
-      (λ f told. active_told s (begun_count old) (length old.journal) f job place tx next active (moves f) told) b.told)
+  moved_row : (place : Position) (handed : Option Ask) (tx next : TxView) → job.doing ≡ Active tx → active_begin next ≡ active_begin tx
+      → ((f : Following) → IsUnderway s f job.place (asked_at s job) tx → IsUnderway s f place (asked_by (has_clients s.script) s.script handed place) next)
+      → new.journal ≡ old.journal → new.jobs ≡ slice_set old.jobs at (record job { place = place; handed = handed; doing = Active next }) → After
+  moved_row place handed tx next active same moves journal jobs =
+      let behind : JobView = record job { place = place; handed = handed; doing = Active next } in
+      stays_as (slice_set old.jobs at behind) journal jobs
+      (story_goes_on s b.lasts old.journal old.jobs at job behind b.there (ap Some same ∙ ap (option_map active_begin) (sym (ap active_in active)))
+      (λ f told. active_told s (begun_count old) (length old.journal) f job place handed tx next active (moves f) told) b.told)
 
-  called_row : (tx : TxView) (call : Call) → is_back call ≡ false → job.doing ≡ Active tx → tx.phase ≡ Running → asked_at s job.place ≡ ask.Call call
+  -- what it is asked stays
+  active_row : (place : Position) (tx next : TxView) → job.doing ≡ Active tx → active_begin next ≡ active_begin tx
+      → asked_by (has_clients s.script) s.script job.handed place ≡ asked_at s job
+      → ((f : Following) → IsUnderway s f job.place (asked_at s job) tx → IsUnderway s f place (asked_at s job) next)
+      → new.journal ≡ old.journal → new.jobs ≡ slice_set old.jobs at (with_tx job place next) → After
+  active_row place tx next active same still moves journal jobs =
+      moved_row place job.handed tx next active same (λ f under. subst (λ a. IsUnderway s f place a next) (sym still) (moves f under)) journal jobs
+
+  -- where clients ask, nothing is asked once a call is answered
+  unasked : (place : Position) → has_clients s.script ≡ true → asked_by (has_clients s.script) s.script None place ≡ ask.End
+  unasked place live = ap (λ c. asked_by c s.script None place) live
+
+  called_row : (tx : TxView) (call : Call) → is_back call ≡ false → job.doing ≡ Active tx → tx.phase ≡ Running → asked_at s job ≡ ask.Call call
       → Calls (mover s at old job) tx call new → After
   called_row tx call ahead active runs asked row =
-      active_row row.place tx (noting tx call row.reply (claims_at old tx call) row.parts) active refl
-      (λ f under. called_underway (mover s at old job) f tx call new ahead runs asked row under)
+      moved_row row.place None tx (noting tx call row.reply (claims_at old tx call) row.parts) active refl
+      (λ f under. called_underway (mover s at old job) f tx call new _ (unasked row.place) ahead runs asked row under)
       (ap (λ (n : Moment). n.journal) row.behind) (ap (λ (n : Moment). n.jobs) row.behind)
 
-  conflict_row : (tx : TxView) (call : Call) → job.doing ≡ Active tx → tx.phase ≡ Running → asked_at s job.place ≡ ask.Call call
+  conflict_row : (tx : TxView) (call : Call) → job.doing ≡ Active tx → tx.phase ≡ Running → asked_at s job ≡ ask.Call call
       → Conflicts (mover s at old job) tx call new → After
   conflict_row tx call active runs asked row =
       let c = cause.Conflict row.object row.holder (length old.journal) in
-      active_row row.place tx (record tx { phase = Undoing c }) active refl
-      (λ f under. back_underway s f job.place row.place tx c tx.undo tx.held refl runs row.same (ap is_call_asked asked) (λ are. are) tt under)
+      active_row row.place tx (record tx { phase = Undoing c }) active refl (asked_same s job row.place row.same)
+      (λ f under. back_underway s f job.place row.place (asked_at s job) tx c tx.undo tx.held refl runs row.same (ap is_call_asked asked) (λ are. are) tt under)
       (ap (λ (n : Moment). n.journal) row.behind) (ap (λ (n : Moment). n.jobs) row.behind)
 
   -- it is told to wait
@@ -188,34 +203,36 @@ module _ (s : Setting) (at : ℕ) (old new : Moment) (job : JobView) (b : Before
       (ap (λ (n : Moment). n.jobs) row.behind)
       (story_goes_on s b.lasts old.journal old.jobs at job (asked_to_wait next) b.there (ap (option_map active_begin) (sym (ap active_in active)))
       (λ f told. waiting_told s (begun_count old) (length old.journal) f next
-      (active_told s (begun_count old) (length old.journal) f job row.place tx tx active (same_underway s f job.place row.place tx runs row.same) told)) b.told)
+      (active_told s (begun_count old) (length old.journal) f job row.place job.handed tx tx active
+      (λ under. subst (λ a. IsUnderway s f row.place a tx) (sym (asked_same s job row.place row.same))
+      (same_underway s f job.place row.place (asked_at s job) tx runs row.same under)) told)) b.told)
 
   -- it is revoked
   revoked_row : (tx : TxView) (m : Mark) → job.doing ≡ Active tx → tx.phase ≡ Running → Revokes (mover s at old job) tx m new → After
   revoked_row tx m active runs row =
-      active_row job.place tx (record tx { phase = Undoing (revoked m) }) active refl
-      (λ f under. back_underway s f job.place job.place tx (revoked m) tx.undo tx.held refl runs
+      active_row job.place tx (record tx { phase = Undoing (revoked m) }) active refl refl
+      (λ f under. back_underway s f job.place job.place (asked_at s job) tx (revoked m) tx.undo tx.held refl runs
       (record { begin = record { block = refl; next = refl; begun = refl }; walk = refl; saved = refl; at = omega arith })
       tt (λ are. are) tt under)
       (ap (λ (n : Moment). n.journal) row) (ap (λ (n : Moment). n.jobs) row)
 
-  commits_row : (tx : TxView) → job.doing ≡ Active tx → tx.phase ≡ Running → asked_at s job.place ≡ ask.Commit → Commits (mover s at old job) tx new → After
+  commits_row : (tx : TxView) → job.doing ≡ Active tx → tx.phase ≡ Running → asked_at s job ≡ ask.Commit → Commits (mover s at old job) tx new → After
   commits_row tx active runs asked row =
-      active_row row.place tx (record tx { phase = Committing }) active refl
-      (λ f under. commits_underway s f job.place row.place tx runs row.same row.settled asked under)
+      active_row row.place tx (record tx { phase = Committing }) active refl (asked_same s job row.place row.same)
+      (λ f under. commits_underway s f job.place row.place (asked_at s job) tx runs row.same row.settled asked under)
       (ap (λ (n : Moment). n.journal) row.behind) (ap (λ (n : Moment). n.jobs) row.behind)
 
-  turned_row : (tx : TxView) → job.doing ≡ Active tx → tx.phase ≡ Running → asked_at s job.place ≡ ask.Abort → TurnsBack (mover s at old job) tx new → After
+  turned_row : (tx : TxView) → job.doing ≡ Active tx → tx.phase ≡ Running → asked_at s job ≡ ask.Abort → TurnsBack (mover s at old job) tx new → After
   turned_row tx active runs asked row =
-      active_row row.place tx (record tx { phase = Undoing cause.Asked }) active refl
-      (λ f under. back_underway s f job.place row.place tx cause.Asked tx.undo tx.held refl runs row.same asked (λ are. are) tt under)
+      active_row row.place tx (record tx { phase = Undoing cause.Asked }) active refl (asked_same s job row.place row.same)
+      (λ f under. back_underway s f job.place row.place (asked_at s job) tx cause.Asked tx.undo tx.held refl runs row.same asked (λ are. are) tt under)
       (ap (λ (n : Moment). n.journal) row.behind) (ap (λ (n : Moment). n.jobs) row.behind)
 
   wants_row : (tx : TxView) → job.doing ≡ Active tx → tx.phase ≡ Running → Wants (mover s at old job) tx new → After
   wants_row tx active runs row =
       let next = wanting tx row.left row.held in
-      active_row row.place tx next active refl
-      (λ f under. back_underway s f job.place row.place tx cause.NoMemory next.undo row.held refl runs row.same tt
+      active_row row.place tx next active refl (asked_same s job row.place row.same)
+      (λ f under. back_underway s f job.place row.place (asked_at s job) tx cause.NoMemory next.undo row.held refl runs row.same tt
       (λ are. record { own = tx.undo.pending; more = row.left; are = are; one = row.one; parts = refl }) tt under)
       (ap (λ (n : Moment). n.journal) row.behind) (ap (λ (n : Moment). n.jobs) row.behind)
 
@@ -223,21 +240,22 @@ module _ (s : Setting) (at : ℕ) (old new : Moment) (job : JobView) (b : Before
       → NextLate (mover s at old job) tx call new → After
   late_row tx call calls active commits some next =
       let row = next_ends s at old job tx new call next in
-      active_row job.place tx (record tx { ends = tx.ends ++ row.end ∷ [] }) active refl
-      (λ f under. ended_underway s f job.place tx row.end commits (left_some tx.late tx.ends call calls some) under) row.journal row.jobs
+      active_row job.place tx (record tx { ends = tx.ends ++ row.end ∷ [] }) active refl refl
+      (λ f under. ended_underway s f job.place (asked_at s job) tx row.end commits (left_some tx.late tx.ends call calls some) under) row.journal row.jobs
 
   tried_row : (tx : TxView) (c : Cause) → job.doing ≡ Active tx → tx.phase ≡ Undoing c → Compensates (mover s at old job) tx new → After
   tried_row tx c active undoes row =
-      active_row job.place tx (record tx { undo = record { pending = row.older; ended = (row.tried, row.end) ∷ tx.undo.ended } }) active refl
-      (λ f under. tried_underway s f job.place tx c row.older row.tried row.end undoes row.newest row.legal under) (ap (λ (n : Moment). n.journal) row.behind)
+      active_row job.place tx (record tx { undo = record { pending = row.older; ended = (row.tried, row.end) ∷ tx.undo.ended } }) active refl refl
+      (λ f under. tried_underway s f job.place (asked_at s job) tx c row.older row.tried row.end undoes row.newest row.legal under)
+      (ap (λ (n : Moment). n.journal) row.behind)
       (ap (λ (n : Moment). n.jobs) row.behind)
 
   -- its block goes back
-  begins_back_row : (tx : TxView) → job.doing ≡ Active tx → tx.phase ≡ Running → asked_at s job.place ≡ ask.Call call.Back
+  begins_back_row : (tx : TxView) → job.doing ≡ Active tx → tx.phase ≡ Running → asked_at s job ≡ ask.Call call.Back
       → BeginsBack (mover s at old job) tx new → After
   begins_back_row tx active runs asked row =
-      active_row row.place tx (record tx { phase = Backing }) active refl
-      (λ f under. begins_back_underway s f job.place row.place tx runs row.same row.settled asked row.opened under)
+      active_row row.place tx (record tx { phase = Backing }) active refl (asked_same s job row.place row.same)
+      (λ f under. begins_back_underway s f job.place row.place (asked_at s job) tx runs row.same row.settled asked row.opened under)
       (ap (λ (n : Moment). n.journal) row.behind) (ap (λ (n : Moment). n.jobs) row.behind)
 
   backs_one_row : (tx : TxView) (kept : SavedView) → job.doing ≡ Active tx → tx.phase ≡ Backing → tx.saved ≡ Some kept
@@ -245,21 +263,22 @@ module _ (s : Setting) (at : ℕ) (old new : Moment) (job : JobView) (b : Before
   backs_one_row tx kept active backs is above row =
       active_row job.place tx
       (record tx { phase = phase_after (length row.older + 1) row.end; undo = record { pending = row.older; ended = (row.tried, row.end) ∷ tx.undo.ended } })
-      active refl
-      (λ f under. backs_one_underway s f job.place tx kept row.older row.tried row.end backs is (grind (arith, above)) row.newest row.legal under)
+      active refl refl
+      (λ f under. backs_one_underway s f job.place (asked_at s job) tx kept row.older row.tried row.end backs is (grind (arith, above)) row.newest
+      row.legal under)
       (ap (λ (n : Moment). n.journal) row.behind) (ap (λ (n : Moment). n.jobs) row.behind)
 
   ends_back_row : (tx : TxView) (kept : SavedView) → job.doing ≡ Active tx → tx.phase ≡ Backing → tx.saved ≡ Some kept
       → nat_lt (length kept.trail) (length tx.undo.pending) ≡ false → EndsBack (mover s at old job) tx kept new → After
   ends_back_row tx kept active backs is few row =
-      active_row row.place tx (backed tx kept) active refl
-      (λ f under. ends_back_underway (mover s at old job) f tx kept new backs is (grind (arith, few)) row under)
+      moved_row row.place None tx (backed tx kept) active refl
+      (λ f under. ends_back_underway (mover s at old job) f tx kept new _ (unasked row.place) backs is (grind (arith, few)) row under)
       (ap (λ (n : Moment). n.journal) row.behind) (ap (λ (n : Moment). n.jobs) row.behind)
 
   cut_row : (tx : TxView) (m : Mark) → job.doing ≡ Active tx → tx.phase ≡ Backing → Revokes (mover s at old job) tx m new → After
   cut_row tx m active backs row =
-      active_row job.place tx (record tx { phase = Undoing (revoked m) }) active refl
-      (λ f under. cut_underway s f job.place tx m backs under)
+      active_row job.place tx (record tx { phase = Undoing (revoked m) }) active refl refl
+      (λ f under. cut_underway s f job.place (asked_at s job) tx m backs under)
       (ap (λ (n : Moment). n.journal) row) (ap (λ (n : Moment). n.jobs) row)
 
   block_row : (tx : TxView) (kept : SavedView) (b : Bool) → job.doing ≡ Active tx → tx.phase ≡ Backing → tx.saved ≡ Some kept
@@ -282,20 +301,20 @@ module _ (s : Setting) (at : ℕ) (old new : Moment) (job : JobView) (b : Before
   backing_row tx (Some m) (turn.Busy object holder) active backs row = absurd row
   backing_row tx (Some m) (turn.Ended end) active backs row = absurd row
 
-  made_row : (tx : TxView) (c : Call) → job.doing ≡ Active tx → tx.phase ≡ Running → asked_at s job.place ≡ ask.Call c
+  made_row : (tx : TxView) (c : Call) → job.doing ≡ Active tx → tx.phase ≡ Running → asked_at s job ≡ ask.Call c
       → CalledTurn (mover s at old job) tx c new → After
   made_row tx call.Back active runs asked row = begins_back_row tx active runs asked row
   made_row tx c active runs asked (inl row) = called_row tx c refl active runs asked row
   made_row tx c active runs asked (inr row) = conflict_row tx c active runs asked row
 
-  asked_row : (tx : TxView) (a : Ask) → job.doing ≡ Active tx → tx.phase ≡ Running → asked_at s job.place ≡ a → AskedTurn (mover s at old job) tx a new → After
+  asked_row : (tx : TxView) (a : Ask) → job.doing ≡ Active tx → tx.phase ≡ Running → asked_at s job ≡ a → AskedTurn (mover s at old job) tx a new → After
   asked_row tx (ask.Call c) active runs asked row = made_row tx c active runs asked row
   asked_row tx ask.Commit active runs asked row = commits_row tx active runs asked row
   asked_row tx ask.Abort active runs asked row = turned_row tx active runs asked row
   asked_row tx ask.End active runs asked row = absurd row
 
   running_row : (tx : TxView) (answer : Turn) → job.doing ≡ Active tx → tx.phase ≡ Running → RunningTurn (mover s at old job) tx answer new → After
-  running_row tx turn.Went active is row = asked_row tx (asked_at s job.place) active is refl row
+  running_row tx turn.Went active is row = asked_row tx (asked_at s job) active is refl row
   running_row tx turn.NoMemory active is row = wants_row tx active is row
   running_row tx (turn.Busy object holder) active is row = waits_row tx object holder active is row
   running_row tx (turn.Ended end) active is row = absurd row
@@ -342,20 +361,21 @@ module _ (s : Setting) (at : ℕ) (old new : Moment) (job : JobView) (b : Before
       let e = entry_of tx at (Committed tx.ends) in
       let (f, got) = follows in
       let told = b.told.jobs_told at f job got b.there in
-      let under : IsUnderway s f job.place tx = subst (IsDoing s (begun_count old) f job) active told.doing in
+      let under : IsUnderway s f job.place (asked_at s job) tx = subst (IsDoing s (begun_count old) f job) active told.doing in
       let starter = committed_job s.script f.job tx.calls tx.replies tx.ends in
       let blocks = started_late tx.late tx.ends in
       let gone = committed_told s (begun_count old) (length old.journal) p.entered f job tx active commits (entered-all s.script old.journal) told in
       let variables : (behind_commit job tx).place.variables ≡ starter.variables = ap (λ (place : Position). place.variables) gone.doing.1 in
       enters_as e (slice_set old.jobs at (behind_commit job tx) ++ started_jobs s.script job tx) journal jobs
-      (enters s b.lasts old.journal old.jobs (started_jobs s.script job tx) at job (behind_commit job tx) tx (asked_at s job.place) e f
+      (enters s b.lasts old.journal old.jobs (started_jobs s.script job tx) at job (behind_commit job tx) tx (asked_at s job) e f
       (gone_on s.script p.entered f tx) (started_on s.script p.entered f tx) b.there
       (ap active_in active) refl refl got (commit_leads s.script p f at tx got under.kept.0)
       (length-map blocks (progress_started s.script starter (p.entered + 1)) ∙ sym (length-map blocks (started_job s.script (behind_commit job tx))))
       (started_idle s.script (behind_commit job tx) blocks)
       (started_told s (begun_count old) (length old.journal) p.entered starter (behind_commit job tx) blocks (entered-all s.script old.journal) refl gone.sided
       variables)
-      (commit_true s (length old.words) p f at job.place tx got commits none under (began_by_now tx active) (replies_said tx active)
+      (commit_true s (length old.words) p f at job.place (asked_at s job) tx (asks_scripted s job) got commits none under (began_by_now tx active)
+      (replies_said tx active)
       (starts_told tx active) (λ t. b.played t tx (is_active tx active)))
       gone b.told)
 
@@ -371,15 +391,16 @@ module _ (s : Setting) (at : ℕ) (old new : Moment) (job : JobView) (b : Before
       let e = entry_of tx at (aborted_by c tx) in
       let (f, got) = follows in
       let told = b.told.jobs_told at f job got b.there in
-      let under : IsUnderway s f job.place tx = subst (IsDoing s (begun_count old) f job) active told.doing in
+      let under : IsUnderway s f job.place (asked_at s job) tx = subst (IsDoing s (begun_count old) f job) active told.doing in
       let nil = append-nil (slice_set old.jobs at (behind_abort job tx c)) in
       enters_as e (slice_set old.jobs at (behind_abort job tx c)) journal jobs
-      (subst (λ js. StoriesHoldBut s (b.lasts ++ asked_at s job.place ∷ []) (old.journal ++ e ∷ []) js) nil
-      (enters s b.lasts old.journal old.jobs [] at job (behind_abort job tx c) tx (asked_at s job.place) e f
+      (subst (λ js. StoriesHoldBut s (b.lasts ++ asked_at s job ∷ []) (old.journal ++ e ∷ []) js) nil
+      (enters s b.lasts old.journal old.jobs [] at job (behind_abort job tx c) tx (asked_at s job) e f
       (following_abort p.entered f e c) [] b.there
       (ap active_in active) (behind_abort_none job tx c) refl got
       (abort_leads s.script p f at tx c got ∙ sym (append-nil (slice_set p.jobs at (following_abort p.entered f e c)))) refl tt (λ j g other none. cc none)
-      (abort_true s (length old.words) p f at job.place tx c got undoes none under (began_by_now tx active) (replies_said tx active)
+      (abort_true s (length old.words) p f at job.place (asked_at s job) tx c (asks_scripted s job) got undoes none under (began_by_now tx active)
+      (replies_said tx active)
       (λ t. b.played t tx (is_active tx active)))
       (aborted_told s (begun_count old) (length old.journal) p.entered at f job tx c active (entered-all s.script old.journal) told) b.told))
 
@@ -413,9 +434,9 @@ module _ (s : Setting) (at : ℕ) (old new : Moment) (job : JobView) (b : Before
 pub turn_told : (s : Setting) (at : ℕ) (old new : Moment) (answer : Turn) (lasts : List Ask) → (turned : IsTurn s at old answer new)
     → WordsAgree (progress_of s.script old.journal).words old.words old.jobs
     → (IsTrue s.tells → (tx : TxView) → (is : IsActiveAt old.jobs at tx)
-    → IsPlayedSoFar (asked_at s is.0.place) (length old.words) (progress_of s.script old.journal) at tx)
+    → IsPlayedSoFar (asked_at s is.0) (length old.words) (progress_of s.script old.journal) at tx)
     → AreStarted s.script old → StoriesHoldBut s lasts old.journal old.jobs
-    → StoriesHoldBut s (lasts_behind (asked_at s turned.job.place) old.journal new.journal lasts) new.journal new.jobs
+    → StoriesHoldBut s (lasts_behind (asked_at s turned.job) old.journal new.journal lasts) new.journal new.jobs
 turn_told s at old new answer lasts turned spoken played started told =
     let b : Before s at old turned.job = record {
       there = turned.there;
@@ -431,12 +452,12 @@ turn_told s at old new answer lasts turned spoken played started told =
 pub a_turn_keeps_the_stories_but : (s : Setting) (at : ℕ) (old new : Moment) (answer : Turn) → (turned : IsTurn s at old answer new)
     → WordsAgree (progress_of s.script old.journal).words old.words old.jobs
     → (IsTrue s.tells → (tx : TxView) → (is : IsActiveAt old.jobs at tx)
-    → IsPlayedSoFar (asked_at s is.0.place) (length old.words) (progress_of s.script old.journal) at tx)
+    → IsPlayedSoFar (asked_at s is.0) (length old.words) (progress_of s.script old.journal) at tx)
     → AreStarted s.script old → (told : StoriesHold s (length old.words) old.marks old.journal old.jobs)
-    → AreGrounded (scene_at (reading s (length new.words) new.marks) (lasts_behind (asked_at s turned.job.place) old.journal new.journal told.lasts)
+    → AreGrounded (scene_at (reading s (length new.words) new.marks) (lasts_behind (asked_at s turned.job) old.journal new.journal told.lasts)
     new.journal new.jobs)
     → (now : StoriesHold s (length new.words) new.marks new.journal new.jobs)
-    × (now.lasts ≡ lasts_behind (asked_at s turned.job.place) old.journal new.journal told.lasts)
+    × (now.lasts ≡ lasts_behind (asked_at s turned.job) old.journal new.journal told.lasts)
 a_turn_keeps_the_stories_but s at old new answer turned spoken played started told grounded =
-    told_whole s (length new.words) new.marks (lasts_behind (asked_at s turned.job.place) old.journal new.journal told.lasts) new.journal new.jobs
+    told_whole s (length new.words) new.marks (lasts_behind (asked_at s turned.job) old.journal new.journal told.lasts) new.journal new.jobs
     (turn_told s at old new answer told.lasts turned spoken played started (told_but s (length old.words) old.marks old.journal old.jobs told)) grounded

@@ -17,7 +17,6 @@ use Rattle.xc_data.specs.declared.entry.Turn.TheVariants as turn
 use Rattle.xc_data.specs.declared.undo.Undo.{Undo}
 use Rattle.xc_script.specs.declared.ask.Ask.{Ask}
 use Rattle.xc_script.specs.declared.ask.Ask.TheVariants as ask
-use Rattle.xc_script.specs.Asking.{asks}
 use Rattle.xc_txmem.proofs.Laws.{overlay_count}
 use Rattle.xc_host.specs.Contents.{Contents}
 use Rattle.xc_data.specs.declared.entry.Mark.{Mark}
@@ -44,13 +43,14 @@ use Rattle.xc_model.specs.CommittingRows.{LateTurn}
 use Rattle.xc_model.specs.UndoingRows.{Compensates}
 use Rattle.xc_model.specs.Entering.{started_jobs}
 use Rattle.xc_model.specs.Movers.{mover}
-use Rattle.xc_model.specs.Movers.{asked_at, with_tx}
+use Rattle.xc_model.specs.Movers.{answered_with, asked_at, with_tx}
 use Rattle.xc_model.specs.PlainSteps.{claims_at, noting, wanting}
 use Rattle.xc_model.specs.IdleRows.{beginning_job}
 use Rattle.xc_model.specs.Entering.{behind_commit, behind_abort, entry_of}
 use Rattle.xc_model.specs.LateCalls.{started_late}
 use Rattle.xc_turns.proofs.Grown.{AreIdle, started_idle}
 use Rattle.xc_turns.proofs.LateEnds.{Ends, next_ends}
+use Rattle.xc_model.proofs.Laws.{asked_same}
 use Rattle.std.proofs.Common.{append-nil}
 use Rattle.xc_turns.proofs.Jobs.{behind_abort_none}
 use Rattle.xc_turns.proofs.KindsOfTurns.{HoldsOn, IsNoConflict, cause_on, same, free, meets, Kind, rests, begins, moves, stays}
@@ -125,11 +125,11 @@ module _ (s : Setting) (at : ℕ) (old : Moment) (job : JobView) (new : Moment) 
   starved_kind e _ row = absurd row
 
   module _ (tx : TxView) (active : active_of job ≡ Some tx) where
-    calls_kind : (call : Call) → asked_at s job.place ≡ ask.Call call → Calls (mover s at old job) tx call new → tx.phase ≡ Running
+    calls_kind : (call : Call) → asked_at s job ≡ ask.Call call → Calls (mover s at old job) tx call new → tx.phase ≡ Running
         → old.marks tx.number ≡ None → Kind s at old job new
     calls_kind call asked row e free_of =
         moves (record {
-          behind = with_tx job row.place (noting tx call row.reply (claims_at old tx call) row.parts);
+          behind = answered_with job row.place (noting tx call row.reply (claims_at old tx call) row.parts);
           sets = record { jobs = ap (λ (n : Moment). n.jobs) row.behind; words = ap (λ (n : Moment). length n.words) row.behind };
           journal = ap (λ (n : Moment). n.journal) row.behind;
           was = tx;
@@ -145,7 +145,7 @@ module _ (s : Setting) (at : ℕ) (old : Moment) (job : JobView) (new : Moment) 
           marks = ap (λ (n : Moment). n.marks) row.behind;
         })
 
-    conflict_kind : (call : Call) → asked_at s job.place ≡ ask.Call call → Conflicts (mover s at old job) tx call new → Kind s at old job new
+    conflict_kind : (call : Call) → asked_at s job ≡ ask.Call call → Conflicts (mover s at old job) tx call new → Kind s at old job new
     conflict_kind call asked row =
         let undoing : TxView = record tx { phase = Undoing (cause.Conflict row.object row.holder (length old.journal)) } in
         moves (record {
@@ -160,7 +160,7 @@ module _ (s : Setting) (at : ℕ) (old : Moment) (job : JobView) (new : Moment) 
           rank = refl;
           began = refl;
           held = inl refl;
-          wants = inl (refl, ap asks row.same.walk);
+          wants = inl (refl, asked_same s job row.place row.same);
           marks = ap (λ (n : Moment). n.marks) row.behind;
           why = meets (record {
             call = call;
@@ -170,7 +170,7 @@ module _ (s : Setting) (at : ℕ) (old : Moment) (job : JobView) (new : Moment) 
             met = row.met;
             phase = refl;
             me = refl;
-            still = ap asks row.same.walk;
+            still = asked_same s job row.place row.same;
           });
         })
 
@@ -192,7 +192,7 @@ module _ (s : Setting) (at : ℕ) (old : Moment) (job : JobView) (new : Moment) 
           rank = refl;
           began = refl;
           held = inl refl;
-          wants = inl (refl, ap asks row.same.walk);
+          wants = inl (refl, asked_same s job row.place row.same);
           why = free (no_committing (old.marks tx.number));
           marks = ap (λ (n : Moment). n.marks) row.behind;
         })
@@ -207,7 +207,7 @@ module _ (s : Setting) (at : ℕ) (old : Moment) (job : JobView) (new : Moment) 
           tx = tx;
           before = active;
           after = refl;
-          still = ap asks row.same.walk;
+          still = asked_same s job row.place row.same;
           object = object;
           holder = holder;
           waits = row;
@@ -258,7 +258,7 @@ module _ (s : Setting) (at : ℕ) (old : Moment) (job : JobView) (new : Moment) 
           rank = refl;
           began = refl;
           held = inl refl;
-          wants = inl (refl, ap asks row.same.walk);
+          wants = inl (refl, asked_same s job row.place row.same);
           why = free (unclashed Backing none tt);
           marks = ap (λ (n : Moment). n.marks) row.behind;
         })
@@ -292,7 +292,7 @@ module _ (s : Setting) (at : ℕ) (old : Moment) (job : JobView) (new : Moment) 
     ends_back_kind : (kept : SavedView) → EndsBack (mover s at old job) tx kept new → old.marks tx.number ≡ None → Kind s at old job new
     ends_back_kind kept row none =
         moves (record {
-          behind = with_tx job row.place (backed tx kept);
+          behind = answered_with job row.place (backed tx kept);
           sets = record { jobs = ap (λ (n : Moment). n.jobs) row.behind; words = ap (λ (n : Moment). length n.words) row.behind };
           journal = ap (λ (n : Moment). n.journal) row.behind;
           was = tx;
@@ -362,7 +362,7 @@ module _ (s : Setting) (at : ℕ) (old : Moment) (job : JobView) (new : Moment) 
           rank = refl;
           began = refl;
           held = inl refl;
-          wants = inl (refl, ap asks row.same.walk);
+          wants = inl (refl, asked_same s job row.place row.same);
           why = free (subst IsNoConflict (sym (undoing_is (old.marks tx.number) cause.Asked)) tt);
           marks = ap (λ (n : Moment). n.marks) row.behind;
         })
@@ -387,19 +387,19 @@ module _ (s : Setting) (at : ℕ) (old : Moment) (job : JobView) (new : Moment) 
           number = refl;
           rank = refl;
           began = refl;
-          held = wanting_held (asked_at s job.place) row.left row.held row.holds;
-          wants = inl (refl, ap asks row.same.walk);
+          held = wanting_held (asked_at s job) row.left row.held row.holds;
+          wants = inl (refl, asked_same s job row.place row.same);
           why = free (subst IsNoConflict (sym (undoing_is (old.marks tx.number) cause.NoMemory)) tt);
           marks = ap (λ (n : Moment). n.marks) row.behind;
         })
 
-    called_kind : (c : Call) → asked_at s job.place ≡ ask.Call c → CalledTurn (mover s at old job) tx c new → tx.phase ≡ Running
+    called_kind : (c : Call) → asked_at s job ≡ ask.Call c → CalledTurn (mover s at old job) tx c new → tx.phase ≡ Running
         → old.marks tx.number ≡ None → Kind s at old job new
     called_kind call.Back asked row e free_of = begins_kind row free_of
     called_kind c asked (inl row) e free_of = calls_kind c asked row e free_of
     called_kind c asked (inr row) e free_of = conflict_kind c asked row
 
-    asked_kind : (a : Ask) → asked_at s job.place ≡ a → AskedTurn (mover s at old job) tx a new → tx.phase ≡ Running
+    asked_kind : (a : Ask) → asked_at s job ≡ a → AskedTurn (mover s at old job) tx a new → tx.phase ≡ Running
         → old.marks tx.number ≡ None → Kind s at old job new
     asked_kind (ask.Call call) asked row e free_of = called_kind call asked row e free_of
     asked_kind ask.Commit asked row e free_of = commits_kind row
@@ -408,7 +408,7 @@ module _ (s : Setting) (at : ℕ) (old : Moment) (job : JobView) (new : Moment) 
 
     running_kind : (answer : Turn) → RunningTurn (mover s at old job) tx answer new → tx.phase ≡ Running → old.marks tx.number ≡ None
         → Kind s at old job new
-    running_kind turn.Went row e free_of = asked_kind (asked_at s job.place) refl row e free_of
+    running_kind turn.Went row e free_of = asked_kind (asked_at s job) refl row e free_of
     running_kind (turn.Busy object holder) row e free_of = waits_kind object holder row
     running_kind turn.NoMemory row e free_of = wants_kind row
     running_kind _ row e free_of = absurd row

@@ -36,7 +36,7 @@ use Rattle.xc_model.specs.IdleRows.{IsWaiting}
 use Rattle.xc_model.specs.CommittingRows.{LateTurn}
 use Rattle.xc_model.specs.Rows.{TurnOf}
 use Rattle.xc_model.specs.RunningRows.{Waits, mark_behind}
-use Rattle.xc_model.specs.Movers.{asked_at, with_tx}
+use Rattle.xc_model.specs.Movers.{answered_with, asked_at, with_tx}
 use Rattle.xc_model.specs.IdleRows.{beginning_job}
 use Rattle.xc_model.specs.Entering.{behind_abort, behind_commit, entry_of}
 use Rattle.xc_model.specs.Waiting.{CountsOn, IsMarkedBy, MayWait, WaitsFor, has_active}
@@ -196,7 +196,7 @@ module _ (s : Setting) (at : ℕ) (old new : Moment) (job : JobView) (stands : s
 
   running_made : (number : ℕ) (m : Mark) → new.marks number ≡ Some m → (tx : TxView) → job.doing ≡ Active tx → tx.phase ≡ Running → (answer : Turn)
       → RunningTurn (mover s at old job) tx answer new → Made answer number m
-  running_made number m has tx is e turn.Went row = asked_made turn.Went number m has tx (asked_at s job.place) row
+  running_made number m has tx is e turn.Went row = asked_made turn.Went number m has tx (asked_at s job) row
   running_made number m has tx is e (turn.Busy object holder) row = one_mark object holder number m tx is e row has
   running_made number m has tx is e turn.NoMemory row = same_marks turn.NoMemory number m (ap (λ (n : Moment). n.marks) row.behind) has
   running_made number m has tx is e (turn.Ended end) row = absurd row
@@ -271,6 +271,9 @@ module _ (s : Setting) (at : ℕ) (old new : Moment) (job : JobView) where
     goes : (place : Position) (next : TxView) → new.jobs ≡ slice_set old.jobs at (with_tx job place next) → Changed answer
     goes place next jobs = stays_so answer (with_tx job place next) jobs refl (sym has)
 
+    answered : (place : Position) (next : TxView) → new.jobs ≡ slice_set old.jobs at (answered_with job place next) → Changed answer
+    answered place next jobs = stays_so answer (answered_with job place next) jobs refl (sym has)
+
     enters_so : (behind : JobView) (e : Entry) (contents : Contents) (kept : List KeptItem) (jobs more : List JobView)
         → new ≡ record (entering old at behind e) { contents = contents; kept = kept; jobs = jobs } → jobs ≡ slice_set old.jobs at behind ++ more
         → behind.busy ≡ 0 → active_of behind ≡ None → Changed answer
@@ -279,12 +282,12 @@ module _ (s : Setting) (at : ℕ) (old new : Moment) (job : JobView) where
 
     called_so : (c : Call) → CalledTurn (mover s at old job) tx c new → Changed answer
     called_so call.Back row = goes row.place _ (ap (λ (n : Moment). n.jobs) row.behind)
-    called_so c (inl row) = goes row.place _ (ap (λ (n : Moment). n.jobs) row.behind)
+    called_so c (inl row) = answered row.place _ (ap (λ (n : Moment). n.jobs) row.behind)
     called_so c (inr row) = goes row.place _ (ap (λ (n : Moment). n.jobs) row.behind)
 
     one_so : (kept : SavedView) (b : Bool) → BackingRow (mover s at old job) tx kept b new → Changed answer
     one_so kept true row = goes job.place _ (ap (λ (n : Moment). n.jobs) row.behind)
-    one_so kept false row = goes row.place _ (ap (λ (n : Moment). n.jobs) row.behind)
+    one_so kept false row = answered row.place _ (ap (λ (n : Moment). n.jobs) row.behind)
 
     open_so : (k : Option SavedView) → OpenRow (mover s at old job) tx k new → Changed answer
     open_so None row = absurd row
@@ -316,7 +319,7 @@ module _ (s : Setting) (at : ℕ) (old new : Moment) (job : JobView) where
     back_so c (u ∷ pending) row = goes job.place _ (ap (λ (n : Moment). n.jobs) row.behind)
 
   running_so : (tx : TxView) → job.doing ≡ Active tx → (answer : Turn) → RunningTurn (mover s at old job) tx answer new → Changed answer
-  running_so tx is turn.Went row = asked_so turn.Went tx is (asked_at s job.place) row
+  running_so tx is turn.Went row = asked_so turn.Went tx is (asked_at s job) row
   running_so tx is turn.NoMemory row = goes turn.NoMemory tx is row.place _ (ap (λ (n : Moment). n.jobs) row.behind)
   running_so tx is (turn.Busy object number) w = told_so object number (asked_to_wait (with_tx job w.place tx)) (ap (λ (n : Moment). n.jobs) w.behind)
   running_so tx is (turn.Ended end) row = absurd row

@@ -12,6 +12,7 @@ use Rattle.xc_model.specs.Course.{Course, Standing, opening_course}
 use Rattle.xc_model.specs.Grounds.{Part, AreGrounded, scene_of}
 use Rattle.xc_model.specs.Joint.{AreTrue, IsAskedFor, IsEntry, IsJointJournal, IsPlayedOutcome, IsTrueEntry, entry_parts}
 use Rattle.xc_model.specs.Joint.{part_of, parts_from}
+use Rattle.xc_model.specs.Live.{IsScripted}
 use Rattle.xc_model.specs.Machine.{AreMachineTrue, HasLates, HasRecordsOf, IsEndAsked, IsMachineEntry, IsMachineTrue}
 use Rattle.xc_model.specs.Machine.{machine_parts}
 use Rattle.xc_model.specs.Progress.{Following, Progress, after_entry, following_of, opening_progress}
@@ -79,7 +80,7 @@ asked_entry s p last e one =
     record {
       asking = script_job_in one.following;
       started = script_job_there p e ∙ ap (option_map script_job_in) one.started;
-      asked = record { left = h.story.left; calls = h.story.calls; after = h.story.after };
+      asked = record { left = h.story.left; scripted = h.story.scripted };
       starts = subst (λ blocks. StartsJobs s.script blocks e e.outcome) (sym (blocks_same p)) h.starts;
     }
 
@@ -121,26 +122,26 @@ parts_same s lasts journal =
 
 -- ---- the script's own list
 -- what it asked last of an entry is what it asks
-last_is : (s : Setting) (p : Progress) (last : Ask) (e : Entry) → IsTrueEntry s p last e
+last_is : (s : Setting) (p : Progress) (last : Ask) (e : Entry) → IsScripted s.script → IsTrueEntry s p last e
     → last ≡ last_asked s.script (script_job_of (jobs_in p) e) e.replies
-last_is s p last e one =
-    one.entry.story.after
+last_is s p last e own one =
+    (one.entry.story.scripted own).after
     ∙ ap (λ o. last_asked s.script o e.replies) (sym (script_job_there p e ∙ ap (option_map script_job_in) one.started))
 
-lasts_are_from : (s : Setting) (p : Progress) (lasts : List Ask) (journal : List Entry) → AreTrue s p lasts journal
+lasts_are_from : (s : Setting) (p : Progress) (lasts : List Ask) (journal : List Entry) → IsScripted s.script → AreTrue s p lasts journal
     → lasts ≡ lasts_from s.script (jobs_in p) journal
-lasts_are_from s p lasts [] h = h
-lasts_are_from s p [] (e ∷ journal) h = absurd h
-lasts_are_from s p (last ∷ lasts) (e ∷ journal) h =
+lasts_are_from s p lasts [] own h = h
+lasts_are_from s p [] (e ∷ journal) own h = absurd h
+lasts_are_from s p (last ∷ lasts) (e ∷ journal) own h =
     let after = after_entry s.script p e in
-    ap₂ (λ (x : Ask) (xs : List Ask). x ∷ xs) (last_is s p last e h.0)
-    (lasts_are_from s after lasts journal h.1 ∙ ap (λ (js : List ScriptJob). lasts_from s.script js journal) (jobs_more s.script p e))
+    ap₂ (λ (x : Ask) (xs : List Ask). x ∷ xs) (last_is s p last e own h.0)
+    (lasts_are_from s after lasts journal own h.1 ∙ ap (λ (js : List ScriptJob). lasts_from s.script js journal) (jobs_more s.script p e))
 
 -- so of a true journal there is one list
-pub lasts_are : (s : Setting) (lasts : List Ask) (journal : List Entry) → AreTrue s (opening_progress s.script) lasts journal
+pub lasts_are : (s : Setting) (lasts : List Ask) (journal : List Entry) → IsScripted s.script → AreTrue s (opening_progress s.script) lasts journal
     → lasts ≡ lasts_of s.script journal
-lasts_are s lasts journal h =
-    lasts_are_from s (opening_progress s.script) lasts journal h
+lasts_are s lasts journal own h =
+    lasts_are_from s (opening_progress s.script) lasts journal own h
     ∙ ap (λ (js : List ScriptJob). lasts_from s.script js journal) (jobs_opened s.script)
 
 -- a journal that is true of both at once has both parts
@@ -182,8 +183,7 @@ entry_back s p f last e m a starts =
         began = m.numbers.began;
         rank = m.story.rank;
         failures = m.story.failures;
-        calls = a.calls;
-        after = a.after;
+        scripted = a.scripted;
         asked = asked_back s p e last e.outcome m.asked m.lates m.records;
         faults = m.replies.faults;
       };

@@ -141,12 +141,16 @@ module _ (s : Setting) (at : ℕ) (old : Moment) (job : JobView) (new : Moment) 
     said = h.each at tx (job, stands, active)
 
     -- from one that doesn't commit to one that doesn't
-    goes_on : (place : Position) (tx' : TxView) → (tx.phase ≡ Committing → ⊥) → (tx'.phase ≡ Committing → ⊥) → TxWordsAgree before tx'
-        → KeepsWords s (with_job old at (with_tx job place tx'))
-    goes_on place tx' was now sp =
-        let job' = with_tx job place tx' in
+    moves_on : (place : Position) (handed : Option Ask) (tx' : TxView) → (tx.phase ≡ Committing → ⊥) → (tx'.phase ≡ Committing → ⊥) → TxWordsAgree before tx'
+        → KeepsWords s (with_job old at (record job { place = place; handed = handed; doing = Active tx' }))
+    moves_on place handed tx' was now sp =
+        let job' : JobView = record job { place = place; handed = handed; doing = Active tx' } in
         quiet_turn before old.words old.jobs at job stands h job' (active_quiet job tx active was) (active_quiet job' tx' refl now)
         (active_speaks before job' tx' refl sp)
+
+    goes_on : (place : Position) (tx' : TxView) → (tx.phase ≡ Committing → ⊥) → (tx'.phase ≡ Committing → ⊥) → TxWordsAgree before tx'
+        → KeepsWords s (with_job old at (with_tx job place tx'))
+    goes_on place tx' was now sp = moves_on place job.handed tx' was now sp
 
     -- it goes over to another phase, or one of its records is tried
     phased : (place : Position) (phase : Phase) (undo : Records) → (tx.phase ≡ Committing → ⊥) → (phase ≡ Committing → ⊥)
@@ -163,7 +167,7 @@ module _ (s : Setting) (at : ℕ) (old : Moment) (job : JobView) (new : Moment) 
     call_kept call ahead runs row =
         let tx' = noting tx call row.reply (claims_at old tx call) row.parts in
         kept_words s old new _ (ap (λ (n : Moment). n.jobs) row.behind) (ap (λ (n : Moment). n.words) row.behind) (ap (λ (n : Moment). n.journal) row.behind)
-        (goes_on row.place tx' (running_is_none tx.phase runs) (running_is_none tx'.phase runs)
+        (moves_on row.place None tx' (running_is_none tx.phase runs) (running_is_none tx'.phase runs)
         (called_spoken before old.words old.jobs at job tx stands active runs h call row.reply row.parts ahead row.free row.stores row.spoken))
 
     conflict_kept : (call : Call) → tx.phase ≡ Running → Conflicts (mover s at old job) tx call new → KeepsWords s new
@@ -217,8 +221,8 @@ module _ (s : Setting) (at : ℕ) (old : Moment) (job : JobView) (new : Moment) 
         (turned_spoken before tx cause.NoMemory row.held (held_still a row.left row.held holds) (owned_still a row.left row.held holds) said)))
 
     by_running : tx.phase ≡ Running → (answer : Turn) → RunningTurn (mover s at old job) tx answer new → KeepsWords s new
-    by_running runs turn.Went row = by_ask runs (asked_at s job.place) row
-    by_running runs turn.NoMemory row = want_kept (asked_at s job.place) runs row row.holds
+    by_running runs turn.Went row = by_ask runs (asked_at s job) row
+    by_running runs turn.NoMemory row = want_kept (asked_at s job) runs row row.holds
     by_running runs (turn.Busy object holder) row =
         let job' = asked_to_wait (with_tx job row.place tx) in
         kept_words s old new _ (ap (λ (n : Moment). n.jobs) row.behind) (ap (λ (n : Moment). n.words) row.behind) (ap (λ (n : Moment). n.journal) row.behind)
@@ -242,7 +246,7 @@ module _ (s : Setting) (at : ℕ) (old : Moment) (job : JobView) (new : Moment) 
     ends_kept : (kept : SavedView) → tx.phase ≡ Backing → tx.saved ≡ Some kept → EndsBack (mover s at old job) tx kept new → KeepsWords s new
     ends_kept kept backs opened row =
         kept_words s old new _ (ap (λ (n : Moment). n.jobs) row.behind) (ap (λ (n : Moment). n.words) row.behind) (ap (λ (n : Moment). n.journal) row.behind)
-        (goes_on row.place (backed tx kept) (backing_is_none tx.phase backs) (running_is_none Running refl)
+        (moves_on row.place None (backed tx kept) (backing_is_none tx.phase backs) (running_is_none Running refl)
         (backed_spoken before tx kept (backing_waits tx.phase backs) opened said))
 
     by_block : (kept : SavedView) → tx.phase ≡ Backing → tx.saved ≡ Some kept → (b : Bool) → BackingRow (mover s at old job) tx kept b new → KeepsWords s new

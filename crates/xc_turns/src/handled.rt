@@ -14,5 +14,5 @@ ghost use Rattle.xc_model.specs.Handling.{HandlesAgree};
 pub fn a_turn_keeps_the_handles()
     ensures { (s : Setting) (at : ℕ) (old new : Moment) (answer : Turn) (lasts : List Ask) → (turned : IsTurn s at old answer new)
         → StoriesHold s (length old.words) old.marks old.journal old.jobs → HandlesAgree s lasts old.journal old.jobs old.calls
-        → HandlesAgree s (lasts_behind (asked_at s turned.job.place) old.journal new.journal lasts) new.journal new.jobs new.calls }
+        → HandlesAgree s (lasts_behind (asked_at s turned.job) old.journal new.journal lasts) new.journal new.jobs new.calls }
 {}

@@ -2,6 +2,7 @@
 #![tactic(auto)]
 
 pub mod alone;
+pub mod clients;
 pub mod counted;
 pub mod endings;
 pub mod growing;

@@ -25,10 +25,10 @@ pub fn a_turn_keeps_the_stories()
     ensures { (s : Setting) (at : ℕ) (old new : Moment) (answer : Turn) → (turned : IsTurn s at old answer new)
         → WordsAgree (progress_of s.script old.journal).words old.words old.jobs
         → (IsTrue s.tells → (tx : TxView) → (is : IsActiveAt old.jobs at tx)
-        → IsPlayedSoFar (asked_at s is.0.place) (length old.words) (progress_of s.script old.journal) at tx)
+        → IsPlayedSoFar (asked_at s is.0) (length old.words) (progress_of s.script old.journal) at tx)
         → AreStarted s.script old → (told : StoriesHold s (length old.words) old.marks old.journal old.jobs)
         → (now : StoriesHold s (length new.words) new.marks new.journal new.jobs)
-        × (now.lasts ≡ lasts_behind (asked_at s turned.job.place) old.journal new.journal told.lasts) }
+        × (now.lasts ≡ lasts_behind (asked_at s turned.job) old.journal new.journal told.lasts) }
 {}
 
 /// What enters in a turn was an attempt that was left.

@@ -1,5 +1,6 @@
 ghost use Rattle.std.specs.Prelude.{◌≡◌, ◌<◌, ◌≤◌, ◌-◌, ℕ, length, None, true, false};
 ghost use Rattle.std.specs.Prelude.{IsNone, MatchOption, Some};
+ghost use Rattle.xc_model.specs.Live.{IsScripted};
 ghost use Rattle.xc_model.specs.Measure.{turns_left};
 ghost use Rattle.xc_model.specs.Rows.{IsTurn};
 ghost use Rattle.xc_data.specs.declared.entry.Event.TheVariants.{Turned, Picked, Looked};
@@ -10,8 +11,9 @@ ghost use Rattle.xc_station.specs.Stations.{live_at, now_of, setting_of};
 ghost use Rattle.xc_station.specs.Events.{with_event};
 
 use crate::Station;
-use xc_data::{Event, Turn};
+use xc_data::{Entry, Event, Turn};
 use xc_host::Host;
+use xc_model::Origin;
 use xc_turnstile::Chronicle;
 
 impl<H: Host> Station<H> {
@@ -43,7 +45,7 @@ impl<H: Host> Station<H> {
         ensures same { KeepsOpening self.old self.new }
         ensures changes { ChangesOne (job - 1) (now_of H.model self.old) (now_of H.model self.new) }
         ensures row { IsTurn (setting_of H.model self.old) (job - 1) (now_of H.model self.old) result (now_of H.model self.new) }
-        ensures falls { turns_left (setting_of H.model self.new) (now_of H.model self.new)
+        ensures falls { IsScripted self.old.opening.script → turns_left (setting_of H.model self.new) (now_of H.model self.new)
             < turns_left (setting_of H.model self.old) (now_of H.model self.old) }
         ensures event { IsEvent self.old self.new (Turned job (Some result)) }
 
@@ -99,7 +101,13 @@ impl<H: Host> Station<H> {
 }
 
 impl<H: Host> Chronicle for Station<H> {
-    ghost use Rattle.xc_station.specs.Events.{meaning_of};
+    type Entry = Entry;
+
+    type Event = Event;
+
+    type Origin = Origin;
+
+    ghost use Rattle.xc_station.specs.Passes.{meaning_of};
 
     ghost meaning = { meaning_of };
 

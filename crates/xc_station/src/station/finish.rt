@@ -7,6 +7,7 @@ ghost use Rattle.xc_host.specs.Kept.{with_kept};
 ghost use Rattle.xc_host.specs.Model.{plan_of};
 ghost use Rattle.xc_model.specs.Ending.{IsTrueEnd};
 ghost use Rattle.xc_model.specs.Handles.{AreCalled};
+ghost use Rattle.xc_model.specs.Live.{IsScripted};
 ghost use Rattle.xc_model.specs.Consistent.{AreLinesOf, IsLineOf};
 ghost use Rattle.xc_model.specs.Setting.{setting};
 ghost use Rattle.xc_station.specs.declared.job.Job.{Job as PlainJob};
@@ -64,8 +65,8 @@ impl<H: Host> Station<H> {
         // The host's count rose by the faults that are recorded, and stayed where none is.
         ensures faults { RisesBy (sum_by entry_faults result.journal.items) self.opening.faults (H.model.fault_count result.host) }
 
-        // Since its opening the host was called by the entries, as often as they say, and by nothing else.
-        ensures calls { AreCalled self.opening.script result.journal.items (H.model.calls result.host) }
+        // Since its opening the host was called by the entries of a script, as often as they say, and by nothing else.
+        ensures calls { IsScripted self.opening.script → AreCalled self.opening.script result.journal.items (H.model.calls result.host) }
 
         // It followed the script's own faults and grain to the end.
         ensures plan { H.model.plan result.host ≡ plan_of result.opening.script.outline.prologue }

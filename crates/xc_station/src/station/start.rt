@@ -51,6 +51,7 @@ fn opened_job(
         place: JobState::new(alloc, script, place)?,
         attempts: None,
         busy: 0,
+        handed: None,
         activity: Activity::Idle,
         tx: Tx::new(alloc, me)?,
         children: Vec::new(alloc),

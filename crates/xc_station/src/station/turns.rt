@@ -1,5 +1,6 @@
 ghost use Rattle.std.specs.Prelude.{◌≡◌, ◌<◌, ◌-◌, ◌+◌, slice_get, None, true};
 ghost use Rattle.std.specs.Prelude.{Some};
+ghost use Rattle.xc_model.specs.Live.{IsScripted};
 ghost use Rattle.xc_model.specs.Measure.{turns_left};
 ghost use Rattle.xc_model.specs.Rows.{IsTurn};
 ghost use Rattle.xc_model.specs.Moment.{TxView, Active, late_left};
@@ -217,7 +218,7 @@ impl<H: Host> Station<H> {
         ensures changes { ChangesOne (job - 1) (now_of H.model self.old) (now_of H.model self.new) }
         ensures quiet { KeepsEvents self.old self.new }
         ensures row { IsTurn (setting_of H.model self.old) (job - 1) (now_of H.model self.old) result (now_of H.model self.new) }
-        ensures falls { turns_left (setting_of H.model self.new) (now_of H.model self.new)
+        ensures falls { IsScripted self.old.opening.script → turns_left (setting_of H.model self.new) (now_of H.model self.new)
             < turns_left (setting_of H.model self.old) (now_of H.model self.old) }
     {
         let at = job as usize - 1;

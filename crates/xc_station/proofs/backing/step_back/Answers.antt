@@ -1,4 +1,7 @@
-use Rattle.std.proofs.Common.{arith, refl}
+use Rattle.std.proofs.Common.{Bool, IsTrue, ap, arith, refl, subst, sym, ◌∙◌}
+use Rattle.xc_model.specs.Live.{asked_by}
+use Rattle.xc_script.specs.declared.ask.Ask.{Ask}
+use Rattle.xc_script.specs.Position.{is_call_asked}
 use Rattle.xc_station.specs.declared.calls.Shared.{Shared}
 use Rattle.xc_station.proofs.StepsBack.{ended_open, ended_returns, few, its_save, tried_open, tried_returns}
 use Rattle.xc_station.proofs.backing.step_back.Goals as goal
@@ -49,3 +52,8 @@ returns-else-mark-left-clause-row g c now at here =
     shared' c.end_back.new.place c.end_back.new.tx c.end_back.ensures.begun (omega (arith, mark, left, more)) (c.end_back.ensures.tx save.0 save.1)
     refl refl refl now at c.end_back.ensures.begin c.end_back.ensures.walk c.end_back.ensures.closed c.end_back.ensures.nearer
     (c.end_back.ensures.given save.0 save.1) (c.end_back.ensures.among save.0 save.1) here
+
+pub end_back-requires-clause-asked : goal.end_back-requires-clause-asked
+end_back-requires-clause-asked g c own =
+    subst (λ (a : Ask). IsTrue (is_call_asked a))
+    (sym (ap (λ (b : Bool). asked_by b c.args.script.now c.args.job.now.handed c.args.job.now.place) (sym own) ∙ c.requires.can.asked)) refl

@@ -1,5 +1,7 @@
-use Rattle.std.proofs.Common.{ap, sym, ◌∙◌}
+use Rattle.std.proofs.Common.{IsTrue, ap, refl, subst, sym, ◌∙◌}
 use Rattle.std.specs.Prelude.{is_err}
+use Rattle.xc_script.specs.declared.ask.Ask.{Ask}
+use Rattle.xc_script.specs.Position.{is_call_asked}
 use Rattle.xc_station.specs.Acting.{acting}
 use Rattle.xc_station.proofs.DoingsBlocks.{block_acted, saved_plain}
 use Rattle.xc_station.proofs.DoingsStarved.{unanswered, unanswered_so, wants_value}
@@ -35,3 +37,6 @@ returns-then-not-is_on_words-clause-saved g c =
     c.requires.save
     ∙ sym (saved_plain c.args.call.now (tx_view c.args.tx.now).saved (copied (tx_view c.do_host_call.new.tx)) (sym c.if-is_block_end.ensures)
     c.requires.ahead))
+
+pub answer-requires-clause-asked : goal.answer-requires-clause-asked
+answer-requires-clause-asked g c own = subst (λ (a : Ask). IsTrue (is_call_asked a)) (sym (c.requires.asked own)) refl

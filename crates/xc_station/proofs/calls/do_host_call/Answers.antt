@@ -1,9 +1,11 @@
-use Rattle.std.proofs.Common.{◌≡◌, ap, subst, sym, ◌∙◌, length, arith}
+use Rattle.std.proofs.Common.{◌≡◌, IsTrue, ap, refl, subst, sym, ◌∙◌, length, arith}
 use Rattle.std.specs.Prelude.{Contains, Ok}
 use Rattle.xc_data.specs.declared.private.Private.{Private}
 use Rattle.xc_model.specs.Moment.{TxView}
 use Rattle.xc_world.specs.After.{IsMeAfter}
 use Rattle.xc_world.specs.Run.{given_back}
+use Rattle.xc_script.specs.declared.ask.Ask.{Ask}
+use Rattle.xc_script.specs.Position.{is_call_asked}
 use Rattle.xc_station.specs.Acting.{acting, in_no_block, HasActedAsPlain, HasDoneAsPlain, LeavesOff}
 use Rattle.xc_station.specs.Lent.{Lent, StaysBacked}
 use Rattle.xc_station.specs.PutBack.{place_before}
@@ -113,3 +115,6 @@ returns-clause-acted g c =
     (record (acting c.args.host.now c.args.buffers.now.kept c.args.words.now c.args.tx.now) { tx = t })
     (acting c.act.new.host c.act.new.buffers.kept c.args.words.now c.act.new.tx) (Ok c.in_ok-reply.reply)) (ap in_no_block c.keep.ensures.tx)
     c.in_ok-reply.ensures.acted
+
+pub answer-requires-clause-asked : goal.answer-requires-clause-asked
+answer-requires-clause-asked g c own = subst (λ (a : Ask). IsTrue (is_call_asked a)) (sym (c.requires.asked own)) refl

@@ -15,4 +15,4 @@ returns c tx does =
     let same = handed_same c.args.script.now job.place.variables (kept_calls tx.calls tx.replies) tx.ends in
     let me = c.in_ok-new.ensures ∙ ap (λ (m : Private). beginning m.places) c.deref.ensures ∙ ap (λ (t : TxView). beginning t.me.places) one in
     let place = c.in_ok-child.ensures ∙ (λ i. at_begin (record { block = c.requires i; next = 0; variables = same i })) in
-    λ i. record { block = c.args.block; me = me i; place = place i; attempts = None; busy = 0; doing = Idle }
+    λ i. record { block = c.args.block; me = me i; place = place i; attempts = None; busy = 0; handed = None; doing = Idle }

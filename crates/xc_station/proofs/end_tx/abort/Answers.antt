@@ -6,6 +6,7 @@ use Rattle.xc_station.specs.Moments.{Frees}
 use Rattle.xc_station.proofs.Closed.{its_active, same_cause, abort_behind, abort_entry}
 use Rattle.xc_station.proofs.end_tx.abort.Goals as goal
 use Rattle.std.specs.Prelude.{Contains}
+use Rattle.std.specs.declared.option.Option.TheVariants.{None}
 use Rattle.xc_world.specs.Run.{given_back}
 use Rattle.xc_station.specs.Lent.{notes_in}
 
@@ -25,7 +26,7 @@ returns-clause-entry g c tx cause at is phase number =
     let job = c.args.job.now in
     let same : tx_view job.tx ≡ tx = its_active job tx is in
     let caused = same_cause _ _ (sym c.cause_of-cause.ensures ∙ ap (λ (t : TxView). t.phase) same ∙ phase) in (
-      abort_behind (job_view job) _ _ tx _ _ (λ i. record (job_view job) { me = c.close-entry.ensures.begun i; busy = 0; doing = Idle }) caused
+      abort_behind (job_view job) _ _ tx _ _ (λ i. record (job_view job) { me = c.close-entry.ensures.begun i; handed = None; busy = 0; doing = Idle }) caused
           (c.go_back.ensures.back tx (sym (ap (λ (t : TxView). t.rank) same))),
       c.close-entry.ensures.entry at number ∙ abort_entry _ _ at _ same phase,
     )

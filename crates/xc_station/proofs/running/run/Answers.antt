@@ -4,15 +4,16 @@ use Rattle.xc_sentinel.specs.Seating.{seat_in}
 use Rattle.xc_locks.specs.Table.{Holds}
 use Rattle.xc_model.specs.Setting.{setting}
 use Rattle.xc_model.specs.Moment.{TxView, JobView}
-use Rattle.xc_model.specs.Movers.{with_tx, mover}
+use Rattle.xc_model.specs.Movers.{mover}
 use Rattle.xc_data.specs.declared.entry.Turn.{Turn}
 use Rattle.xc_station.specs.declared.calls.Shared.{Shared}
+use Rattle.xc_station.specs.Handed.{handed_tx}
 use Rattle.xc_station.specs.Jobs.{job_view, tx_view}
 use Rattle.xc_station.specs.Moments.{HasNeeds, IsRunningRow, busy_counted, moved, runs, seated_as}
 use Rattle.xc_station.specs.Backs.{CanGoBack}
 use Rattle.xc_station.specs.Moments as moments
 use Rattle.xc_station.specs.declared.tx.Tx.{Tx}
-use Rattle.xc_station.proofs.Closed.{counted_doing, moves_on, active_with_job, its_active, active_again}
+use Rattle.xc_station.proofs.Closed.{counted_doing, moves_handed, moves_on, active_with_job, its_active, active_again}
 use Rattle.xc_station.proofs.RowsMarked.{gone_row, its_rank, revoked_row}
 use Rattle.xc_station.proofs.running.run.Goals as goal
 use Rattle.xc_station.proofs.Lending.{lends_from, lends_still}
@@ -54,16 +55,17 @@ returns-clause-row g c now at here journal =
     let doing = active_with_job job was.tx was.doing in
     let running : runs job.tx.phase ≡ true = ap (λ (t : TxView). runs t.phase) (its_active job was.tx was.doing) ∙ ap runs was.may.running in
     let answer = c.step_running-answer.result in
-    let gone = busy_counted answer (with_tx (job_view job) c.step_running-answer.new.place (tx_view new)) in
+    let gone = busy_counted answer (handed_tx (job_view job) c.step_running-answer.new.handed c.step_running-answer.new.place (tx_view new)) in
     let behind : gone ≡ job_view c.count_wait.new.job =
-    ap (busy_counted answer) (moves_on job was.tx c.step_running-answer.new.place new was.doing c.step_running-answer.ensures.begun)
+    ap (busy_counted answer)
+    (moves_handed job was.tx c.step_running-answer.new.handed c.step_running-answer.new.place new was.doing c.step_running-answer.ensures.begun)
     ∙ sym c.count_wait.ensures.counted in
     subst (λ (j : JobView). IsRunningRow (mover s at now (job_view job)) (moved model shared' j now at) answer c.settle-2.new.sentinels) behind
     (gone_row model s c.args.shared.now now at (job_view job) (tx_view job.tx) here doing shared' mid gone answer
     (sym (ap option_copied c.in_default.is) ∙ c.doomed.ensures)
-    (c.step_running-answer.ensures.row c.args.rules.now now at (job_view job) here doing refl (record { patience = refl; entered = journal }))
+    (c.step_running-answer.ensures.row c.args.rules.now now at (job_view job) here doing refl refl (record { patience = refl; entered = journal }))
     refl refl c.settle-2.ensures.claims c.settle-2.ensures.marks c.step_running-answer.ensures.seats running (tx_view new)
-    (counted_doing answer (with_tx (job_view job) c.step_running-answer.new.place (tx_view new)))
+    (counted_doing answer (handed_tx (job_view job) c.step_running-answer.new.handed c.step_running-answer.new.place (tx_view new)))
     c.settle-2.ensures.others c.settle-2.ensures.own)
 
 pub returns-in-Some-clause-lends : goal.returns-in-Some-clause-lends
@@ -79,10 +81,10 @@ pub returns-clause-lends : goal.returns-clause-lends
 returns-clause-lends g c tx is =
     let job = c.args.job.now in
     let new = c.step_running-answer.new.tx in
-    let gone = with_tx (job_view job) c.step_running-answer.new.place (tx_view new) in (
+    let gone = handed_tx (job_view job) c.step_running-answer.new.handed c.step_running-answer.new.place (tx_view new) in (
       tx_view new,
       ap (λ (j : JobView). j.doing) (c.count_wait.ensures.counted ∙ ap (busy_counted c.step_running-answer.result)
-          (sym (moves_on job tx c.step_running-answer.new.place new is c.step_running-answer.ensures.begun)))
+          (sym (moves_handed job tx c.step_running-answer.new.handed c.step_running-answer.new.place new is c.step_running-answer.ensures.begun)))
           ∙ counted_doing c.step_running-answer.result gone,
       lends_from g.H.Host.model _ (record { old = tx_view job.tx; new = tx_view new }) tx (tx_view new)
           (sym (ap (λ (t : TxView). t.taken) (its_active job tx is))) refl c.step_running-answer.ensures.lends,

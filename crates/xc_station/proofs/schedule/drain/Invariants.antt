@@ -1,4 +1,5 @@
 use Rattle.std.proofs.Common.{ℕ}
+use Rattle.xc_model.specs.Live.{IsScripted}
 use Rattle.xc_station.specs.Stations.{GoesOn, TakeRounds, turns_of}
 use Rattle.xc_station.proofs.schedule.drain.Given as goal
 
@@ -7,6 +8,7 @@ abbrev pub invariant-loop : goal.invariant-loop
 invariant-loop g l =
     record {
       goes : GoesOn l.fn.station l.station;
+      scripted : IsScripted l.station.opening.script;
       rounds : (count : ℕ) × TakeRounds g.H.Host.model count l.fn.station l.station;
     }
 

@@ -2,6 +2,8 @@ use Rattle.std.proofs.Common.{ℕ, ◌<◌, ◌-◌, ◌∙◌, ap, sym, subst, 
 use Rattle.xc_model.specs.Alone.{AreAlone}
 use Rattle.xc_model.specs.Moment.{Moment}
 use Rattle.xc_station.specs.Stations.{live_at}
+use Rattle.xc_model.specs.Live.{IsScripted}
+use Rattle.xc_station.specs.declared.run_result.Opening.{Opening}
 use Rattle.xc_station.proofs.Runs.{goes_further, next_alone, next_ended, next_goes, next_others, nobody_left, none_above}
 use Rattle.xc_station.proofs.schedule.work_alone.Goals as goal
 
@@ -18,6 +20,7 @@ loop-job-preserved g c =
     record {
       goes = goes_further c.args.station.now old new was.goes
           (next_goes model job old taking new next.jobs next.first.1 next.same.2 next.first.0 works next.same.0 next.same.1 c.work_job.ensures.goes);
+      scripted = subst (λ (o : Opening). IsScripted o.script) (sym (c.work_job.ensures.goes.origin.opening ∙ next.same.0)) was.scripted;
       rises = (let above = next.first.0.above in let taken = works.taken in let is = next.first.1 in let low = was.rises in
           omega (arith, above, taken, is, low));
       ended = next_ended model job old taking new next.jobs next.first.1 next.same.2 next.first.0 works c.args.station.now.taken

@@ -1,5 +1,6 @@
 use Rattle.std.proofs.Common.{◌≡◌, ◌-◌, ◌<◌, ◌≤◌, ℕ, false}
 use Rattle.xc_model.specs.Alone.{AreAlone}
+use Rattle.xc_model.specs.Live.{IsScripted}
 use Rattle.xc_station.specs.Stations.{GoesOn, live_at, now_of}
 use Rattle.xc_station.proofs.schedule.work_alone.Given as goal
 
@@ -8,6 +9,7 @@ abbrev pub invariant-loop-job : goal.invariant-loop-job
 invariant-loop-job g l =
     record {
       goes : GoesOn l.fn.station l.station;
+      scripted : IsScripted l.station.opening.script;
       rises : l.fn.station.taken ≤ l.station.taken;
       ended : (other : ℕ) → l.fn.station.taken < other → other ≤ l.station.taken → live_at l.station.jobs other ≡ false;
       others : (other : ℕ) → other ≤ l.fn.station.taken → live_at l.station.jobs other ≡ live_at l.fn.station.jobs other;

@@ -1,3 +1,4 @@
+use Rattle.xc_model.specs.Live.{IsScripted}
 use Rattle.xc_station.specs.Stations.{GoesOn, WorksOn, turns_of}
 use Rattle.xc_station.proofs.schedule.work_job.Given as goal
 
@@ -5,6 +6,7 @@ abbrev pub invariant-loop : goal.invariant-loop
 invariant-loop g l =
     record {
       goes : GoesOn l.fn.station l.station;
+      scripted : IsScripted l.station.opening.script;
       works : WorksOn g.H.Host.model l.job l.fn.station l.station;
     }
 

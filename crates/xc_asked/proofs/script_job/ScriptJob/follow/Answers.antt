@@ -1,8 +1,11 @@
-use Rattle.std.proofs.Common.{sym, ap, ◌∙◌}
-use Rattle.xc_model.specs.Asked.{ScriptJob, asked_after}
+use Rattle.std.proofs.Common.{sym, subst, ap, ◌∙◌}
+use Rattle.std.specs.Bool.{Decides}
+use Rattle.std.specs.Prelude.{IfOk}
+use Rattle.xc_model.specs.Asked.{IsAskedBy, ScriptJob, asked_after}
 use Rattle.xc_script.specs.Position.{job_of}
+use Rattle.xc_asked.specs.declared.script_job.Followed.{Followed}
 use Rattle.xc_asked.specs.Walking.{IsBehindReplies, job_outcome}
-use Rattle.xc_asked.proofs.Beginning.{asked_at_end, begin_there, few_next, from_ok}
+use Rattle.xc_asked.proofs.Beginning.{asked_at_end, begin_there, decided_asked, few_next, from_ok}
 use Rattle.xc_asked.proofs.script_job.ScriptJob.follow.Goals as goal
 
 pub returns-then-not-has_next-clause-last : goal.returns-then-not-has_next-clause-last
@@ -16,7 +19,7 @@ end-requires c =
     from_ok c.walk-followed.result c.in-Ok-true.field-0
     (IsBehindReplies c.args.script.now (job_of c.self.inside.place) c.args.entry.now.replies c.walk-followed.new.place)
     c.in-Ok-true.is c.walk-followed.ensures.behind in
-    few_next c.args.script.now (job_of c.self.inside.place) c.walk-followed.new.place.next c.requires
+    few_next c.args.script.now (job_of c.self.inside.place) c.walk-followed.new.place.next c.requires.read c.requires.scripted
     (sym c.has_next.ensures ∙ c.if-not-has_next.false) followed.next
 
 pub invariant_of-self : goal.invariant_of-self
@@ -27,3 +30,17 @@ invariant_of-self c =
     c.in-Ok-true.is c.walk-followed.ensures.behind in
     begin_there c.end.new.place (job_outcome c.args.script.now (job_of c.self.inside.place) c.args.entry.now c.args.entry.now.outcome)
     (c.end.ensures c.args.script.now (job_of c.self.inside.place) followed)
+
+pub returns-in-Ok-true-clause-asked : goal.returns-in-Ok-true-clause-asked
+returns-in-Ok-true-clause-asked c =
+    subst (λ (j : ScriptJob). IfOk c.walk-followed.result (λ (f : Followed). Decides f.is_asked (IsAskedBy c.args.script.now j.job f.last c.args.entry.now)))
+    c.self.view_is
+    (decided_asked c.args.script.now (job_of c.self.inside.place) c.args.entry.now c.walk-followed.result c.requires.scripted
+    (sym c.has_next.ensures ∙ c.if-not-has_next.false) c.walk-followed.ensures.last c.walk-followed.ensures.asked)
+
+pub returns-in-Ok-false-clause-asked : goal.returns-in-Ok-false-clause-asked
+returns-in-Ok-false-clause-asked c =
+    subst (λ (j : ScriptJob). IfOk c.walk-followed.result (λ (f : Followed). Decides f.is_asked (IsAskedBy c.args.script.now j.job f.last c.args.entry.now)))
+    c.self.view_is
+    (decided_asked c.args.script.now (job_of c.self.inside.place) c.args.entry.now c.walk-followed.result c.requires.scripted
+    (sym c.has_next.ensures ∙ c.if-not-has_next.false) c.walk-followed.ensures.last c.walk-followed.ensures.asked)

@@ -74,34 +74,35 @@ unreachable-requires g c =
     cc lacks
 
 pub returns-in-Idle-clause-falls : goal.returns-in-Idle-clause-falls
-returns-in-Idle-clause-falls g c = fewer_left g.H.Host.model c.args.self.now c.idle.new.self (c.args.job - 1) _ c.idle.ensures.same c.idle.ensures.row
+returns-in-Idle-clause-falls g c own = fewer_left g.H.Host.model c.args.self.now c.idle.new.self (c.args.job - 1) _ c.idle.ensures.same own c.idle.ensures.row
 
 pub returns-in-Running-clause-falls : goal.returns-in-Running-clause-falls
-returns-in-Running-clause-falls g c = fewer_left g.H.Host.model c.args.self.now c.running.new.self
-    (c.args.job - 1) _ c.running.ensures.same c.running.ensures.row
+returns-in-Running-clause-falls g c own = fewer_left g.H.Host.model c.args.self.now c.running.new.self
+    (c.args.job - 1) _ c.running.ensures.same own c.running.ensures.row
 
 pub returns-in-Backing-clause-falls : goal.returns-in-Backing-clause-falls
-returns-in-Backing-clause-falls g c = fewer_left g.H.Host.model c.args.self.now c.backing.new.self
-    (c.args.job - 1) _ c.backing.ensures.same c.backing.ensures.row
+returns-in-Backing-clause-falls g c own = fewer_left g.H.Host.model c.args.self.now c.backing.new.self
+    (c.args.job - 1) _ c.backing.ensures.same own c.backing.ensures.row
 
 pub returns-in-Committing-clause-falls : goal.returns-in-Committing-clause-falls
-returns-in-Committing-clause-falls g c = fewer_left g.H.Host.model c.args.self.now c.committing.new.self
-    (c.args.job - 1) _ c.committing.ensures.same c.committing.ensures.row
+returns-in-Committing-clause-falls g c own = fewer_left g.H.Host.model c.args.self.now c.committing.new.self
+    (c.args.job - 1) _ c.committing.ensures.same own c.committing.ensures.row
 
 pub returns-in-Committed-clause-falls : goal.returns-in-Committed-clause-falls
-returns-in-Committed-clause-falls g c = fewer_left g.H.Host.model c.args.self.now c.committed.new.self
-    (c.args.job - 1) _ c.committed.ensures.same c.committed.ensures.row
+returns-in-Committed-clause-falls g c own = fewer_left g.H.Host.model c.args.self.now c.committed.new.self
+    (c.args.job - 1) _ c.committed.ensures.same own c.committed.ensures.row
 
 pub returns-in-Undoing-clause-falls : goal.returns-in-Undoing-clause-falls
-returns-in-Undoing-clause-falls g c = fewer_left g.H.Host.model c.args.self.now c.undoing.new.self
-    (c.args.job - 1) _ c.undoing.ensures.same c.undoing.ensures.row
+returns-in-Undoing-clause-falls g c own = fewer_left g.H.Host.model c.args.self.now c.undoing.new.self
+    (c.args.job - 1) _ c.undoing.ensures.same own c.undoing.ensures.row
 
 pub returns-in-Undone-clause-falls : goal.returns-in-Undone-clause-falls
-returns-in-Undone-clause-falls g c = fewer_left g.H.Host.model c.args.self.now c.undone.new.self (c.args.job - 1) _ c.undone.ensures.same c.undone.ensures.row
+returns-in-Undone-clause-falls g c own = fewer_left g.H.Host.model c.args.self.now c.undone.new.self (c.args.job - 1) _ c.undone.ensures.same own
+    c.undone.ensures.row
 
 pub returns-in-Starved-clause-falls : goal.returns-in-Starved-clause-falls
-returns-in-Starved-clause-falls g c = fewer_left g.H.Host.model c.args.self.now c.starved.new.self
-    (c.args.job - 1) _ c.starved.ensures.same c.starved.ensures.row
+returns-in-Starved-clause-falls g c own = fewer_left g.H.Host.model c.args.self.now c.starved.new.self
+    (c.args.job - 1) _ c.starved.ensures.same own c.starved.ensures.row
 
 pub returns-in-Idle-clause-changes : goal.returns-in-Idle-clause-changes
 returns-in-Idle-clause-changes g c =

@@ -5,10 +5,11 @@ use Rattle.xc_data.specs.Faults.{entry_faults}
 use Rattle.xc_model.specs.Ending.{IsTrueEnd}
 use Rattle.xc_model.specs.Handles.{AreCalled}
 use Rattle.xc_model.specs.Consistent.{AreLinesOf}
+use Rattle.xc_model.specs.Live.{IsScripted}
 use Rattle.xc_model.specs.Setting.{setting}
 use Rattle.xc_station.specs.declared.job.Job.{Job}
 use Rattle.xc_station.specs.Jobs.{is_live, job_view, job_views}
-use Rattle.xc_station.specs.Stations.{NobodyLives, moment}
+use Rattle.xc_station.specs.Stations.{NobodyLives, StationView, moment}
 use Rattle.xc_station.proofs.Ended.{called_end, counted_end, each_ended, true_end}
 use Rattle.xc_station.proofs.station.Station.finish.Goals as goal
 use Rattle.xc_station.specs.Moments.{told_by}
@@ -52,12 +53,13 @@ returns-clause-faults g c =
     subst (λ v. RisesBy (sum_by entry_faults station.journal.items) v.opening.faults (model.fault_count station.shared.host)) c.self.view_is whole
 
 pub returns-clause-calls : goal.returns-clause-calls
-returns-clause-calls g c =
+returns-clause-calls g c own =
     let model = g.H.Host.model in
     let station = c.self.inside in
     let now = moment model station.shared station.journal.items station.jobs.items in
     let over : AreLinesOf (job_views station.jobs.items) c.lines_of.result =
     subst (λ (all : List Job). AreLinesOf (job_views all) c.lines_of.result) c.as_slice.ensures.value c.lines_of.ensures in
-    let whole = called_end (setting station.opening.script station.rules model.tells) station.opening.faults now c.lines_of.result c.self.invariant.steady
-    over in
+    let mine = subst (λ (v : StationView g.row.H.Denot). IsScripted v.opening.script) (sym c.self.view_is) own in
+    let whole = called_end (setting station.opening.script station.rules model.tells) station.opening.faults now c.lines_of.result mine
+    c.self.invariant.steady over in
     subst (λ v. AreCalled v.opening.script station.journal.items (model.calls station.shared.host)) c.self.view_is whole

@@ -1,6 +1,7 @@
-use Rattle.std.proofs.Common.{◌≡◌, ◌≢◌, length, sym, ◌∙◌, arith}
+use Rattle.std.proofs.Common.{◌≡◌, ◌≢◌, ◌+◌, ◌-◌, ◌<◌, length, subst, sym, ◌∙◌, arith}
+use Rattle.xc_station.specs.Finishing.{job_left_at}
 use Rattle.xc_station.specs.Jobs.{job_views}
-use Rattle.xc_station.proofs.Finishing.{arrived, grown_further, lives_on_way, others_further, way_further}
+use Rattle.xc_station.proofs.Finishing.{arrived, fewer_on_way, grown_further, lives_on_way, others_further, way_further, way_left}
 use Rattle.xc_station.proofs.station.run_out.finish.Goals as goal
 
 pub turn-requires : goal.turn-requires
@@ -52,3 +53,15 @@ returns-clause-turns g c left is =
     let longer : length now.journal ≢ length old.journal =
     λ same. c.loop-station-test.false (c.entries.ensures ∙ same ∙ sym c.entries-place.ensures) in
     (arrived g.H.Host.model c.args.job start.0 left old now on longer).1
+
+pub loop-station-smaller : goal.loop-station-smaller
+loop-station-smaller g c =
+    let start = c.requires in
+    let old = c.args.station.now in
+    let mid = c.loop-station.station in
+    let on = c.loop-station.invariant.way start.0 start.1 start.2 start.3 in
+    let same : length mid.journal ≡ length old.journal = sym c.entries.ensures ∙ c.loop-station-test.true ∙ c.entries-place.ensures in
+    subst (λ n. way_left (n + 1 - length c.turn.new.self.journal) (job_left_at (job_views c.turn.new.self.jobs) c.args.job)
+    < way_left (n + 1 - length mid.journal) (job_left_at (job_views mid.jobs) c.args.job)) (sym c.entries-place.ensures)
+    (fewer_on_way g.H.Host.model c.args.job start.0 start.1 old mid c.turn.new.self c.turn.result
+    (lives_on_way g.H.Host.model c.args.job start.0 start.1 old mid on same) c.turn.ensures.same c.turn.ensures.row on same)

@@ -1,9 +1,8 @@
-use Rattle.std.proofs.Common.{◌≡◌, ◌≤◌, ℕ, length, Some}
+use Rattle.std.proofs.Common.{◌≡◌, ◌≤◌, ◌+◌, ◌-◌, ℕ, length, Some}
 use Rattle.xc_model.specs.declared.phase.Phase.{Phase}
 use Rattle.xc_station.specs.Finishing.{OthersStay, job_left_at, phase_at}
 use Rattle.xc_station.specs.Jobs.{job_views}
-use Rattle.xc_station.specs.Stations.{turns_of}
-use Rattle.xc_station.proofs.Finishing.{IsOnWay}
+use Rattle.xc_station.proofs.Finishing.{IsOnWay, way_left}
 use Rattle.xc_station.proofs.station.run_out.finish.Given as goal
 
 -- the transaction is on its way to its entry, or is there
@@ -18,4 +17,4 @@ invariant-loop-station g l =
     }
 
 abbrev pub decreases-loop-station : goal.decreases-loop-station
-decreases-loop-station g l = turns_of g.H.Host.model l.station
+decreases-loop-station g l = way_left (l.place + 1 - length l.station.journal) (job_left_at (job_views l.station.jobs) l.job)

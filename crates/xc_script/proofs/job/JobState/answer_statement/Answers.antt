@@ -6,7 +6,7 @@ use Rattle.xc_script.specs.Position.{Position, walk_of, IsPastSilent, IsAskedCal
 use Rattle.xc_script.specs.Ask.{next_body}
 use Rattle.xc_script.specs.contracts.job.JobState.{the_view}
 use Rattle.xc_script.proofs.Backs.{answer_at}
-use Rattle.xc_script.proofs.job.JobState.answer.Goals as goal
+use Rattle.xc_script.proofs.job.JobState.answer_statement.Goals as goal
 
 pub returns-clause-ok : goal.returns-clause-ok
 returns-clause-ok c =
