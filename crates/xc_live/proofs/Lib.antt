@@ -1,0 +1,13 @@
+mod Numbered
+mod Placed
+mod Quiet
+mod Answered
+mod Rolled
+mod Yielded
+mod Settled
+mod Handed
+mod Left
+mod Begun
+mod Made
+mod Others
+mod Dismissed

@@ -1,0 +1,10 @@
+pub mod Called
+pub mod Calm
+pub mod Clients
+pub mod Closing
+pub mod Ended
+pub mod GivingWay
+pub mod Moving
+pub mod Opening
+pub mod Others
+pub mod Told
