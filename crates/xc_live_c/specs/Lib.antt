@@ -1,0 +1,4 @@
+pub mod Codes
+pub mod Finished
+pub mod Opened
+pub mod Told
