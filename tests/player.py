@@ -1,3 +1,4 @@
+#!/usr/bin/env python3
 """Plays printed journals again, and says whether they are true.
 
 `verdict(script, text)` gives None if the text is a true journal of the script, or `(line, reason)`: the number of a line and the first
@@ -11,15 +12,26 @@ reason against it. It is a reading of docs/SCRIPTS.md, and shares nothing with t
 
 The line is that of the entry, for `tail` the first one behind the entries, and 0 for the first two. `answer(data)` takes a script, a line
 `====` and a text as one piece, and gives what a checker prints of it.
+
+`told_verdict(prologue, text)` judges a text of clients (docs/LIVE.md) by a prologue alone: what a client asks is what the entries say.
+`tests/player.py --prologue FILE [--attempts N] [--undo-tries N]` does so with a text on standard input; it prints what a checker prints,
+and ends with status 0 for `yes`, 1 for `no` and 2 for other words. N is 1,000 and 16, as in the library for C. A prologue that names
+no client is that of c1, c2 and so on, as many as the text says. What a client asked last isn't known if the attempt ended for want of
+memory: then what was held for it, and a record of it that is undone, are taken as they stand.
 """
+import argparse
 import bisect
 import collections
+import pathlib
+import re
+import sys
 
 import asked
 import journal
 import machine
 import plain
 import reader
+import told
 
 MOST_BYTES = 67108864
 MOST_READ = 68157446
@@ -96,10 +108,14 @@ class Attempt:
         self.body = machine.Body(world, job.places, entry.number)
         self.walk, self.asked, self.records = None, [], self.body.records
         if job.lines() is not None:
-            self.walk = asked.Walk(job.lines(), job.variables, job.slots)
+            self.walk = self.way()
             for reply in entry.replies:
                 self.asked.append(self.walk.next)
                 self.walk.answer(reply)
+
+    def way(self):
+        """The way of its calls, as the script has it."""
+        return asked.Walk(self.job.lines(), self.job.variables, self.job.slots)
 
     def next_call(self):
         """The call that is asked behind the replies, or None."""
@@ -225,22 +241,73 @@ class Attempt:
         return world
 
 
+class Client(Job):
+    """A client: it always goes on, but where memory was wanting."""
+
+    def lines(self):
+        return None if self.is_starved else []
+
+
+class ToldAttempt(Attempt):
+    """An entry of a client: its calls are what was asked."""
+
+    def way(self):
+        return told.Told(self.entry)
+
+    def is_open(self):
+        """Whether the entry doesn't say what was asked last."""
+        return self.walk is not None and self.walk.next == told.ANY
+
+    def wanted(self):
+        return told.Wish(len(self.world.words), self.body.places) if self.is_open() else {}
+
+    def records_hold(self):
+        """As of a script. Where memory was wanting, there may be one more record, which is undone."""
+        if super().records_hold():
+            return True
+        *undos, last = self.entry.undos or [None]
+        if not self.is_starved() or last is None or last.end != "done" or last.faults >= self.tries:
+            return False
+        self.entry = self.entry._replace(undos=undos)
+        return self.are_reported(self.records)
+
+    def held_holds(self):
+        """As of a script. Where memory was wanting, there may be more that one call touches."""
+        due, held = self.body.held, dict(self.entry.held)
+        if not self.is_starved():
+            return self.entry.held == list(due.items())
+        more = [name for name in held if held[name] != due.get(name)]
+        is_kept = list(held)[: len(due)] == list(due) and all(held[name] or not due[name] for name in due)
+        return is_kept and told.may_touch(more, len(self.world.words), self.body.places)
+
+    def story_holds(self, attempts):
+        """As of a script, but for what it asks. Blocks don't stand in one another, and a client starts no job."""
+        return super().story_holds(attempts) and self.walk.is_placed
+
+    def ends_as_asked(self):
+        """A way back that sticks is in a block, at the newest record that failed. Else each end is one that was asked."""
+        cause = self.entry.cause
+        return cause is None or cause.kind != "stuck" or self.has_stuck(cause.other)
+
+
 class Player:
     """The world and the jobs that the entries so far left."""
+
+    attempt, job = Attempt, Job
 
     def __init__(self, script, attempts, tries, entries):
         self.script, self.attempts, self.tries, self.entries = script, attempts, tries, entries
         self.world = machine.World(script)
         variables = {name: f"h{at}" for at, (name, _) in enumerate(script.handles)}
         places = {f"h{at}": place for at, (_, place) in enumerate(script.handles)}
-        self.jobs = [Job(script.blocks[name], variables, places, 0) for name in script.jobs]
+        self.jobs = [self.job(script.blocks[name], variables, places, 0) for name in script.jobs]
         self.begins, self.parts = [], {}
 
     def play(self, entry):
         """Plays the next entry; gives the first reason against it, or None."""
         if not self.is_numbered(entry):
             return "numbers"
-        attempt = Attempt(self.world, self.jobs[entry.job - 1], entry, self.tries)
+        attempt = self.attempt(self.world, self.jobs[entry.job - 1], entry, self.tries)
         if not attempt.replies_hold():
             return "reply"
         wanted = attempt.wanted()
@@ -344,6 +411,19 @@ class Player:
         return commits, len(self.entries) - commits, sum(map(faults_of, self.entries)), remains
 
 
+class ToldPlayer(Player):
+    """The same for clients."""
+
+    attempt, job = ToldAttempt, Client
+
+    def ends_of(self, job):
+        """A client that didn't end before is done at the close."""
+        if job.is_starved:
+            return [STARVED]
+        gave_up = ["gave up"] if job.tries == self.attempts else []
+        return ["done", STARVED, *gave_up] + (["journal full"] if len(self.entries) == MOST_ENTRIES else [])
+
+
 def by_number(number):
     return tuple(map(int, number.split(".")))
 
@@ -361,7 +441,7 @@ def faults_of(entry):
     return found + sum(undo.faults or 0 for undo in entry.undos)
 
 
-def verdict(script, text, attempts=100, undo_tries=3):
+def verdict(script, text, attempts=100, undo_tries=3, by=Player):
     """None if the text is a true journal of the script; else a line's number and the reason."""
     if len(text) > MOST_BYTES:
         return 0, "toolong"
@@ -370,7 +450,7 @@ def verdict(script, text, attempts=100, undo_tries=3):
     sheet = journal.read(text)
     if isinstance(sheet, int):
         return sheet, "form"
-    player = Player(plain.read_script(script.decode()), attempts, undo_tries, sheet.entries)
+    player = by(plain.read_script(script.decode()), attempts, undo_tries, sheet.entries)
     for entry in sheet.entries:
         why = player.play(entry)
         if why:
@@ -379,6 +459,19 @@ def verdict(script, text, attempts=100, undo_tries=3):
         if not player.is_grounded(entry):
             return entry.line, "grounds"
     return None if player.is_tail(sheet) else (sheet.line, "tail")
+
+
+def told_verdict(prologue, text, attempts=1000, undo_tries=16):
+    """None if the text is a true one of clients over the prologue; else a line's number and the reason."""
+    if not re.search(rb"^[\t ]*job\b", prologue, re.M):
+        clients = len(re.findall(rb"^job ", text, re.M))
+        prologue += b"\n" + b"".join(b"job c%d\nend\n" % number for number in range(1, clients + 1))
+    return verdict(prologue, text, attempts, undo_tries, ToldPlayer)
+
+
+def shown_verdict(found):
+    """What a checker prints of a verdict."""
+    return "no line {} {}\n".format(*found) if found else "yes\n"
 
 
 def parted(data):
@@ -391,5 +484,19 @@ def parted(data):
 
 def answer(data, attempts=100, undo_tries=3):
     """What a checker prints of a script, the line that parts them, and a text."""
-    found = (0, "toolong") if len(data) >= MOST_READ else verdict(*parted(data), attempts, undo_tries)
-    return "no line {} {}\n".format(*found) if found else "yes\n"
+    return shown_verdict((0, "toolong") if len(data) >= MOST_READ else verdict(*parted(data), attempts, undo_tries))
+
+
+def main():
+    words = argparse.ArgumentParser(prog="tests/player.py", description="Judges a text of clients by its prologue.")
+    words.add_argument("--prologue", required=True, type=pathlib.Path, metavar="FILE")
+    words.add_argument("--attempts", default=1000, type=int, metavar="N")
+    words.add_argument("--undo-tries", default=16, type=int, metavar="N")
+    found = words.parse_args()
+    verdict_found = told_verdict(found.prologue.read_bytes(), sys.stdin.buffer.read(), found.attempts, found.undo_tries)
+    sys.stdout.write(shown_verdict(verdict_found))
+    sys.exit(verdict_found is not None)
+
+
+if __name__ == "__main__":
+    main()
