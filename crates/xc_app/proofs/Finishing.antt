@@ -63,7 +63,7 @@ module _ {H : Type 0} (model : HostModel H) (words : List (List ℕ)) (source si
       let tries = start.bounds.rules.undo_tries.0 in
       let read_over = is_run_of model chosen.rules host started.station last end origin left start.prepared.bytes first in
       let alone : RunsAlone chosen → IsSerialRun model end = λ one.
-      is_serial_run model chosen.rules host started.station last end origin left first.ruled attempts tries (ran one) in
+      is_serial_run model chosen.rules host started.station last end origin left read_over.1.asked first.ruled attempts tries (ran one) in
       let over : IsRunOver model chosen host end = record { bounds = start.bounds; over = read_over.1; alone = alone } in
       subst (IsFinished model words edges host)
       (λ i. record { status = sym same i; end = sym some i; host = sym none i })

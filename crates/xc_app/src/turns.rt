@@ -2,6 +2,7 @@
 
 ghost use Rattle.std.specs.Prelude.{◌≡◌, None, [], IfSome, IsSome};
 ghost use Rattle.xc_model.specs.Alone.{AreAlone};
+ghost use Rattle.xc_model.specs.Live.{IsScripted};
 ghost use Rattle.xc_station.specs.Stations.{KeepsOrigin, NobodyLives, RanAlone, now_of};
 ghost use Rattle.xc_app.specs.Headline.{needs_threads as needs_threads_with, RunsAlone};
 ghost use Rattle.xc_app.specs.Parts.{TakeListed};
@@ -22,6 +23,7 @@ pub fn needs_threads(chosen: &Chosen) -> bool
 
 // Takes the turns of the listed jobs first, and then rounds.
 fn take_listed<H: Host>(station: Station<H>, jobs: &[u32]) -> Station<H>
+    requires scripted { IsScripted station.opening.script }
     ensures origin { KeepsOrigin station result }
     ensures listed { TakeListed H.model jobs.now station result }
     ensures ended { NobodyLives result.jobs }
@@ -34,7 +36,8 @@ fn take_listed<H: Host>(station: Station<H>, jobs: &[u32]) -> Station<H>
 
 // Takes job after job.
 fn take_alone<H: Host>(station: Station<H>) -> Station<H>
-    requires { station.taken ≡ 0 }
+    requires scripted { IsScripted station.opening.script }
+    requires taken { station.taken ≡ 0 }
     ensures origin { KeepsOrigin station result }
     ensures ended { NobodyLives result.jobs }
     ensures alone { AreAlone (now_of H.model station) 0 → RanAlone H.model result }
@@ -47,7 +50,8 @@ fn take_alone<H: Host>(station: Station<H>) -> Station<H>
 /// Takes the turns of all jobs in this thread: the listed ones first, and then rounds; with a seed and no list rounds alone; otherwise
 /// job after job.
 pub fn take_turns<H: Host>(station: Station<H>, chosen: &Chosen) -> Station<H>
-    requires { station.taken ≡ 0 }
+    requires scripted { IsScripted station.opening.script }
+    requires taken { station.taken ≡ 0 }
     ensures origin { KeepsOrigin station result }
     ensures listed { IfSome chosen.now.schedule (λ jobs. TakeListed H.model jobs station result) }
     ensures seeded { IsSome chosen.now.seed → chosen.now.schedule ≡ None → TakeListed H.model [] station result }
@@ -72,7 +76,8 @@ pub fn take_together<H: Host + Send, P: Pace + Sync, R: AllocGlobal + Threads + 
     workers: u32,
     pace: &P,
 ) -> Station<H>
-    requires { station.journal ≡ [] }
+    requires scripted { IsScripted station.opening.script }
+    requires journal { station.journal ≡ [] }
     ensures origin { KeepsOrigin station result }
     ensures ended { NobodyLives result.jobs }
 {

@@ -51,7 +51,7 @@ module _ (e : Entry) where
       record {
         asking = h.asking;
         started = h.started;
-        asked = record { left = h.asked.left; calls = h.asked.calls; after = h.asked.after };
+        asked = record { left = h.asked.left; scripted = λ own. let block = h.asked.scripted own in record { calls = block.calls; after = block.after } };
         starts = subst (λ (A : Type 0). A) (starts_bare script (map (λ (j : ScriptJob). j.block) jobs) e.outcome) h.starts;
       }
 
@@ -61,7 +61,7 @@ module _ (e : Entry) where
       record {
         asking = h.asking;
         started = h.started;
-        asked = record { left = h.asked.left; calls = h.asked.calls; after = h.asked.after };
+        asked = record { left = h.asked.left; scripted = λ own. let block = h.asked.scripted own in record { calls = block.calls; after = block.after } };
         starts = subst (λ (A : Type 0). A) (sym (starts_bare script (map (λ (j : ScriptJob). j.block) jobs) e.outcome)) h.starts;
       }
 

@@ -2,6 +2,7 @@
 use Rattle.std.proofs.Common.{◌≡◌, List, [], ◌∷◌, ◌++◌, refl, ap, sym, ◌∙◌}
 use Rattle.std.specs.List.{fold}
 use Rattle.xc_data.specs.declared.entry.Entry.{Entry}
+use Rattle.xc_model.specs.Live.{IsScripted}
 use Rattle.xc_model.specs.Asked.{AreAskedBy, IsAskedEntry, ScriptJob, after_jobs, last_asked, lasts_from, script_job_of}
 use Rattle.xc_model.specs.Course.{Course, after_course}
 use Rattle.xc_model.specs.Grounds.{Part}
@@ -74,11 +75,11 @@ module _ (script : Script) (e : Entry) where
       let rest = asked_cut (after_jobs script jobs x) front behind all.1 in ((all.0, rest.0), rest.1)
 
 -- what was asked last of the entries of a journal is what the script asks
-pub lasts_are : (script : Script) (jobs : List ScriptJob) (lasts : List Ask) (journal : List Entry) → AreAskedBy script jobs lasts journal
+pub lasts_are : (script : Script) (jobs : List ScriptJob) (lasts : List Ask) (journal : List Entry) → IsScripted script → AreAskedBy script jobs lasts journal
     → lasts ≡ lasts_from script jobs journal
-lasts_are script jobs lasts [] h = h
-lasts_are script jobs [] (e ∷ journal) h = absurd h
-lasts_are script jobs (last ∷ lasts) (e ∷ journal) h =
+lasts_are script jobs lasts [] own h = h
+lasts_are script jobs [] (e ∷ journal) own h = absurd h
+lasts_are script jobs (last ∷ lasts) (e ∷ journal) own h =
     let asked = h.0 in
-    ap (λ (x : Ask). x ∷ lasts) (asked.asked.after ∙ ap (λ o. last_asked script o e.replies) (sym asked.started))
-    ∙ ap (λ (xs : List Ask). last_asked script (script_job_of jobs e) e.replies ∷ xs) (lasts_are script (after_jobs script jobs e) lasts journal h.1)
+    ap (λ (x : Ask). x ∷ lasts) ((asked.asked.scripted own).after ∙ ap (λ o. last_asked script o e.replies) (sym asked.started))
+    ∙ ap (λ (xs : List Ask). last_asked script (script_job_of jobs e) e.replies ∷ xs) (lasts_are script (after_jobs script jobs e) lasts journal own h.1)

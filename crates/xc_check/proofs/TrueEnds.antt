@@ -17,6 +17,7 @@ use Rattle.xc_judge.specs.Judged.{telling_terms as telling_rules}
 use Rattle.xc_judge.specs.Stepped.{MeetsSo}
 use Rattle.xc_judge.specs.declared.reason.Reason.{Reason}
 use Rattle.xc_judge.specs.declared.reason.Reason.TheVariants as reason
+use Rattle.xc_model.specs.Live.{IsScripted}
 use Rattle.xc_model.specs.Asked.{AreAskedBy, AsksEach, IsAskedEntry, ScriptJob, after_jobs, last_asked, lasts_of, opening_jobs, script_job_of}
 use Rattle.xc_model.specs.Course.{Course, opening_course}
 use Rattle.xc_model.specs.Grounds.{AreGrounded, Part, scene_of}
@@ -131,22 +132,24 @@ replied_to b (call ∷ calls) [] h = absurd h
 replied_to b (call ∷ calls) (reply ∷ replies) h = ap suc (replied_to (replied b reply) calls replies h.1)
 
 -- entries that were asked have a reply to each call
-all_replied : (script : Script) (jobs : List ScriptJob) (lasts : List Ask) (journal : List Entry) → AreAskedBy script jobs lasts journal
+all_replied : (script : Script) (jobs : List ScriptJob) (lasts : List Ask) (journal : List Entry) → IsScripted script → AreAskedBy script jobs lasts journal
     → AllByRecursion IsReplied journal
-all_replied script jobs lasts [] h = tt
-all_replied script jobs [] (e ∷ journal) h = absurd h
-all_replied script jobs (last ∷ lasts) (e ∷ journal) h =
-    (replied_to (block_from script h.0.asking.job) e.calls e.replies h.0.asked.calls, all_replied script (after_jobs script jobs e) lasts journal h.1)
+all_replied script jobs lasts [] own h = tt
+all_replied script jobs [] (e ∷ journal) own h = absurd h
+all_replied script jobs (last ∷ lasts) (e ∷ journal) own h = (
+  replied_to (block_from script h.0.asking.job) e.calls e.replies (h.0.asked.scripted own).calls,
+  all_replied script (after_jobs script jobs e) lasts journal own h.1,
+)
 
 -- each call of a true journal has its reply
-pub each_replied : (s : Setting) (journal : List Entry) → IsTrueJournal s journal → All IsReplied journal
-each_replied s journal h = All-from_recursion IsReplied journal (all_replied s.script (opening_jobs s.script) h.lasts journal h.asked)
+pub each_replied : (s : Setting) (journal : List Entry) → IsScripted s.script → IsTrueJournal s journal → All IsReplied journal
+each_replied s journal own h = All-from_recursion IsReplied journal (all_replied s.script (opening_jobs s.script) h.lasts journal own h.asked)
 
 -- ---- a true journal, over a host that tells
-module _ (s : Setting) (journal : List Entry) (tells : s.tells ≡ true) (h : IsTrueJournal s journal) where
+module _ (s : Setting) (journal : List Entry) (own : IsScripted s.script) (tells : s.tells ≡ true) (h : IsTrueJournal s journal) where
   -- what was asked last is what the script asks
   lasts_so : h.lasts ≡ lasts_of s.script journal
-  lasts_so = lasts_are s.script (opening_jobs s.script) h.lasts journal h.asked
+  lasts_so = lasts_are s.script (opening_jobs s.script) h.lasts journal own h.asked
 
   -- so the machine judges by it
   machine_so : AreMachineTrue (terms_of s) (opening_course s.script.outline) (lasts_of s.script journal) journal
@@ -250,7 +253,7 @@ led_alike script journal other alike =
     (λ i. record { entries = count i; jobs = jobs i; world = (course i).state.world; totals = totals i })
 
 -- ---- a true end, over a host that tells
-module _ (s : Setting) (journal : List Entry) (jobs : List JobLine) (words : List ℕ) (kept : List KeptItem) (tells : s.tells ≡ true)
+module _ (s : Setting) (journal : List Entry) (jobs : List JobLine) (words : List ℕ) (kept : List KeptItem) (own : IsScripted s.script) (tells : s.tells ≡ true)
     (h : IsTrueAsPrinted s journal jobs words kept) where
   -- the lines behind its entries are those of an end to which it leads
   tail_so : IsTail s (journal_led s.script journal) (tail_lines journal jobs words kept)
@@ -272,8 +275,8 @@ module _ (s : Setting) (journal : List Entry) (jobs : List JobLine) (words : Lis
 
   -- a true end that is shown so is false for no reason
   pub is_not_false : (line : ℕ) (r : CheckWhy) → IsFalseIn s (map shown_of journal) (tail_lines journal jobs words kept) line r → ⊥
-  is_not_false line (why.Entry r) found = none_refused s journal tells h.is_true found.place r found.refused
-  is_not_false line why.Grounds found = none_groundless s journal tells h.is_true line found
+  is_not_false line (why.Entry r) found = none_refused s journal own tells h.is_true found.place r found.refused
+  is_not_false line why.Grounds found = none_groundless s journal own tells h.is_true line found
   is_not_false line why.Tail found = none_untailed line found
   is_not_false line why.TooLong found = found
   is_not_false line why.Script found = found

@@ -7,6 +7,7 @@ ghost use Rattle.xc_data.specs.Limits.{KeepsLimits};
 ghost use Rattle.xc_grounds.specs.Numbered.{AreNumbered};
 ghost use Rattle.xc_shown.specs.Shown.{bare};
 ghost use Rattle.xc_shown.specs.declared.shown.Shown.{Shown as PlainShown};
+ghost use Rattle.xc_model.specs.Live.{IsScripted};
 ghost use Rattle.xc_text.specs.Scripts.{IsScript};
 
 use crate::judging::Judging;
@@ -32,6 +33,7 @@ pub(crate) fn judge_entries(
     entries: Vec<Shown>,
 ) -> Result<Result<Judging, Refused>, NoMemory>
     requires script { IsScript script.now }
+    requires scripted { IsScripted script.now }
     requires limits { KeepsLimits script.now.outline }
     requires bare { All (λ (shown : PlainShown). bare shown.entry ≡ shown.entry) entries.items }
     requires numbered { (count : ℕ) × AreNumbered count (begins_shown entries.items) }

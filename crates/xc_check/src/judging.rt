@@ -5,6 +5,7 @@ ghost use Rattle.xc_check.specs.Refusals.{IsRefusedIn};
 ghost use Rattle.xc_check.specs.TrueTexts.{telling};
 ghost use Rattle.xc_data.specs.Limits.{KeepsLimits};
 ghost use Rattle.xc_grounds.specs.Numbered.{AreNumbered};
+ghost use Rattle.xc_model.specs.Live.{IsScripted};
 ghost use Rattle.xc_model.specs.EntryEnds.{cause_in};
 ghost use Rattle.xc_model.specs.declared.rules.Rules.{Rules as PlainRules};
 ghost use Rattle.xc_shown.specs.Shown.{bare};
@@ -100,6 +101,7 @@ impl Judging {
         shown: Shown,
     ) -> Result<Result<Judging, Reason>, NoMemory>
         requires script { IsScript script.now }
+        requires scripted { IsScripted script.now }
         requires bare { bare shown.entry ≡ shown.entry }
         requires judged { (count : ℕ) × (before : List PlainShown) × IsJudged (telling script.now rules.now) count before self
             × AreNumbered count (begins_shown (before ++ shown ∷ [])) × (length before + 1 < 2 ^ 32) }

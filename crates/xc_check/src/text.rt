@@ -9,6 +9,7 @@ ghost use Rattle.xc_data.specs.declared.entry.KeptItem.{KeptItem as PlainKeptIte
 ghost use Rattle.xc_sheet.specs.Ends.{end_lines};
 ghost use Rattle.xc_sheet.specs.Sheets.{AreWholeFrom, HaveText};
 ghost use Rattle.xc_sheet.specs.declared.places.LinePlace.TheVariants.{Between};
+ghost use Rattle.xc_model.specs.Live.{IsScripted};
 ghost use Rattle.xc_text.specs.Scripts.{IsScript};
 
 use crate::verdict::{CheckWhy, Verdict};
@@ -28,6 +29,7 @@ fn check_lines(
     lines: Items<Line>,
 ) -> Result<Verdict, NoMemory>
     requires script { IsScript script.now }
+    requires scripted { IsScripted script.now }
     requires limits { KeepsLimits script.now.outline }
     requires rules { 1 ≤ rules.now.attempts }
     requires text { (text : List ℕ) × AreWholeFrom Between lines text × (length text ≤ 2 ^ 26) }

@@ -7,6 +7,7 @@ ghost use Rattle.xc_data.specs.Limits.{KeepsLimits};
 ghost use Rattle.xc_grounds.specs.Numbered.{IsFirstMisnumbered};
 ghost use Rattle.xc_check.specs.Fronts.{begins_shown};
 ghost use Rattle.xc_shown.specs.Shown.{bare, shown_lines};
+ghost use Rattle.xc_model.specs.Live.{IsScripted};
 ghost use Rattle.xc_model.specs.Setting.{Setting};
 ghost use Rattle.xc_sheet.specs.declared.lines.Line.{Line as PlainLine};
 ghost use Rattle.xc_shown.specs.declared.shown.Shown.{Shown as PlainShown};
@@ -37,6 +38,7 @@ fn check_tail(
     totals: Totals,
     tail: &[Line],
 ) -> Result<Verdict, NoMemory>
+    requires scripted { IsScripted script.now }
     requires rules { 1 ≤ rules.now.attempts }
     requires judged { (entries : List PlainShown) × IsTrueSoFar (telling script.now rules.now) entries judging }
     ensures { (entries : List PlainShown) → IsTrueSoFar (telling script.now rules.now) entries judging → line ≡ line_behind entries
@@ -64,6 +66,7 @@ fn check_behind(
     totals: Totals,
     tail: &[Line],
 ) -> Result<Verdict, NoMemory>
+    requires scripted { IsScripted script.now }
     requires rules { 1 ≤ rules.now.attempts }
     requires judged { (entries : List PlainShown) × IsJudged (telling script.now rules.now) (length entries) entries judging
         × AreFirstLines entries lines.now × (length entries < 2 ^ 31) }
@@ -105,6 +108,7 @@ fn refuse(
     lines: &[u32],
 ) -> Result<Verdict, NoMemory>
     requires script { IsScript script.now }
+    requires scripted { IsScripted script.now }
     requires limits { KeepsLimits script.now.outline }
     requires bare { All (λ (shown : PlainShown). bare shown.entry ≡ shown.entry) entries.items }
     requires few { length entries.items < 2 ^ 31 }
@@ -135,6 +139,7 @@ pub(crate) fn check_entries(
     tail: &[Line],
 ) -> Result<Verdict, NoMemory>
     requires script { IsScript script.now }
+    requires scripted { IsScripted script.now }
     requires limits { KeepsLimits script.now.outline }
     requires rules { 1 ≤ rules.now.attempts }
     requires bare { All (λ (shown : PlainShown). bare shown.entry ≡ shown.entry) entries }

@@ -1,7 +1,8 @@
 //! The turns of all jobs, which are polled as one future.
 
 ghost use Rattle.std.specs.Prelude.{◌≡◌, ◌≤◌, ◌^◌, [], Some, length};
-ghost use Rattle.xc_station.specs.Events.{meaning_of};
+ghost use Rattle.xc_model.specs.Live.{IsScripted};
+ghost use Rattle.xc_station.specs.Passes.{meaning_of};
 ghost use Rattle.xc_station.specs.Stations.{KeepsOrigin, NobodyLives};
 ghost use Rattle.xc_turnstile.specs.Views.{BeginsWith};
 
@@ -86,6 +87,7 @@ pub fn take_cooperatively<H: Host, R: AllocGlobal + Wait + RandomSource>(
     station: Station<H>,
     share: u32,
 ) -> Station<H>
+    requires scripted { IsScripted station.opening.script }
     requires journal { station.journal ≡ [] }
     requires share { 1 ≤ share }
     ensures origin { KeepsOrigin station result }

@@ -195,13 +195,13 @@ pub done_with : {H : Type 0} (model : HostModel H) (rules : Rules) (host : H) (s
 done_with model rules host seed status.Done end due h over =
     let whole = over.whole in
     let s = setting end.opening.script rules model.tells in
-    whole.complete
+    whole.complete over.asked
     (all_done_of s (length end.journal.items) (progress_of end.opening.script end.journal.items).jobs end.jobs whole.ends
     (all_fed end h.1) h.3)
 done_with model rules host seed status.Left end due h over = λ none.
     let whole = over.whole in
     let s = setting end.opening.script rules model.tells in
-    whole.complete
+    whole.complete over.asked
     (all_done_of s (length end.journal.items) (progress_of end.opening.script end.journal.items).jobs end.jobs whole.ends
     (all_fed end h.1) none)
 done_with model rules host seed status.GaveUp end due h over = tt

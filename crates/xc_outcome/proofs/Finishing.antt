@@ -16,7 +16,9 @@ use Rattle.xc_model.specs.Ending.{IsTrueEnd, StopWhereFull, all_done, is_done_en
 use Rattle.xc_model.specs.Handles.{AreCalled}
 use Rattle.xc_model.specs.Progress.{opening_progress}
 use Rattle.xc_model.specs.Serial.{IsSerial}
+use Rattle.xc_model.specs.Live.{IsScripted}
 use Rattle.xc_model.specs.Setting.{Setting, setting}
+use Rattle.xc_text.proofs.Laws.{parsed_blocks}
 use Rattle.xc_model.specs.declared.rules.Rules.{Rules}
 use Rattle.xc_serial.proofs.Laws.{all_are_done, plain_end, nothing_remains}
 use Rattle.xc_station.specs.declared.run_result.End.{End}
@@ -30,6 +32,12 @@ use Rattle.xc_outcome.specs.Outcomes.{IsEndOf, IsPrepared, IsStartOf, IsWrittenA
 use Rattle.xc_outcome.specs.Runs.{IsEndOver, IsRun, IsRunOf, IsSerialRun, chosen_seed, final_of, is_refused_by}
 use Rattle.xc_outcome.specs.Said.{Edges, IsAnswered, IsDone, IsDueWithEnd, IsFullRun, IsUndisturbed, gives_up, is_given_up}
 use Rattle.xc_outcome.proofs.Completeness.{caused_by_run, done_with}
+
+-- ---- a station that was started
+-- the blocks of its script ask its transactions
+pub starts_scripted : {H : Type 0} (model : HostModel H) (bytes : List ℕ) (rules : Rules) (host : H) (station : StationView H)
+    → IsStartOf model bytes rules host station → IsScripted station.opening.script
+starts_scripted model bytes rules host station start = parsed_blocks bytes station.opening.script start.read
 
 -- ---- the end of a run
 module _ {H : Type 0} (model : HostModel H) (rules : Rules) (host : H) (first last : StationView H) (end : End H)
@@ -52,6 +60,8 @@ module _ {H : Type 0} (model : HostModel H) (rules : Rules) (host : H) (first la
   pub is_run_of : (bytes : List ℕ) → IsStartOf model bytes rules host first → IsRunOf model bytes rules host end
   is_run_of bytes start =
       let same = same_opening in
+      let own : IsScripted first.opening.script = starts_scripted model bytes rules host first start in
+      let mine : IsScripted end.opening.script = subst (λ (o : Opening). IsScripted o.script) (sym same) own in
       let whole = whole_by start.ruled in
       let faults : last.opening.faults ≡ model.fault_count host =
       ap (λ (o : Opening). o.faults) origin.opening ∙ start.faults in (
@@ -59,18 +69,21 @@ module _ {H : Type 0} (model : HostModel H) (rules : Rules) (host : H) (first la
         record {
           scripted = ap (λ (o : Opening). is_refused_by model.takes_scripts o.script) same ∙ start.scripted;
           faults = ap (λ (o : Opening). o.faults) same ∙ start.faults;
+          asked = mine;
           whole = whole;
           kept = left.kept;
-          accounted = journal_accounts (setting end.opening.script rules model.tells) end.journal.items whole.journal;
+          accounted = journal_accounts (setting end.opening.script rules model.tells) end.journal.items mine whole.journal;
           counted = subst (λ n. RisesBy (sum_by entry_faults end.journal.items) n (model.fault_count end.host)) faults left.counted;
-          called = subst (λ (o : Opening). AreCalled o.script end.journal.items (model.calls end.host)) (sym left.opening) left.called;
+          called = subst (λ (o : Opening). AreCalled o.script end.journal.items (model.calls end.host)) (sym left.opening)
+              (left.called (subst (λ (o : Opening). IsScripted o.script) (sym origin.opening) own));
           plan = left.plan;
         },
       )
 
   -- and of one whose jobs ran one after another, where they did
-  pub is_serial_run : first.rules ≡ rules → 1 ≤ rules.attempts → 1 ≤ rules.undo_tries → RanAlone model last → IsSerialRun model end
-  is_serial_run ruled attempts undo_tries ran =
+  pub is_serial_run : IsScripted end.opening.script → first.rules ≡ rules → 1 ≤ rules.attempts → 1 ≤ rules.undo_tries → RanAlone model last
+      → IsSerialRun model end
+  is_serial_run own ruled attempts undo_tries ran =
       let serial : IsSerial end.journal.items = subst IsSerial (sym left.journal) ran.1.serial in
       let stops : StopWhereFull end.jobs end.journal.items =
       subst (StopWhereFull end.jobs) (sym left.journal) (alone_stops _ ran.0 end.jobs ran.1 left.lines) in
@@ -78,7 +91,7 @@ module _ {H : Type 0} (model : HostModel H) (rules : Rules) (host : H) (first la
         serial = serial;
         stops = stops;
         plain = λ tells none fed.
-            plain_end (setting end.opening.script rules model.tells) end.journal.items (final_of model end) tells attempts undo_tries
+            plain_end (setting end.opening.script rules model.tells) end.journal.items (final_of model end) own tells attempts undo_tries
             (whole_by ruled) serial stops none fed;
       }
 
@@ -115,8 +128,8 @@ full_as_meant : {H : Type 0} (model : HostModel H) (rules : Rules) (host : H) (e
 full_as_meant model rules host end seed status.NoMemory due some tries is over calm = tt
 full_as_meant model rules host end seed status.Done due some tries is over calm =
     let s = setting end.opening.script rules model.tells in
-    over.whole.complete
-    (all_are_done s end.journal.items (final_of model end) some over.whole calm.unmet calm.room is.1)
+    over.whole.complete over.asked
+    (all_are_done s end.journal.items (final_of model end) over.asked some over.whole calm.unmet calm.room is.1)
 full_as_meant model rules host end seed status.Left due some tries is over calm =
     let s = setting end.opening.script rules model.tells in
     let joint = joint_of_parts s end.journal.items over.whole.journal in
@@ -125,7 +138,7 @@ full_as_meant model rules host end seed status.Left due some tries is over calm 
     cc
 full_as_meant model rules host end seed status.GaveUp due some tries is over calm =
     let s = setting end.opening.script rules model.tells in
-    let done = all_are_done s end.journal.items (final_of model end) some over.whole calm.unmet calm.room is.1 in
+    let done = all_are_done s end.journal.items (final_of model end) over.asked some over.whole calm.unmet calm.room is.1 in
     let no : true ≡ false = sym is.3 ∙ none_gave_up end.jobs done in
     cc
 full_as_meant model rules host end seed (status.Refused line why) due some tries is over calm = absurd is

@@ -3,6 +3,8 @@
 -- so it is where neither memory nor the sink was wanting
 pub use Rattle.xc_outcome.proofs.Completeness.{said_plainly}
 -- ---- Finishing: A run that was prepared, and all of whose jobs have ended, has the end and the answer that are promised, whatever took its turns.
+-- the blocks of a started station's script ask its transactions
+pub use Rattle.xc_outcome.proofs.Finishing.{starts_scripted}
 -- it is the end of a run of the bytes that were started
 pub use Rattle.xc_outcome.proofs.Finishing.{is_run_of}
 -- and of one whose jobs ran one after another, where they did

@@ -6,6 +6,7 @@ use Rattle.xc_data.specs.Faults.{entry_faults}
 use Rattle.xc_data.specs.Step.{Step}
 use Rattle.xc_edge.specs.View.{StreamView}
 use Rattle.xc_host.specs.Model.{HostModel, plan_of}
+use Rattle.xc_model.specs.Live.{IsScripted}
 use Rattle.xc_model.specs.Consistent.{AreLinesOf}
 use Rattle.xc_model.specs.Ending.{IsTrueEnd}
 use Rattle.xc_model.specs.Handles.{AreCalled}
@@ -63,7 +64,7 @@ module _ {H : Type 0} (model : HostModel H) where
     pub whole : IsTrueEnd (setting station.opening.script station.rules model.tells) end.journal.items (final_of model end)
     pub kept : AreKept end.kept
     pub counted : RisesBy (sum_by entry_faults end.journal.items) station.opening.faults (model.fault_count end.host)
-    pub called : AreCalled station.opening.script end.journal.items (model.calls end.host)
+    pub called : IsScripted station.opening.script → AreCalled station.opening.script end.journal.items (model.calls end.host)
     pub plan : model.plan end.host ≡ plan_of end.opening.script.outline.prologue
 
 -- this was due with the status that was meant, and was written, or a front of it

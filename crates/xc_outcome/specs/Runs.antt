@@ -14,6 +14,7 @@ use Rattle.xc_generator.specs.Summary.{summary_of}
 use Rattle.xc_host.specs.Contents.{Contents, needs_scripted}
 use Rattle.xc_host.specs.Kept.{with_kept}
 use Rattle.xc_host.specs.Model.{HostModel, plan_of}
+use Rattle.xc_model.specs.Live.{IsScripted}
 use Rattle.xc_model.specs.Accounted.{AreAccounted}
 use Rattle.xc_model.specs.Ending.{Final, IsTrueEnd, StopWhereFull, wanted_memory}
 use Rattle.xc_model.specs.Handles.{AreCalled}
@@ -99,6 +100,8 @@ module _ {H : Type 0} (model : HostModel H) where
   pub record IsEndOver (rules : Rules) (host : H) (end : End H) : Type 0 where
     pub scripted : is_refused_by model.takes_scripts end.opening.script ≡ false
     pub faults : end.opening.faults ≡ model.fault_count host
+    -- its blocks ask its transactions, and no client
+    pub asked : IsScripted end.opening.script
     -- the journal is true of the script, and leads to the words, to the host's contents with the kept data in front, and to the jobs' ends
     pub whole : IsTrueEnd (setting end.opening.script rules model.tells) end.journal.items (final_of end)
     -- what is kept stands in order: pipes by number, then pairs by number and side; no item is empty but a message

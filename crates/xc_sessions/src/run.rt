@@ -2,6 +2,7 @@ ghost use Rattle.std.specs.Prelude.{◌≡◌, ◌≤◌, [], None, map, string_
 ghost use Rattle.xc_sessions.specs.Headline.{AreServed, IsServedRun, status_of, wanted_of};
 ghost use Rattle.xc_sessions.specs.Options.{serve_settings_of};
 ghost use Rattle.xc_sessions.specs.Parts.{AreWorked, sessions_in};
+ghost use Rattle.xc_model.specs.Live.{IsScripted};
 ghost use Rattle.xc_station.specs.Stations.{KeepsOrigin, NobodyLives};
 
 use crate::start::{ServeStarted, start};
@@ -33,6 +34,7 @@ fn work<
     M: Duplex + Send + Drop,
     L: Links<Link = M> + Send + Drop,
 >(rt: &R, station: Station<H>, links: L, count: u32) -> Worked<H, M, L>
+    requires scripted { IsScripted station.opening.script }
     requires journal { station.journal ≡ [] }
     requires at_most { count ≤ 64 }
     ensures origin { KeepsOrigin station result.station }

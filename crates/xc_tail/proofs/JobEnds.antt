@@ -13,6 +13,7 @@ use Rattle.xc_data.specs.declared.entry.JobLine.{JobLine}
 use Rattle.xc_lines.specs.declared.shown.JobShown.{JobShown}
 use Rattle.xc_lines.specs.declared.shown.JobShown.TheVariants as ended
 use Rattle.xc_model.specs.Ending.{IsEnd, IsLine, AreEnds}
+use Rattle.xc_model.specs.Live.{IsScripted}
 use Rattle.xc_model.specs.Progress.{Following}
 use Rattle.xc_model.specs.Setting.{Setting}
 use Rattle.xc_model.specs.declared.rules.Rules.{Rules}
@@ -49,7 +50,7 @@ abbrev pub FindsJobLines : Setting → ℕ → Numbered → List Line → Option
 FindsJobLines s entries from lines found =
     MatchOption found ((rest : List Line) → HasJobLines s entries from lines rest → ⊥) (HasJobLines s entries from lines)
 
-module _ (s : Setting) (rules : Rules) (entries : ℕ) (same : s.rules ≡ rules) (some : 1 ≤ rules.attempts) where
+module _ (s : Setting) (rules : Rules) (entries : ℕ) (own : IsScripted s.script) (same : s.rules ≡ rules) (some : 1 ≤ rules.attempts) where
   -- the attempts that are allowed
   most : s.rules.attempts ≡ rules.attempts
   most = ap (λ (r : Rules). r.attempts) same
@@ -59,7 +60,8 @@ module _ (s : Setting) (rules : Rules) (entries : ℕ) (same : s.rules ≡ rules
     ends_to : (shown : JobShown) → ends_so rules entries j shown ≡ true → EndsAs s entries f shown
     ends_to ended.Done passed =
         let p = and_parts (not j.is_starved) (not j.is_left) passed in
-        (job_end.Done, refl, (sym told.starved ∙ not-true j.is_starved p.0, none_there (next_body s.script f.job) (sym told.left ∙ not-true j.is_left p.1)))
+        let none = none_there (next_body s.script f.job) (sym told.left ∙ not-true j.is_left p.1) in
+        (job_end.Done, refl, (sym told.starved ∙ not-true j.is_starved p.0, λ _. none))
     ends_to ended.GaveUp passed =
         let p = and_parts (not j.is_starved && j.is_left) (nat_le rules.attempts j.failed) passed in
         let q = and_parts (not j.is_starved) j.is_left p.0 in
@@ -89,7 +91,7 @@ module _ (s : Setting) (rules : Rules) (entries : ℕ) (same : s.rules ≡ rules
     -- a job's end passes
     end_so : (e : JobEnd) → IsEnd s entries f e → ends_so rules entries j (job_end_shown e) ≡ true
     end_so job_end.Done end =
-        both_true (not_from_false j.is_starved (told.starved ∙ end.0)) (not_from_false j.is_left (told.left ∙ ap is_some end.1))
+        both_true (not_from_false j.is_starved (told.starved ∙ end.0)) (not_from_false j.is_left (told.left ∙ ap is_some (end.1 own)))
     end_so (job_end.GaveUp c) end =
         let enough = end.2 in
         let count = told.failed in
@@ -175,11 +177,11 @@ module _ (s : Setting) (rules : Rules) (entries : ℕ) (same : s.rules ≡ rules
       by_line false passed finds = without_line number f fs l lines (λ shown. cc (line_from f j told.0 number l shown, passed))
 
 -- the same of what was found
-pub jobs_at : (s : Setting) (rules : Rules) (entries : ℕ) → s.rules ≡ rules → 1 ≤ rules.attempts → (told : List Following) (jobs : List JobLeft)
-    (lines : List Line) → AllZip (IsToldOf s.script) told jobs → (found : Option (List Line)) → found ≡ behind_jobs rules entries 1 jobs lines
-    → FindsJobLines s entries (numbered_jobs 1 told) lines found
-jobs_at s rules entries same some told jobs lines zip found is =
-    subst (FindsJobLines s entries (numbered_jobs 1 told) lines) (sym is) (jobs_found s rules entries same some 1 told jobs lines zip)
+pub jobs_at : (s : Setting) (rules : Rules) (entries : ℕ) → IsScripted s.script → s.rules ≡ rules → 1 ≤ rules.attempts
+    → (told : List Following) (jobs : List JobLeft) (lines : List Line) → AllZip (IsToldOf s.script) told jobs
+    → (found : Option (List Line)) → found ≡ behind_jobs rules entries 1 jobs lines → FindsJobLines s entries (numbered_jobs 1 told) lines found
+jobs_at s rules entries own same some told jobs lines zip found is =
+    subst (FindsJobLines s entries (numbered_jobs 1 told) lines) (sym is) (jobs_found s rules entries own same some 1 told jobs lines zip)
 
 -- what is behind them is so much of the lines
 pub jobs_rest : (s : Setting) (entries number : ℕ) (told : List Following) (lines rest : List Line)

@@ -4,6 +4,7 @@ use Rattle.xc_turns.proofs.Laws.{alone_opened}
 use Rattle.xc_app.specs.Followed.{IsFollowed}
 use Rattle.xc_app.proofs.Finishing.{finished}
 use Rattle.xc_app.proofs.Following.{followed}
+use Rattle.xc_outcome.proofs.Laws.{starts_scripted}
 use Rattle.xc_app.proofs.run.run_without_threads.Goals as goal
 
 pub returns-in-Ok-2-clause-finished : goal.returns-in-Ok-2-clause-finished
@@ -21,3 +22,6 @@ returns-in-Ok-2-clause-followed g c =
     subst (λ o. IfSome o (IsFollowed g.H.Host.model (map string_bytes c.args.words.now)
     (record { old = g.S.Source.told c.args.source.now; new = g.S.Source.told c.start.new.source }) c.args.host)) (sym some)
     (followed _ _ _ _ _ _ end c.in-Ok.ensures.started turns.listed turns.seeded left)
+
+pub take_turns-station-requires-clause-scripted : goal.take_turns-station-requires-clause-scripted
+take_turns-station-requires-clause-scripted g c = starts_scripted _ _ _ _ _ c.in-Ok.ensures.started.prepared.start

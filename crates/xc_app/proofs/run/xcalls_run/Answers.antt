@@ -5,6 +5,7 @@ use Rattle.xc_app.specs.Headline.{IsFinished}
 use Rattle.xc_outcome.specs.Outcomes.{IsWrittenAs}
 use Rattle.xc_app.proofs.Finishing.{finished, threads_not_alone}
 use Rattle.xc_app.proofs.Following.{followed_by_workers}
+use Rattle.xc_outcome.proofs.Laws.{starts_scripted}
 use Rattle.xc_app.proofs.run.xcalls_run.Goals as goal
 
 -- the workers' run is finished
@@ -37,3 +38,8 @@ returns-in-Started-clause-followed g c =
     subst (λ o. IfSome o (IsFollowed g.H.Host.model (map string_bytes c.args.words.now)
     (record { old = g.S.Source.told c.args.source.now; new = g.S.Source.told c.run_without_threads.new.source }) c.args.host)) (sym some)
     (followed_by_workers _ _ _ _ _ _ end start needs left)
+
+pub take_together-station-requires-clause-scripted : goal.take_together-station-requires-clause-scripted
+take_together-station-requires-clause-scripted g c lifetimes within =
+    let (needs, same, start) = c.in-Started.ensures.started in
+    starts_scripted _ _ _ _ _ start.prepared.start

@@ -33,7 +33,7 @@ pub returns-clause-only : goal.returns-clause-only
 returns-clause-only c journal jobs words kept h are =
     let s = telling c.args.script.now c.args.rules.now in
     let p = c.in_ok-entries.field-0 in
-    let parts = c.in_ok-entries.ensures.only journal jobs words kept are (each_replied s journal h.is_true) in
+    let parts = c.in_ok-entries.ensures.only journal jobs words kept are (each_replied s journal c.requires.scripted h.is_true) in
     let says = subst (λ (tail : _). IfOk c.check_entries.result (IsVerdictIn s p.entries tail)) c.as_slice.ensures c.check_entries.ensures in
     IfOk-weaker c.check_entries.result (IsVerdictIn s p.entries p.tail) (λ (verdict : Verdict). verdict ≡ Yes)
-    (λ verdict. says_yes_of s journal jobs words kept refl h p.entries p.tail verdict parts.0 parts.1) says
+    (λ verdict. says_yes_of s journal jobs words kept c.requires.scripted refl h p.entries p.tail verdict parts.0 parts.1) says

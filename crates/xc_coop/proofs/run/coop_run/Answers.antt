@@ -1,6 +1,7 @@
 use Rattle.std.proofs.Common.{refl, map, string_bytes}
 use Rattle.xc_coop.specs.Headline.{IsCoopFinished}
 use Rattle.xc_coop.proofs.Finishing.{coop_finished}
+use Rattle.xc_outcome.proofs.Laws.{starts_scripted}
 use Rattle.xc_coop.proofs.run.coop_run.Goals as goal
 
 -- the run is finished
@@ -21,3 +22,6 @@ returns-in-Ok-clause-run g c = (by_polls g c).run
 
 pub returns-in-Ok-clause-complete : goal.returns-in-Ok-clause-complete
 returns-in-Ok-clause-complete g c = (by_polls g c).complete
+
+pub take_cooperatively-station-requires-clause-scripted : goal.take_cooperatively-station-requires-clause-scripted
+take_cooperatively-station-requires-clause-scripted g c = starts_scripted _ _ _ _ _ c.in-Ok.ensures.started.prepared.start

@@ -6,6 +6,7 @@ use Rattle.xc_sessions.specs.Headline.{IsStatusOf, wanted_of}
 use Rattle.xc_sessions.specs.Options.{serve_settings_of}
 use Rattle.xc_sessions.proofs.Endings.{status_by_counts, sessions_so}
 use Rattle.xc_sessions.proofs.Finishing.{serve_finished}
+use Rattle.xc_outcome.proofs.Laws.{starts_scripted}
 use Rattle.xc_sessions.proofs.run.serve_run.Goals as goal
 
 pub returns-in-Ok-clause-served : goal.returns-in-Ok-clause-served
@@ -33,3 +34,6 @@ returns-in-Ok-clause-sessions g c =
     rw some (rw c.listed.ensures (rw c.status_of-status.ensures (rw c.is_some.ensures
     (sessions_so g.M.Duplex.told links c.work-worked.result.station.journal end c.finish_run-finish.result.status _ _ c.faults-failed_before.ensures
     c.faults.ensures left.journal words c.in-Ok.started.chosen sessions c.in-Ok.ensures.started.chose c.work-worked.ensures.sessions))))
+
+pub work-worked-requires-clause-scripted : goal.work-worked-requires-clause-scripted
+work-worked-requires-clause-scripted g c lifetimes within = starts_scripted _ _ _ _ _ c.in-Ok.ensures.started.prepared.start
