@@ -274,7 +274,7 @@ impl Client<'_> {
     pub fn run<T>(&mut self, mut body: impl FnMut(&Tx<'_>) -> Result<T, Stop>) -> Result<T, Stop> {
         loop {
             self.desk.begin(self.number)?;
-            let tx = Tx { desk: self.desk, number: self.number, ends: Cell::new(true), by_one: PhantomData };
+            let tx = Tx { desk: self.desk, number: self.number, ends: Cell::new(true), again: Cell::new(false), by_one: PhantomData };
             match body(&tx).and_then(|found| tx.commit().map(|()| found)) {
                 Err(Stop::Again) => {}
                 done => return done,
@@ -296,6 +296,8 @@ pub struct Tx<'d> {
     number: u32,
     /// Whether no commit was asked yet. An abort of a transaction that is gone changes nothing.
     ends: Cell<bool>,
+    /// Whether a call said that the attempt was rolled back: also that of a handle that was dropped, which hands nothing on.
+    again: Cell<bool>,
     by_one: PhantomData<*mut ()>,
 }
 
@@ -313,8 +315,13 @@ impl Tx<'_> {
         match self.desk.enter(|desk| unsafe { c::xc_commit(desk, self.number) }) {
             c::OK => Ok(()),
             c::AGAIN => Err(Stop::Again),
-            _ => Err(Stop::Cut),
+            _ => Err(self.gone()),
         }
+    }
+
+    /// Why there is no transaction any more.
+    fn gone(&self) -> Stop {
+        if self.again.get() { Stop::Again } else { Stop::Cut }
     }
 
     /// Makes a call, and says how it was answered.
@@ -322,13 +329,16 @@ impl Tx<'_> {
         let mut said = Said::default();
         match self.desk.enter(|desk| call(desk, self.number, &mut said)) {
             c::OK => Ok(said),
-            c::AGAIN => Err(Stop::Again),
+            c::AGAIN => {
+                self.again.set(true);
+                Err(Stop::Again)
+            }
             c::REFUSED => Err(Stop::Refused(said.refusal())),
             c::BAD_NAME => Err(Stop::Refused(Refusal::BadName)),
             c::TOO_MANY_NAMES => Err(Stop::Refused(Refusal::TooManyNames)),
             c::MISPLACED => Err(Stop::Refused(Refusal::Misplaced)),
             c::NO_MEMORY => Err(Stop::Refused(Refusal::NoMemory)),
-            c::NOT_BEGUN => Err(Stop::Cut),
+            c::NOT_BEGUN => Err(self.gone()),
             _ => Err(Stop::Ended),
         }
     }
