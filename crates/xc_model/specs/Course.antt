@@ -21,7 +21,7 @@ pub record Standing : Type 0 where
   pub block : List ℕ
   pub first : Option ℕ
   pub failed : List Cause
-  -- its last entry was aborted for lack of memory: nothing more is asked
+  -- its last entry was aborted for lack of memory: of a script nothing more is asked; of clients nobody looks at it
   pub starved : Bool
   -- how long the journal was after its last entry, or after that of its starter
   pub since : ℕ
@@ -60,7 +60,7 @@ course_commit c f e late =
       words = c.words;
     }
 
--- an abort that was asked for, or a block that got stuck, is the end of its transaction; want of memory that of its job; any
+-- an abort that was asked for, or a block that got stuck, is the end of its transaction; want of memory that of a script's job; any
 -- other is tried again
 abbrev pub standing_abort : ℕ → Standing → Entry → Cause → Standing
 standing_abort entered f e cause.Asked = standing_anew f.block (entered + 1)

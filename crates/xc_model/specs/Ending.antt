@@ -16,7 +16,7 @@ use Rattle.xc_host.specs.Contents.{Contents, contents_of}
 use Rattle.xc_text.specs.declared.script.Script.{Script}
 use Rattle.xc_script.specs.Ask.{next_body, transactions_at}
 use Rattle.xc_world.specs.World.{State}
-use Rattle.xc_model.specs.Live.{IsScripted}
+use Rattle.xc_model.specs.Live.{GoesOn, IsScripted, most_entries}
 use Rattle.xc_model.specs.Setting.{Setting}
 use Rattle.xc_model.specs.Progress.{Following, Progress, opening_progress, after_entry, following_of, progress_of}
 use Rattle.xc_model.specs.EntryEnds.{AreUnrevoked, is_tried_again}
@@ -28,13 +28,14 @@ abbrev pub HasGivenUp : Setting → Following → Cause → Type 0
 HasGivenUp s f c = (s.rules.attempts ≤ length f.failed) × (before : List Cause) × (f.failed ≡ before ++ c ∷ [])
 
 -- done where no transaction of a script is left, or where its client says so; given up after so many attempts as the rules allow;
--- ended by a full journal where an attempt was left, and so many entries there are; without memory wherever a transaction is left
+-- ended by a full journal where an attempt was left, and so many entries there are; without memory wherever a transaction of a script is
+-- left
 abbrev pub IsEnd : Setting → ℕ → Following → JobEnd → Type 0
-IsEnd s entries f job_end.Done = (f.starved ≡ false) × (IsScripted s.script → next_body s.script f.job ≡ None)
-IsEnd s entries f (job_end.GaveUp c) = (f.starved ≡ false) × IsSome (next_body s.script f.job) × HasGivenUp s f c
+IsEnd s entries f job_end.Done = GoesOn s.script f.starved × (IsScripted s.script → next_body s.script f.job ≡ None)
+IsEnd s entries f (job_end.GaveUp c) = GoesOn s.script f.starved × IsSome (next_body s.script f.job) × HasGivenUp s f c
 IsEnd s entries f job_end.JournalFull =
-    (f.starved ≡ false) × IsSome (next_body s.script f.job) × (length f.failed < s.rules.attempts) × (10000 ≤ entries)
-IsEnd s entries f job_end.NoMemory = IsSome (next_body s.script f.job)
+    GoesOn s.script f.starved × IsSome (next_body s.script f.job) × (length f.failed < s.rules.attempts) × (10000 ≤ entries)
+IsEnd s entries f job_end.NoMemory = IsScripted s.script × IsSome (next_body s.script f.job)
 
 -- a job's line has its block's name, and its end
 pub record IsLine (s : Setting) (entries : ℕ) (f : Following) (line : JobLine) : Type 0 where
@@ -131,8 +132,8 @@ pub record IsFinalState (state : State) (final : Final) : Type 0 where
 -- what a run ends in: a true journal, what it leads to, and each started job's end
 pub record IsTrueEnd (s : Setting) (entries : List Entry) (final : Final) : Type 0 where
   pub journal : IsTrueJournal s entries
-  -- it has no more than 10,000 entries, and none that follows as many failed attempts of its transaction as the rules allow
-  pub few : length entries ≤ 10000
+  -- it has no more entries than it may, and none that follows as many failed attempts of its transaction as the rules allow
+  pub few : length entries ≤ most_entries s.script
   pub attempts : HaveAttemptsLeft s (opening_progress s.script) entries
   -- where nobody may wait, nothing was revoked
   pub patience : s.rules.patience ≡ 0 → AreUnrevoked entries

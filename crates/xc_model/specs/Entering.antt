@@ -56,7 +56,8 @@ abbrev pub attempts_with : Option Attempts → TxView → Cause → Attempts
 attempts_with attempts tx c = record { first = tx.rank; failed = failures attempts + 1; last = c }
 
 -- after an abort the handles and the variables are those of the start. A transaction that aborted itself is passed;
--- one that met a holder or was revoked is tried again; for lack of memory nothing more is asked
+-- one that met a holder or was revoked is tried again; for lack of memory a script is asked nothing more, and a client begins
+-- anew after its next turn
 abbrev pub behind_abort : JobView → TxView → Cause → JobView
 behind_abort job tx cause.Asked =
     record job {
@@ -74,7 +75,13 @@ behind_abort job tx (cause.Stuck failed) =
       busy = 0;
       doing = Idle;
     }
-behind_abort job tx cause.NoMemory = record job { handed = None; busy = 0; doing = Starved }
+behind_abort job tx cause.NoMemory =
+    record job {
+      place = at_begin (record { block = job.place.block; next = job.place.next; variables = job.place.begun });
+      handed = None;
+      busy = 0;
+      doing = Starved;
+    }
 behind_abort job tx c =
     record job {
       place = at_begin (record { block = job.place.block; next = job.place.next; variables = job.place.begun });

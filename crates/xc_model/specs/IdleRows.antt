@@ -1,4 +1,4 @@
--- The rows of an idle job: it ends, waits, or begins its next transaction.
+-- The rows of an idle job: it ends, waits, begins its next transaction, or finds no memory for that.
 use Rattle.std.specs.Prelude.{◌≡◌, ℕ, ◌+◌, ◌<◌, ◌≤◌, List, [], length}
 use Rattle.std.specs.Prelude.{IsSome, Bool, true, false}
 use Rattle.std.specs.Prelude.{Option}
@@ -14,7 +14,7 @@ use Rattle.xc_data.specs.declared.private.Private.{Private}
 use Rattle.xc_script.specs.declared.ask.Ask.TheVariants as ask
 use Rattle.xc_model.specs.declared.phase.Attempts.{Attempts}
 use Rattle.xc_model.specs.declared.phase.Phase.TheVariants.{Running}
-use Rattle.xc_model.specs.Live.{has_clients}
+use Rattle.xc_model.specs.Live.{IsScripted, has_clients, most_entries}
 use Rattle.xc_model.specs.Setting.{Setting}
 use Rattle.xc_model.specs.Moment.{TxView, JobView, Ended, Moment}
 use Rattle.xc_model.specs.Moment.{begun_count, failures, rank_of, with_job}
@@ -62,7 +62,7 @@ pub record MayBegin (s : Setting) (now : Moment) (job : JobView) : Type 0 where
   pub more : IsOver (has_clients s.script) s job → ⊥
   pub attempts : failures job.attempts < s.rules.attempts
   pub free : WaitsForNobody s now job
-  pub room : begun_count now < 10000
+  pub room : begun_count now < most_entries s.script
 
 -- a transaction that has just begun
 abbrev pub new_tx : ℕ → ℕ → ℕ → Private → TxView
@@ -101,18 +101,18 @@ abbrev pub IsSpent : Setting → Option Attempts → Cause → Type 0
 IsSpent s None c = ⊥
 IsSpent s (Some a) c = (s.rules.attempts ≤ a.failed) × (a.last ≡ c)
 
--- it ends like this; for lack of memory it may wherever a transaction is left
+-- it ends like this; for lack of memory a script's may wherever a transaction is left
 abbrev pub IsEnding : Setting → Moment → JobView → JobEnd → Type 0
 IsEnding s now job job_end.Done = IsOver (has_clients s.script) s job
 IsEnding s now job (job_end.GaveUp c) = IsSome (body_at s job.place) × IsSpent s job.attempts c
 IsEnding s now job job_end.JournalFull =
     IsSome (body_at s job.place) × (failures job.attempts < s.rules.attempts) × WaitsForNobody s now job × (10000 ≤ begun_count now)
-IsEnding s now job job_end.NoMemory = IsSome (body_at s job.place)
+IsEnding s now job job_end.NoMemory = IsScripted s.script × IsSome (body_at s job.place)
 
 module _ (m : Mover) where
-  -- an idle job ends, waits, or its next transaction begins
+  -- an idle job ends, waits, or its next transaction begins; where a client's might and there is no memory for it, nothing changes
   abbrev pub IdleTurn : Turn → Moment → Type 0
   IdleTurn (turn.Ended end) new = IsEnding m.setting m.old m.job end × (new ≡ with_job m.old m.at (record m.job { doing = Ended end }))
   IdleTurn turn.Went new = MayBegin m.setting m.old m.job × (new ≡ beginning_at m.old m.at m.job)
   IdleTurn (turn.Busy object number) new = IsWaiting m.setting m.old m.job object number × (new ≡ with_job m.old m.at (asked_to_wait m.job))
-  IdleTurn _ new = ⊥
+  IdleTurn turn.NoMemory new = (has_clients m.setting.script ≡ true) × MayBegin m.setting m.old m.job × (new ≡ m.old)

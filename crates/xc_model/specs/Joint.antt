@@ -15,7 +15,7 @@ use Rattle.xc_model.specs.EntryEnds.{AreRecords, HasAbortCause, IsCommit, IsHeld
 use Rattle.xc_model.specs.Grounds.{Part, AreGrounded, scene_of}
 use Rattle.xc_model.specs.Handles.{IsHandledJournal}
 use Rattle.xc_model.specs.InTime.{AreInTime}
-use Rattle.xc_model.specs.Live.{IsScripted}
+use Rattle.xc_model.specs.Live.{GoesOn, IsScripted}
 use Rattle.xc_model.specs.Machine.{BeginInOrder, counting, machine_part, numbers_of}
 use Rattle.xc_model.specs.Progress.{Following, Progress, opening_progress, private_of}
 use Rattle.xc_model.specs.Progress.{body_of, following_of, after_entry}
@@ -35,7 +35,7 @@ IsAskedFor tries e next (Aborted report) =
 -- one entry's part in the story of its job f, after the entries before it; `last` was asked after its replies
 pub record IsStory (s : Setting) (p : Progress) (f : Following) (last : Ask) (e : Entry) : Type 0 where
   -- the job goes on, and a transaction of it is left
-  pub goes_on : f.starved ≡ false
+  pub goes_on : GoesOn s.script f.starved
   pub left : IsSome (next_body s.script f.job)
   -- it began after its job's entry before, and before its own place
   pub since : f.since ≤ e.began

@@ -1,5 +1,5 @@
 -- Scripts whose transactions are asked by clients, call by call: what was handed in stands beside the job's place.
-use Rattle.std.specs.Prelude.{◌≡◌, Bool, true, false, Option, unwrap_or}
+use Rattle.std.specs.Prelude.{◌≡◌, ℕ, Bool, true, false, Option, unwrap_or, if◌then◌else◌}
 use Rattle.xc_text.specs.declared.script.Script.{Script}
 use Rattle.xc_script.specs.declared.ask.Ask.{Ask}
 use Rattle.xc_script.specs.declared.ask.Ask.TheVariants as ask
@@ -18,3 +18,11 @@ asked_by false script handed place = asks (walk_of script place)
 -- its jobs are asked by its blocks
 abbrev pub IsScripted : Script → Type 0
 IsScripted script = has_clients script ≡ false
+
+-- a script's job goes on where its last entry wasn't aborted for lack of memory; a client's goes on in any case
+abbrev pub GoesOn : Script → Bool → Type 0
+GoesOn script starved = IsScripted script → starved ≡ false
+
+-- the most entries that a journal has: what clients did is handed out, so theirs ends only where the numbers of transactions do
+abbrev pub most_entries : Script → ℕ
+most_entries script = if has_clients script then 4294967295 else 10000

@@ -23,10 +23,11 @@ use Rattle.xc_model.specs.Progress.{body_of, private_of}
 use Rattle.xc_model.specs.Recorded.{no_records, all_records, AreFewFaults}
 use Rattle.xc_model.specs.WordCalls.{AreWordReplies}
 
--- the rules, and whether the host tells its contents
+-- the rules, whether the host tells its contents, and whether clients ask the transactions
 pub record Terms : Type 0 where
   pub rules : Rules
   pub tells : Bool
+  pub clients : Bool
 
 -- ---- one entry, by the reasons for which it may be false
 -- numbers: it began after its job's entry before, and before its own place
@@ -34,11 +35,11 @@ pub record IsBegunInTurn (c : Course) (f : Standing) (e : Entry) : Type 0 where
   pub since : f.since ≤ e.began
   pub began : e.began ≤ c.entered
 
--- story: its job goes on, its rank is the number of the first attempt, and so many attempts may fail
-pub record IsAttempt (attempts : ℕ) (f : Standing) (e : Entry) : Type 0 where
-  pub goes_on : f.starved ≡ false
+-- story: its job goes on, where no client asks it; its rank is the number of the first attempt, and so many attempts may fail
+pub record IsAttempt (t : Terms) (f : Standing) (e : Entry) : Type 0 where
+  pub goes_on : t.clients ≡ false → f.starved ≡ false
   pub rank : e.rank ≡ unwrap_or f.first e.tx
-  pub failures : failures_with f.failed e.outcome ≤ attempts
+  pub failures : failures_with f.failed e.outcome ≤ t.rules.attempts
 
 -- on this state the replies are the plain machine's with the recorded faults
 pub record IsPlayedBody (state : State) (e : Entry) : Type 0 where
@@ -81,7 +82,7 @@ IsEndAsked last e (Aborted report) = HasAbortCause (all_records no_records e.cal
 -- an entry of the job that stands so; `last` was asked after its replies
 pub record IsMachineEntry (t : Terms) (c : Course) (last : Ask) (f : Standing) (e : Entry) : Type 0 where
   pub numbers : IsBegunInTurn c f e
-  pub story : IsAttempt t.rules.attempts f e
+  pub story : IsAttempt t f e
   pub replies : HasReplies t c e
   pub lates : HasLates t c e e.outcome
   pub records : HasRecordsOf t c last e e.outcome

@@ -61,7 +61,8 @@ pub record TxView : Type 0 where
   -- in an open block what its save kept
   pub saved : Option SavedView
 
--- what a job does: it has no active transaction; it has one; its last one was aborted for lack of memory; it has ended
+-- what a job does: it has no active transaction; it has one; its last one was aborted for lack of memory, and no turn came since; it
+-- has ended
 pub data Doing : Type 0 where
   Idle : Doing
   Active : TxView → Doing

@@ -36,7 +36,7 @@ pub record Following : Type 0 where
   pub first : Option ℕ
   -- why the attempts at it ended that are to be tried again
   pub failed : List Cause
-  -- its last entry was aborted for lack of memory: nothing more is asked
+  -- its last entry was aborted for lack of memory: of a script nothing more is asked; of clients nobody looks at it
   pub starved : Bool
   -- how long the journal was after its last entry, or after that of its starter
   pub since : ℕ

@@ -1,5 +1,5 @@
 -- The table of turns: from one moment to the next, a row for each thing that a job may do.
-use Rattle.std.specs.Prelude.{◌≡◌, ℕ, ◌-◌, List, ◌++◌, length, replicate, slice_get}
+use Rattle.std.specs.Prelude.{◌≡◌, true, ℕ, ◌-◌, List, ◌++◌, length, replicate, slice_get}
 use Rattle.std.specs.declared.option.Option.TheVariants.{Some}
 use Rattle.xc_data.specs.declared.entry.Entry.{Entry}
 use Rattle.xc_data.specs.declared.entry.JobEnd.TheVariants as job_end
@@ -8,6 +8,7 @@ use Rattle.xc_data.specs.declared.entry.Turn.TheVariants as turn
 use Rattle.xc_script.specs.declared.ask.Ask.{Ask}
 use Rattle.xc_model.specs.declared.phase.Phase.{Phase}
 use Rattle.xc_model.specs.declared.phase.Phase.TheVariants.{Running, Committing, Undoing, Backing}
+use Rattle.xc_model.specs.Live.{IsScripted, has_clients}
 use Rattle.xc_model.specs.Setting.{Setting}
 use Rattle.xc_model.specs.Moment.{TxView, JobView, Doing, Idle, Active, Starved, Ended, Moment}
 use Rattle.xc_model.specs.Moment.{with_job}
@@ -20,9 +21,11 @@ use Rattle.xc_model.specs.BackingRows.{MarkedBack}
 
 -- ---- all rows
 module _ (m : Mover) where
-  -- a job whose last transaction was aborted for lack of memory ends
+  -- a job whose last transaction was aborted for lack of memory ends; where clients ask it is idle again
   abbrev pub StarvedTurn : Turn → Moment → Type 0
-  StarvedTurn (turn.Ended job_end.NoMemory) new = new ≡ with_job m.old m.at (record m.job { doing = Ended job_end.NoMemory })
+  StarvedTurn (turn.Ended job_end.NoMemory) new =
+      IsScripted m.setting.script × (new ≡ with_job m.old m.at (record m.job { doing = Ended job_end.NoMemory }))
+  StarvedTurn turn.Went new = (has_clients m.setting.script ≡ true) × (new ≡ with_job m.old m.at (record m.job { doing = Idle }))
   StarvedTurn _ new = ⊥
 
   -- a job with an active transaction, by the transaction's phase

@@ -38,7 +38,7 @@ use Rattle.xc_model.specs.Recorded.{Recorded, no_records, all_records, AreFewFau
 use Rattle.xc_data.specs.Calls.{thread_asked, thread_in}
 use Rattle.xc_data.specs.Private.{IsSided}
 use Rattle.xc_model.specs.Moment.{TxView, SavedView, JobView, Doing, Idle, Active, Starved, Ended, actives, active_of, revoked}
-use Rattle.xc_model.specs.Live.{IsScripted, has_clients}
+use Rattle.xc_model.specs.Live.{GoesOn, IsScripted, has_clients, most_entries}
 use Rattle.xc_model.specs.Movers.{asked_at}
 
 -- ---- an active transaction, as a part of its job's story
@@ -151,7 +151,7 @@ FitsWhereItRuns _ saved last = Unit {0}
 
 -- the active transaction of a job that the journal tells so far as f; `last` is asked where it stands
 pub record IsUnderway (s : Setting) (f : Following) (place : Position) (last : Ask) (tx : TxView) : Type 0 where
-  pub goes_on : f.starved ≡ false
+  pub goes_on : GoesOn s.script f.starved
   pub left : IsSome (next_body s.script f.job)
   pub attempts : length f.failed < s.rules.attempts
   pub rank : tx.rank ≡ unwrap_or f.first tx.number
@@ -186,9 +186,9 @@ AreAttempts f (Some a) =
 
 -- what it does; `begun` transactions have begun in all
 abbrev pub IsDoing : Setting → ℕ → Following → JobView → Doing → Type 0
-IsDoing s begun f job Idle = (f.starved ≡ false) × (job.place ≡ at_begin f.job)
+IsDoing s begun f job Idle = GoesOn s.script f.starved × (job.place ≡ at_begin f.job)
 IsDoing s begun f job (Active tx) = IsUnderway s f job.place (asked_at s job) tx
-IsDoing s begun f job Starved = (f.starved ≡ true) × IsSome (next_body s.script f.job)
+IsDoing s begun f job Starved = (f.starved ≡ true) × IsSome (next_body s.script f.job) × (job.place ≡ at_begin f.job)
 IsDoing s begun f job (Ended end) = IsEnd s begun f end
 
 -- a job goes on with its story
@@ -285,5 +285,5 @@ pub record StoriesHold (s : Setting) (words : ℕ) (marks : ℕ → Option Mark)
       → slice_get (progress_of s.script journal).jobs at ≡ Some f → slice_get jobs at ≡ Some job
       → StoryHolds s (length journal + length (actives jobs)) (length journal) f job
   pub begins : AreBegins journal (begins_of journal jobs)
-  pub few : length journal + length (actives jobs) ≤ 10000
+  pub few : length journal + length (actives jobs) ≤ most_entries s.script
   pub grounded : AreGrounded (scene_at (reading s words marks) lasts journal jobs)

@@ -46,15 +46,15 @@ module _ (s : Setting) (old : Moment) (at : ℕ) (job : JobView) (there : slice_
   idle_flies turn.Went doing row = subst (AreInFlight s) (sym row.1) (row_begins s old at job there told flying (ap active_in doing))
   idle_flies (turn.Busy object number) doing row =
       row_waits s old at job there told flying new (asked_to_wait job) refl refl refl refl (waits_only old new at (asked_to_wait job) old.marks row.1)
-  idle_flies turn.NoMemory doing row = absurd row
+  idle_flies turn.NoMemory doing row = subst (AreInFlight s) (sym row.2) flying
 
   starved_flies : (answer : Turn) → job.doing ≡ Starved → StarvedTurn (mover s at old job) answer new → AreInFlight s new
   starved_flies (turn.Ended job_end.NoMemory) doing row =
-      subst (AreInFlight s) (sym row) (row_ends s old at job there told flying (Ended job_end.NoMemory) (ap active_in doing) refl)
+      subst (AreInFlight s) (sym row.1) (row_ends s old at job there told flying (Ended job_end.NoMemory) (ap active_in doing) refl)
   starved_flies (turn.Ended job_end.Done) doing row = absurd row
   starved_flies (turn.Ended (job_end.GaveUp c)) doing row = absurd row
   starved_flies (turn.Ended job_end.JournalFull) doing row = absurd row
-  starved_flies turn.Went doing row = absurd row
+  starved_flies turn.Went doing row = subst (AreInFlight s) (sym row.1) (row_ends s old at job there told flying Idle (ap active_in doing) refl)
   starved_flies (turn.Busy object holder) doing row = absurd row
   starved_flies turn.NoMemory doing row = absurd row
 

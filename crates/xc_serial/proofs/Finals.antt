@@ -24,6 +24,7 @@ use Rattle.xc_model.specs.Setting.{Setting}
 use Rattle.xc_model.specs.Serial.{AreSerial, IsSerial, all_final, is_alone, is_asked, is_final}
 use Rattle.xc_model.specs.EntryEnds.{is_tried_again}
 use Rattle.xc_text.specs.declared.script.Script.{Script}
+use Rattle.xc_model.proofs.Laws.{most_scripted}
 use Rattle.xc_turns.proofs.Laws.{IsNotStarved, all_go, joint_of_parts}
 use Rattle.xc_serial.specs.Plain.{plain_job_end, plain_journal, plain_lines, plain_text}
 use Rattle.xc_serial.specs.Undisturbed.{all_alone, is_full, is_full_end}
@@ -56,19 +57,19 @@ alone_in_order place (e ∷ entries) order =
 
 -- ---- the jobs' ends
 -- where memory wasn't wanting no job starved
-goes_on : (s : Setting) (n : ℕ) (f : Following) (d : JobEnd) → IsEnd s n f d → is_memory d ≡ false → f.starved ≡ false
-goes_on s n f job_end.Done ends fed = ends.0
-goes_on s n f (job_end.GaveUp c) ends fed = ends.0
-goes_on s n f job_end.JournalFull ends fed = ends.0
-goes_on s n f job_end.NoMemory ends fed = cc
+goes_on : (s : Setting) (n : ℕ) (f : Following) (d : JobEnd) → IsScripted s.script → IsEnd s n f d → is_memory d ≡ false → f.starved ≡ false
+goes_on s n f job_end.Done own ends fed = ends.0 own
+goes_on s n f (job_end.GaveUp c) own ends fed = ends.0 own
+goes_on s n f job_end.JournalFull own ends fed = ends.0 own
+goes_on s n f job_end.NoMemory own ends fed = cc
 
-all_go_on : (s : Setting) (n : ℕ) (jobs : List Following) (lines : List JobLine) → AreEnds s n jobs lines → list_any is_starved lines ≡ false
-    → AllByRecursion IsNotStarved jobs
-all_go_on s n [] lines ends fed = tt
-all_go_on s n (f ∷ jobs) [] ends fed = absurd ends
-all_go_on s n (f ∷ jobs) (line ∷ lines) ends fed =
+all_go_on : (s : Setting) (n : ℕ) (jobs : List Following) (lines : List JobLine) → IsScripted s.script → AreEnds s n jobs lines
+    → list_any is_starved lines ≡ false → AllByRecursion IsNotStarved jobs
+all_go_on s n [] lines own ends fed = tt
+all_go_on s n (f ∷ jobs) [] own ends fed = absurd ends
+all_go_on s n (f ∷ jobs) (line ∷ lines) own ends fed =
     let parts = or_parts (is_starved line) (list_any is_starved lines) fed in
-    (goes_on s n f line.end ends.0.end parts.0, all_go_on s n jobs lines ends.1 parts.1)
+    (goes_on s n f line.end own ends.0.end parts.0, all_go_on s n jobs lines own ends.1 parts.1)
 
 -- an end where no attempt failed: the plain one, and after a job that has a transaction left the journal is full
 record IsPlainEnd (s : Setting) (n : ℕ) (f : Following) (d : JobEnd) : Type 0 where
@@ -188,8 +189,8 @@ is_fed s entries final own some whole alone fed =
     let opening = opening_progress s.script in
     let parts = or_parts (list_any is_starved final.lines) (some_late_starved entries) fed in
     let jobs = (progress_of s.script entries).jobs in
-    let go = all_go_on s (length entries) jobs final.lines whole.ends parts.0 in
-    let settled = all_are_settled entries alone (all_go s opening joint.lasts entries told go).1 in
+    let go = all_go_on s (length entries) jobs final.lines own whole.ends parts.0 in
+    let settled = all_are_settled entries alone (all_go s opening joint.lasts entries own told go).1 in
     let untried = untried_all s opening joint.lasts entries told settled (untried_opening s.script s.script.outline.jobs) in
     record { settled = settled; late = parts.1; ends = plain_are s (length entries) jobs final.lines own some untried whole.ends parts.0 }
 
@@ -205,7 +206,7 @@ same_entries s entries final own tells tries whole serial stop faults fed =
     let next = are_next s opening 10000 joint.lasts entries told (rise entries serial.jobs)
     (over_before s (length entries) jobs final.lines entries fed.ends stop) (all_over s (length entries) jobs final.lines fed.ends) in
     same_journal s opening 0 10000 joint.lasts entries own told tells tries serial.order faults fed.late fed.settled
-    (untried_opening s.script s.script.outline.jobs) whole.few next
+    (untried_opening s.script s.script.outline.jobs) (subst (λ n. length entries ≤ n) (most_scripted s.script own) whole.few) next
 
 -- where no attempt met another, no job found the journal full and nothing wanted memory, each job ended by its last transaction
 pub all_are_done : (s : Setting) (entries : List Entry) (final : Final) → IsScripted s.script → 1 ≤ s.rules.attempts → IsTrueEnd s entries final

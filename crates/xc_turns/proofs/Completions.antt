@@ -226,17 +226,17 @@ outcome_goes script p f e (Committed late) started goes each =
 outcome_goes script p f e (Aborted r) started goes each = cause_goes p f e r.cause started goes each
 
 -- of all entries
-pub all_go : (s : Setting) (p : Progress) (lasts : List Ask) (journal : List Entry) → AreTrue s p lasts journal
+pub all_go : (s : Setting) (p : Progress) (lasts : List Ask) (journal : List Entry) → IsScripted s.script → AreTrue s p lasts journal
     → AllByRecursion IsNotStarved (fold (after_entry s.script) p journal).jobs
     → AllByRecursion IsNotStarved p.jobs × (list_all (λ (e : Entry). is_final_or_tried_again e.outcome) journal ≡ true)
-all_go s p lasts [] are each = (each, refl)
-all_go s p [] (e ∷ journal) are each = absurd are
-all_go s p (last ∷ lasts) (e ∷ journal) are each =
+all_go s p lasts [] own are each = (each, refl)
+all_go s p [] (e ∷ journal) own are each = absurd are
+all_go s p (last ∷ lasts) (e ∷ journal) own are each =
     let t = are.0 in
-    let rest = all_go s (after_entry s.script p e) lasts journal are.1 each in
+    let rest = all_go s (after_entry s.script p e) lasts journal own are.1 each in
     let next : AllByRecursion IsNotStarved (after_outcome s.script p t.following e e.outcome).jobs =
     subst (λ o. AllByRecursion IsNotStarved (after_following s.script p e o).jobs) t.started rest.0 in
-    let here = outcome_goes s.script p t.following e e.outcome t.started t.entry.story.goes_on next in
+    let here = outcome_goes s.script p t.following e e.outcome t.started (t.entry.story.goes_on own) next in
     (here.0, and_from (is_final_or_tried_again e.outcome) (list_all (λ (x : Entry). is_final_or_tried_again x.outcome) journal) here.1 rest.1)
 
 -- ---- the end
@@ -247,7 +247,7 @@ past_all (x ∷ xs) (suc n) e = let le = past_all xs n e in omega arith
 
 done_is : (s : Setting) (entries : ℕ) (f : Following) (end : JobEnd) → IsScripted s.script → is_done_end end ≡ true → IsEnd s entries f end
     → IsNotStarved f × (next_body s.script f.job ≡ None)
-done_is s entries f job_end.Done own e h = (h.0, h.1 own)
+done_is s entries f job_end.Done own e h = (h.0 own, h.1 own)
 done_is s entries f (job_end.GaveUp c) own e h = cc
 done_is s entries f job_end.JournalFull own e h = cc
 done_is s entries f job_end.NoMemory own e h = cc
@@ -275,6 +275,6 @@ complete s lasts entries lines own are ends done =
     let jobs : List Following = (progress_of s.script entries).jobs in
     let end = ends_done s (length entries) jobs lines own ends done (all_within s start lasts entries own are first) in
     record {
-      others = (all_go s start lasts entries are end.0).1;
+      others = (all_go s start lasts entries own are end.0).1;
       count = omega (arith, all_pass s start lasts entries are, none, end.1);
     }

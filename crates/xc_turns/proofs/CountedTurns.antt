@@ -135,15 +135,15 @@ module _ (s : Setting) (at from : ℕ) (old : Moment) (job : JobView) (new : Mom
       still_counted (beginning_job old job) (ap (λ (n : Moment). n.jobs) row.1) (ap (λ (n : Moment). n.journal) row.1) (ap (λ (n : Moment). n.faults) row.1)
       (ap (λ d. adds tx_faults (active_in d)) (sym is))
   by_idle is (turn.Busy object number) row = with_counted (asked_to_wait job) row.1 refl
-  by_idle is turn.NoMemory row = absurd row
+  by_idle is turn.NoMemory row = subst (AreCounted from) (sym row.2) h
 
   by_starved : job.doing ≡ Starved → (answer : Turn) → StarvedTurn (mover s at old job) answer new → AreCounted from new
   by_starved is (turn.Ended job_end.NoMemory) row =
-      with_counted (record job { doing = Ended job_end.NoMemory }) row (ap (λ d. adds tx_faults (active_in d)) (sym is))
+      with_counted (record job { doing = Ended job_end.NoMemory }) row.1 (ap (λ d. adds tx_faults (active_in d)) (sym is))
   by_starved is (turn.Ended job_end.Done) row = absurd row
   by_starved is (turn.Ended (job_end.GaveUp c)) row = absurd row
   by_starved is (turn.Ended job_end.JournalFull) row = absurd row
-  by_starved is turn.Went row = absurd row
+  by_starved is turn.Went row = with_counted (record job { doing = Idle }) row.1 (ap (λ d. adds tx_faults (active_in d)) (sym is))
   by_starved is (turn.Busy object holder) row = absurd row
   by_starved is turn.NoMemory row = absurd row
 

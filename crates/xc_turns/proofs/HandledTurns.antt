@@ -48,7 +48,7 @@ use Rattle.xc_turns.proofs.HandledTx.{backed_handled, begun_made, called_handled
 use Rattle.xc_turns.proofs.HandledRows.{aborted_handled, committed_handled, stays_handled, there}
 use Rattle.xc_turns.proofs.Jobs.{behind_abort_none}
 use Rattle.xc_turns.proofs.LateEnds.{Ends, next_ends, next_uses}
-use Rattle.xc_turns.proofs.Lists.{get_beside}
+use Rattle.xc_turns.proofs.Lists.{get_beside, set_itself}
 use Rattle.xc_turns.proofs.Progressing.{lasts_grow, lasts_stay}
 use Rattle.xc_model.proofs.Laws.{asked_same, in_time-count}
 
@@ -144,16 +144,20 @@ module _ (s : Setting) (at : ℕ) (old : Moment) (job : JobView) (new : Moment) 
     by_idle is (turn.Busy object number) row =
         rests (record job { busy = job.busy + 1 }) refl (ap active_in is) (ap (λ (n : Moment). n.journal) row.1) (ap (λ (n : Moment). n.jobs) row.1)
         (λ kind. ap (λ (n : Moment). n.calls kind) row.1)
-    by_idle is turn.NoMemory row = absurd row
+    by_idle is turn.NoMemory row =
+        rests job refl idle (ap (λ (n : Moment). n.journal) row.2) (ap (λ (n : Moment). n.jobs) row.2 ∙ sym (set_itself old.jobs at job stands))
+        (λ kind. ap (λ (n : Moment). n.calls kind) row.2)
 
     by_starved : (answer : Turn) → StarvedTurn (mover s at old job) answer new → After
     by_starved (turn.Ended job_end.NoMemory) row =
-        rests (record job { doing = Ended job_end.NoMemory }) refl refl (ap (λ (n : Moment). n.journal) row) (ap (λ (n : Moment). n.jobs) row)
-        (λ kind. ap (λ (n : Moment). n.calls kind) row)
+        rests (record job { doing = Ended job_end.NoMemory }) refl refl (ap (λ (n : Moment). n.journal) row.1) (ap (λ (n : Moment). n.jobs) row.1)
+        (λ kind. ap (λ (n : Moment). n.calls kind) row.1)
     by_starved (turn.Ended job_end.Done) row = absurd row
     by_starved (turn.Ended (job_end.GaveUp c)) row = absurd row
     by_starved (turn.Ended job_end.JournalFull) row = absurd row
-    by_starved turn.Went row = absurd row
+    by_starved turn.Went row =
+        rests (record job { doing = Idle }) refl refl (ap (λ (n : Moment). n.journal) row.1) (ap (λ (n : Moment). n.jobs) row.1)
+        (λ kind. ap (λ (n : Moment). n.calls kind) row.1)
     by_starved (turn.Busy object holder) row = absurd row
     by_starved turn.NoMemory row = absurd row
 

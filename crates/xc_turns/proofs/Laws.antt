@@ -92,6 +92,8 @@ pub use Rattle.xc_turns.proofs.LateEnds.{next_ends}
 -- each turn leaves fewer
 pub use Rattle.xc_turns.proofs.Lefts.{leaves_fewer}
 -- ---- Lists: Lists: what stands in one place, one element in another's place, one more after, and what is picked.
+-- nothing changes where it stands there already
+pub use Rattle.xc_turns.proofs.Lists.{set_itself}
 -- the front stays
 pub use Rattle.xc_turns.proofs.Lists.{get_front}
 -- inside the front nothing changes
@@ -165,3 +167,5 @@ pub use Rattle.xc_turns.proofs.Jobs.{active_here}
 pub use Rattle.xc_turns.proofs.Jobs.{active_before}
 -- and those that were still are
 pub use Rattle.xc_turns.proofs.Jobs.{active_after}
+-- where no job has an active one there is none
+pub use Rattle.xc_turns.proofs.Jobs.{none_active}

@@ -51,6 +51,7 @@ use Rattle.xc_model.specs.Movers.{IsSamePosition, with_tx}
 use Rattle.xc_model.specs.Entering.{entry_of, behind_commit, behind_abort}
 use Rattle.xc_model.specs.PlainSteps.{noting, wanting, claims_at}
 use Rattle.xc_model.specs.IdleRows.{beginning_job}
+use Rattle.xc_model.proofs.Laws.{not_clients}
 use Rattle.xc_model.specs.Measure.{attempt_turns, bodies_turns, phase_turns, doing_turns, job_turns, most_turns, turns_left}
 use Rattle.xc_turns.proofs.Lists.{sum_set_place}
 use Rattle.xc_turns.proofs.LateCounts.{kept_few, left_less, left_more, left_some}
@@ -172,7 +173,7 @@ idle_falls s own at old new job (turn.Busy object number) stands is (waits, same
     let now_left = doing_turns s (failures job.attempts) job.place.at (bodies_at s job.place) job.doing in
     falls_by s at old new job (asked_to_wait job) stands (ap (λ (n : Moment). n.jobs) same)
     (below_waiting s job job.doing now_left refl waits.patient (omega arith))
-idle_falls s own at old new job turn.NoMemory stands is h = absurd h
+idle_falls s own at old new job turn.NoMemory stands is h = absurd (not_clients s.script h.0 own)
 
 -- ---- a job with an active transaction that goes on
 moves_on : (s : Setting) (at : ℕ) (old new : Moment) (job : JobView) (place : Position) (handed : Option Ask) (tx next : TxView)
@@ -377,7 +378,7 @@ abort_less s job tx cause.Asked = passes s job tx
 abort_less s job tx cause.NoMemory =
     let bodies = bodies_at s job.place in
     let failed = failures job.attempts in
-    subst (λ n. (s.rules.patience - 0) + n < doing_turns s failed job.place.at bodies (Active tx)) (sym (starved_is s failed job.place.at bodies))
+    subst (λ n. (s.rules.patience - 0) + n < doing_turns s failed job.place.at bodies (Active tx)) (sym (starved_is s failed 0 bodies))
     (active_some s failed job.place.at bodies tx)
 abort_less s job tx (cause.Conflict object holder at) = again_falls s (failures job.attempts) job.place.at (bodies_at s job.place) tx
 abort_less s job tx (cause.Revoked object by at) = again_falls s (failures job.attempts) job.place.at (bodies_at s job.place) tx
@@ -412,27 +413,27 @@ active_falls s own at old new job tx Backing answer stands is phase h =
     back_marked_falls s own at old new job tx (old.marks tx.number) answer stands is phase h
 active_falls s own at old new job tx (Undoing c) answer stands is phase h = undoing_falls s at old new job tx c answer stands is phase h
 
-starved_falls : (s : Setting) (at : ℕ) (old new : Moment) (job : JobView) (answer : Turn) → slice_get old.jobs at ≡ Some job → job.doing ≡ Starved
-    → StarvedTurn (mover s at old job) answer new → turns_left s new < turns_left s old
-starved_falls s at old new job (turn.Ended job_end.NoMemory) stands is same =
+starved_falls : (s : Setting) (own : IsScripted s.script) (at : ℕ) (old new : Moment) (job : JobView) (answer : Turn) → slice_get old.jobs at ≡ Some job
+    → job.doing ≡ Starved → StarvedTurn (mover s at old job) answer new → turns_left s new < turns_left s old
+starved_falls s own at old new job (turn.Ended job_end.NoMemory) stands is same =
     let bodies = bodies_at s job.place in
     let failed = failures job.attempts in
-    falls_by s at old new job (record job { doing = Ended job_end.NoMemory }) stands (ap (λ (n : Moment). n.jobs) same)
+    falls_by s at old new job (record job { doing = Ended job_end.NoMemory }) stands (ap (λ (n : Moment). n.jobs) same.1)
     (subst (λ n. (s.rules.patience - job.busy) + n < job_turns s job) (sym (ended_is s failed job.place.at bodies job_end.NoMemory))
     (below_same s job Starved 0 is (omega (arith, starved_is s failed job.place.at bodies))))
-starved_falls s at old new job (turn.Ended job_end.Done) stands is h = absurd h
-starved_falls s at old new job (turn.Ended (job_end.GaveUp c)) stands is h = absurd h
-starved_falls s at old new job (turn.Ended job_end.JournalFull) stands is h = absurd h
-starved_falls s at old new job turn.Went stands is h = absurd h
-starved_falls s at old new job turn.NoMemory stands is h = absurd h
-starved_falls s at old new job (turn.Busy object holder) stands is h = absurd h
+starved_falls s own at old new job (turn.Ended job_end.Done) stands is h = absurd h
+starved_falls s own at old new job (turn.Ended (job_end.GaveUp c)) stands is h = absurd h
+starved_falls s own at old new job (turn.Ended job_end.JournalFull) stands is h = absurd h
+starved_falls s own at old new job turn.Went stands is h = absurd (not_clients s.script h.0 own)
+starved_falls s own at old new job turn.NoMemory stands is h = absurd h
+starved_falls s own at old new job (turn.Busy object holder) stands is h = absurd h
 
 doing_falls : (s : Setting) (own : IsScripted s.script) (at : ℕ) (old new : Moment) (job : JobView) (d : Doing) (answer : Turn)
     → slice_get old.jobs at ≡ Some job → job.doing ≡ d
     → TurnOf (mover s at old job) d answer new → turns_left s new < turns_left s old
 doing_falls s own at old new job Idle answer stands is h = idle_falls s own at old new job answer stands is h
 doing_falls s own at old new job (Active tx) answer stands is h = active_falls s own at old new job tx tx.phase answer stands is refl h
-doing_falls s own at old new job Starved answer stands is h = starved_falls s at old new job answer stands is h
+doing_falls s own at old new job Starved answer stands is h = starved_falls s own at old new job answer stands is h
 doing_falls s own at old new job (Ended end) answer stands is h = absurd h
 
 -- each turn leaves fewer

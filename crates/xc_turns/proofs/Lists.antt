@@ -1,5 +1,5 @@
 -- Lists: what stands in one place, one element in another's place, one more after, and what is picked.
-use Rattle.std.proofs.Common.{◌≡◌, ◌⊎◌, inl, inr, ℕ, ◌+◌, ◌<◌, List, [], ◌∷◌, ◌++◌, length, zero, suc, refl, ap, ◌∙◌, arith}
+use Rattle.std.proofs.Common.{◌≡◌, ◌⊎◌, inl, inr, ℕ, ◌+◌, ◌<◌, List, [], ◌∷◌, ◌++◌, length, zero, suc, refl, ap, sym, ◌∙◌, arith}
 use Rattle.std.specs.Prelude.{Contains, Option, map, slice_get, slice_set, sum_by}
 use Rattle.std.specs.List.{filter_map, cons_option}
 use Rattle.std.specs.declared.option.Option.TheVariants.{None, Some}
@@ -21,6 +21,12 @@ get_beside xs [] i y e h = cc
 get_beside [] (b ∷ ys) i y e h = absurd (omega arith)
 get_beside (a ∷ xs) (b ∷ ys) zero y e h = (a, refl)
 get_beside (a ∷ xs) (b ∷ ys) (suc i) y e h = get_beside xs ys i y (omega arith) h
+
+-- nothing changes where it stands there already
+pub set_itself : {A : Type 0} → (xs : List A) (i : ℕ) (x : A) → slice_get xs i ≡ Some x → slice_set xs i x ≡ xs
+set_itself [] i x e = refl
+set_itself (y ∷ xs) zero x e = let same : y ≡ x = cc in ap (λ z. z ∷ xs) (sym same)
+set_itself (y ∷ xs) (suc i) x e = ap (λ ys. y ∷ ys) (set_itself xs i x e)
 
 -- ---- one list after another
 -- the front stays

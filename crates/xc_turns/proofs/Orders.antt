@@ -1,5 +1,5 @@
 -- Turns of one job alone keep transactions one after another.
-use Rattle.std.proofs.Common.{◌≡◌, ℕ, ◌+◌, ◌≤◌, inl, inr, List, [], ◌∷◌, ◌++◌, length, zero, suc}
+use Rattle.std.proofs.Common.{◌≡◌, ℕ, ◌+◌, ◌<◌, ◌≤◌, inl, inr, List, [], ◌∷◌, ◌++◌, length, zero, suc}
 use Rattle.std.proofs.Common.{refl, ap, sym, ◌∙◌, subst, arith, false, not}
 use Rattle.std.proofs.lemmas.List.Elements.{All-nil, All-weaker}
 use Rattle.std.specs.Prelude.{slice_get, Option, All}
@@ -21,7 +21,9 @@ use Rattle.xc_script.specs.declared.ask.Ask.TheVariants as ask
 use Rattle.xc_data.specs.declared.entry.Mark.{Mark}
 use Rattle.xc_model.specs.declared.phase.Phase.{Phase}
 use Rattle.xc_model.specs.declared.phase.Phase.TheVariants.{Running, Committing, Undoing, Backing}
+use Rattle.xc_model.specs.Live.{IsScripted}
 use Rattle.xc_model.specs.Setting.{Setting}
+use Rattle.xc_model.proofs.Laws.{most_scripted}
 use Rattle.xc_model.specs.Serial.{IsSerial}
 use Rattle.xc_model.specs.EntryEnds.{is_tried_again}
 use Rattle.xc_model.specs.Moment.{TxView, JobView, Doing, Idle, Active, Starved, Ended, Moment, active_in, active_of, actives, begun_count, late_left}
@@ -80,22 +82,22 @@ ended_full s at old job (job_end.GaveUp c) stands is ending alone full = cc
 ended_full s at old job job_end.NoMemory stands is ending alone full = cc
 
 idle_row : (s : Setting) (at : ℕ) (old new : Moment) (job : JobView) (answer : Turn) → slice_get old.jobs at ≡ Some job → job.doing ≡ Idle
-    → IdleTurn (mover s at old job) answer new → AreAlone old at → AreAlone new at
-idle_row s at old new job turn.Went stands is (ready, same) alone =
+    → IsScripted s.script → IdleTurn (mover s at old job) answer new → AreAlone old at → AreAlone new at
+idle_row s at old new job turn.Went stands is own (ready, same) alone =
     let first = idle_alone at old job stands is alone in
-    let room = ready.room in
+    let room : begun_count old < 10000 = subst (λ n. begun_count old < n) (most_scripted s.script own) ready.room in
     let tx : TxView = new_tx (begun_count old + 1) (rank_of job.attempts (begun_count old + 1)) (length old.journal) job.me in
     alone_goes_on at old new job (beginning_job old job) tx stands (ap (λ (n : Moment). n.jobs) same) (ap (λ (n : Moment). n.journal) same)
     (λ n. ap (λ (now : Moment). now.marks n) same ∙ none_left old.marks (begun_count old + 1) alone.unmarked n) refl
     (omega (arith, first), refl, tt, omega (arith, first)) alone
-idle_row s at old new job (turn.Ended end) stands is (ending, same) alone =
+idle_row s at old new job (turn.Ended end) stands is own (ending, same) alone =
     rests at old new job (record job { doing = Ended end }) stands (ap (λ (n : Moment). n.jobs) same) (ap (λ (n : Moment). n.journal) same)
     (none_marked old new (ap (λ (n : Moment). n.marks) same) alone.unmarked) refl (ended_full s at old job end stands is ending alone) alone
-idle_row s at old new job (turn.Busy object number) stands is (waits, same) alone =
+idle_row s at old new job (turn.Busy object number) stands is own (waits, same) alone =
     rests at old new job (asked_to_wait job) stands (ap (λ (n : Moment). n.jobs) same) (ap (λ (n : Moment). n.journal) same)
     (none_marked old new (ap (λ (n : Moment). n.marks) same) alone.unmarked) (ap active_in is)
     (goes_unfull old.journal at (asked_to_wait job) Idle is (λ e. cc)) alone
-idle_row s at old new job turn.NoMemory stands is h alone = absurd h
+idle_row s at old new job turn.NoMemory stands is own h alone = subst (λ (n : Moment). AreAlone n at) (sym h.2) alone
 
 call_row : (s : Setting) (at : ℕ) (old new : Moment) (job : JobView) (tx : TxView) (c : Call) → slice_get old.jobs at ≡ Some job → job.doing ≡ Active tx
     → CalledTurn (mover s at old job) tx c new → AreAlone old at → AreAlone new at
@@ -247,25 +249,28 @@ active_row s at old new job tx (Undoing c) answer stands is phase h alone = undo
 starved_row : (s : Setting) (at : ℕ) (old new : Moment) (job : JobView) (answer : Turn) → slice_get old.jobs at ≡ Some job
     → StarvedTurn (mover s at old job) answer new → AreAlone old at → AreAlone new at
 starved_row s at old new job (turn.Ended job_end.NoMemory) stands same alone =
-    rests at old new job (record job { doing = Ended job_end.NoMemory }) stands (ap (λ (n : Moment). n.jobs) same) (ap (λ (n : Moment). n.journal) same)
-    (none_marked old new (ap (λ (n : Moment). n.marks) same) alone.unmarked) refl (λ e. cc) alone
+    rests at old new job (record job { doing = Ended job_end.NoMemory }) stands (ap (λ (n : Moment). n.jobs) same.1)
+    (ap (λ (n : Moment). n.journal) same.1) (none_marked old new (ap (λ (n : Moment). n.marks) same.1) alone.unmarked) refl (λ e. cc) alone
 starved_row s at old new job (turn.Ended job_end.Done) stands h alone = absurd h
 starved_row s at old new job (turn.Ended (job_end.GaveUp c)) stands h alone = absurd h
 starved_row s at old new job (turn.Ended job_end.JournalFull) stands h alone = absurd h
-starved_row s at old new job turn.Went stands h alone = absurd h
+starved_row s at old new job turn.Went stands same alone =
+    rests at old new job (record job { doing = Idle }) stands (ap (λ (n : Moment). n.jobs) same.1) (ap (λ (n : Moment). n.journal) same.1)
+    (none_marked old new (ap (λ (n : Moment). n.marks) same.1) alone.unmarked) refl (λ e. cc) alone
 starved_row s at old new job turn.NoMemory stands h alone = absurd h
 starved_row s at old new job (turn.Busy object holder) stands h alone = absurd h
 
 doing_row : (s : Setting) (at : ℕ) (old new : Moment) (job : JobView) (d : Doing) (answer : Turn) → slice_get old.jobs at ≡ Some job → job.doing ≡ d
-    → TurnOf (mover s at old job) d answer new → AreAlone old at → AreAlone new at
-doing_row s at old new job Idle answer stands is h alone = idle_row s at old new job answer stands is h alone
-doing_row s at old new job (Active tx) answer stands is h alone = active_row s at old new job tx tx.phase answer stands is refl h alone
-doing_row s at old new job Starved answer stands is h alone = starved_row s at old new job answer stands h alone
-doing_row s at old new job (Ended end) answer stands is h alone = absurd h
+    → IsScripted s.script → TurnOf (mover s at old job) d answer new → AreAlone old at → AreAlone new at
+doing_row s at old new job Idle answer stands is own h alone = idle_row s at old new job answer stands is own h alone
+doing_row s at old new job (Active tx) answer stands is own h alone = active_row s at old new job tx tx.phase answer stands is refl h alone
+doing_row s at old new job Starved answer stands is own h alone = starved_row s at old new job answer stands h alone
+doing_row s at old new job (Ended end) answer stands is own h alone = absurd h
 
--- a turn of the one job that goes on
-pub alone_turned : (s : Setting) (at : ℕ) (old new : Moment) (answer : Turn) → IsTurn s at old answer new → AreAlone old at → AreAlone new at
-alone_turned s at old new answer h alone = doing_row s at old new h.job h.job.doing answer h.there refl h.row alone
+-- a turn of the one job of a script that goes on
+pub alone_turned : (s : Setting) (at : ℕ) (old new : Moment) (answer : Turn) → IsScripted s.script → IsTurn s at old answer new → AreAlone old at
+    → AreAlone new at
+alone_turned s at old new answer own h alone = doing_row s at old new h.job h.job.doing answer h.there refl own h.row alone
 
 -- ---- before the first turn, and where a later job goes on
 -- a station before its first turn

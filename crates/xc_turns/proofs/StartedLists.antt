@@ -1,4 +1,5 @@
 -- The blocks of started jobs, where one job changes.
+use Rattle.xc_turns.proofs.Lists.{set_itself}
 use Rattle.std.proofs.Common.{◌≡◌, ◌≢◌, ℕ, zero, suc, Bool, true, false, List, [], ◌∷◌, ◌++◌, refl, ap, ap₂, sym, ◌∙◌, arith, append-nil}
 use Rattle.std.specs.Prelude.{Option, flat_map, is_some, map, slice_get, slice_set}
 use Rattle.std.specs.List.{cons_option, list_any}
@@ -89,13 +90,7 @@ only_here (x ∷ jobs) (suc at) job job' stands others =
     ∙ ap₂ (λ a b. a ++ b) (none_in (active_of x) (λ u e. others 0 u (λ z. omega (arith, z)) (x, refl, e)))
     (only_here jobs at job job' stands (λ j u ne (there, is, has). others (suc j) u (λ e. ne (omega (arith, e))) (there, is, has)))
 
--- nothing changes where the job stands already
-set_itself : (jobs : List JobView) (at : ℕ) (job : JobView) → slice_get jobs at ≡ Some job → slice_set jobs at job ≡ jobs
-set_itself [] at job stands = refl
-set_itself (x ∷ jobs) zero job stands = let same : x ≡ job = cc in ap (λ y. y ∷ jobs) (sym same)
-set_itself (x ∷ jobs) (suc at) job stands = ap (λ ys. x ∷ ys) (set_itself jobs at job stands)
-
--- and then they are those of the job there
+-- where it is the job that stands there already, all are its own
 pub only_there : (jobs : List JobView) (at : ℕ) (job : JobView) → slice_get jobs at ≡ Some job
     → ((j : ℕ) (u : TxView) → j ≢ at → IsActiveAt jobs j u → started_by u ≡ []) → all_started jobs ≡ started_of (active_of job)
 only_there jobs at job stands others = sym (ap all_started (set_itself jobs at job stands)) ∙ only_here jobs at job job stands others

@@ -175,16 +175,18 @@ module _ (s : Setting) (at : ℕ) (old : Moment) (job : JobView) (new : Moment) 
   by_idle is (turn.Busy object number) row =
       still_started (asked_to_wait job) (ap (λ (n : Moment). n.jobs) row.1) (ap (λ (n : Moment). n.started) row.1) refl refl
       (none_holds (asked_to_wait job) (ap active_in is))
-  by_idle is turn.NoMemory row = absurd row
+  by_idle is turn.NoMemory row = subst (AreStarted s.script) (sym row.2) h
 
   by_starved : job.doing ≡ Starved → (answer : Turn) → StarvedTurn (mover s at old job) answer new → AreStarted s.script new
   by_starved is (turn.Ended job_end.NoMemory) row =
-      still_started (record job { doing = Ended job_end.NoMemory }) (ap (λ (n : Moment). n.jobs) row) (ap (λ (n : Moment). n.started) row) refl
+      still_started (record job { doing = Ended job_end.NoMemory }) (ap (λ (n : Moment). n.jobs) row.1) (ap (λ (n : Moment). n.started) row.1) refl
       (ap (λ d. started_of (active_in d)) (sym is)) (none_holds (record job { doing = Ended job_end.NoMemory }) refl)
   by_starved is (turn.Ended job_end.Done) row = absurd row
   by_starved is (turn.Ended (job_end.GaveUp c)) row = absurd row
   by_starved is (turn.Ended job_end.JournalFull) row = absurd row
-  by_starved is turn.Went row = absurd row
+  by_starved is turn.Went row =
+      still_started (record job { doing = Idle }) (ap (λ (n : Moment). n.jobs) row.1) (ap (λ (n : Moment). n.started) row.1) refl
+      (ap (λ d. started_of (active_in d)) (sym is)) (none_holds (record job { doing = Idle }) refl)
   by_starved is (turn.Busy object holder) row = absurd row
   by_starved is turn.NoMemory row = absurd row
 

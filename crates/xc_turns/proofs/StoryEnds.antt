@@ -17,6 +17,7 @@ use Rattle.xc_script.specs.Blocks.{kept_calls}
 use Rattle.xc_model.specs.declared.phase.Attempts.{Attempts}
 use Rattle.xc_model.specs.declared.phase.Phase.TheVariants.{Committing}
 use Rattle.xc_model.specs.Setting.{Setting}
+use Rattle.xc_model.specs.Live.{most_entries}
 use Rattle.xc_model.specs.Progress.{Following, Progress, after_entry, following_abort, progress_of, started_from, started_following as progress_started}
 use Rattle.xc_model.specs.Joint.{IsTrueEntry}
 use Rattle.xc_model.specs.Movers.{asked_at}
@@ -71,7 +72,7 @@ enters s lasts journal jobs more_jobs at job next tx last e f g gs stands some n
           (subst (λ k. JobStoriesHold s k (length (journal ++ e ∷ [])) (slice_set fs at g ++ gs) next_jobs) (sym count)
           (subst (λ k. JobStoriesHold s n k (slice_set fs at g ++ gs) next_jobs) (sym length_is) all));
       begins = begins_moved journal (journal ++ e ∷ []) (begins_of journal jobs) (begins_of (journal ++ e ∷ []) next_jobs) more (omega arith) told.begins;
-      few = subst (λ k. k ≤ 10000) (sym count) told.few;
+      few = subst (λ k. k ≤ most_entries s.script) (sym count) told.few;
     }
 
 -- ---- its job after it
@@ -96,7 +97,7 @@ committed_told s begun entered led f job tx active commits count told =
       since = omega arith;
       attempts = (refl, refl);
       few = omega arith;
-      doing = (refl, ap at_begin same);
+      doing = (λ own. refl, ap at_begin same);
     }
 
 -- and the jobs that it started
@@ -116,7 +117,7 @@ started_told s begun entered led starter behind (block ∷ blocks) count fresh s
       since = omega arith;
       attempts = (refl, refl);
       few = omega arith;
-      doing = (refl, ap (λ variables. at_begin (started_from s.script variables block)) same);
+      doing = (λ own. refl, ap (λ variables. at_begin (started_from s.script variables block)) same);
     } in
     subst (λ h. StoryHolds s begun (entered + 1) h job) is_f (subst (StoryHolds s begun (entered + 1) g) is_job told)
 started_told s begun entered led starter behind (block ∷ blocks) count fresh sided same (suc at) f job got there =
@@ -142,7 +143,7 @@ asked_told s begun entered led f job tx e count under told =
       since = omega arith;
       attempts = (refl, refl);
       few = omega arith;
-      doing = (refl, ap at_begin same);
+      doing = (λ own. refl, ap at_begin same);
     }
 
 -- after one for lack of memory
@@ -151,6 +152,8 @@ wanted_told : (s : Setting) (begun entered led : ℕ) (f : Following) (job : Job
     → StoryHolds s begun (entered + 1) (following_abort led f e cause.NoMemory) (behind_abort job tx cause.NoMemory)
 wanted_told s begun entered led f job tx e count under told =
     let g = following_abort led f e cause.NoMemory in
+    let stood : Job = record { block = job.place.block; next = job.place.next; variables = job.place.begun } in
+    let same : stood ≡ f.job = same_job stood f.job under.standing.block under.standing.next under.standing.begun in
     record {
       block = told.block;
       fresh = told.fresh;
@@ -158,7 +161,7 @@ wanted_told s begun entered led f job tx e count under told =
       since = omega arith;
       attempts = attempts_same f g job.attempts refl refl told.attempts;
       few = told.few;
-      doing = (refl, under.left);
+      doing = (refl, under.left, ap at_begin same);
     }
 
 -- an attempt more that is to be tried again

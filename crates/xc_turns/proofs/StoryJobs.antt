@@ -12,6 +12,7 @@ use Rattle.xc_data.specs.declared.entry.JobEnd.TheVariants as job_end
 use Rattle.xc_data.specs.declared.entry.Mark.{Mark}
 use Rattle.xc_script.specs.declared.ask.Ask.{Ask}
 use Rattle.xc_model.specs.Setting.{Setting}
+use Rattle.xc_model.specs.Live.{most_entries}
 use Rattle.xc_model.specs.Grounds.{AreGrounded}
 use Rattle.xc_model.specs.Progress.{Following, opening_progress, progress_of}
 use Rattle.xc_model.specs.Joint.{AreTrue}
@@ -37,7 +38,7 @@ pub record StoriesHoldBut (s : Setting) (lasts : List Ask) (journal : List Entry
   pub count : length (progress_of s.script journal).jobs ≡ length jobs
   pub jobs_told : JobStoriesHold s (begun_in journal jobs) (length journal) (progress_of s.script journal).jobs jobs
   pub begins : AreBegins journal (begins_of journal jobs)
-  pub few : begun_in journal jobs ≤ 10000
+  pub few : begun_in journal jobs ≤ most_entries s.script
 
 -- it is a part of what is true between two turns
 pub told_but : (s : Setting) (words : ℕ) (marks : ℕ → Option Mark) (journal : List Entry) (jobs : List JobView)
@@ -142,13 +143,13 @@ story_goes_on s lasts journal jobs at job next stands same moves told =
           (told_in_place s n n e e fs fs jobs at job next f (omega arith) (omega arith) stands got (λ j ne. refl)
           (moves f (told.jobs_told at f job got stands)) told.jobs_told);
       begins = subst (λ bs. AreBegins journal (map entry_begin journal ++ bs)) (sym begins) told.begins;
-      few = subst (λ k. k ≤ 10000) (sym count) told.few;
+      few = subst (λ k. k ≤ most_entries s.script) (sym count) told.few;
     }
 
 -- one that begins
 pub begins_in : (s : Setting) (lasts : List Ask) (journal : List Entry) (jobs : List JobView) (at : ℕ) (job next : JobView) (tx : TxView)
     → slice_get jobs at ≡ Some job → active_of job ≡ None → active_of next ≡ Some tx → tx.number ≡ begun_in journal jobs + 1 → tx.began ≡ length journal
-    → begun_in journal jobs < 10000
+    → begun_in journal jobs < most_entries s.script
     → ((f : Following) → StoryHolds s (begun_in journal jobs) (length journal) f job → StoryHolds s (begun_in journal jobs + 1) (length journal) f next)
     → StoriesHoldBut s lasts journal jobs → StoriesHoldBut s lasts journal (slice_set jobs at next)
 begins_in s lasts journal jobs at job next tx stands none some number began room moves told =
@@ -170,5 +171,5 @@ begins_in s lasts journal jobs at job next tx stands none some number began room
           (moves f (told.jobs_told at f job got stands)) told.jobs_told);
       begins = begins_moved journal journal (active_begin tx ∷ old) all more (omega arith)
           (begins_with journal old tx.number tx.began (number ∙ ap (λ k. k + 1) (sym (begins_count journal jobs))) began told.begins);
-      few = subst (λ k. k ≤ 10000) (sym count) (omega arith);
+      few = subst (λ k. k ≤ most_entries s.script) (sym count) (omega (arith, room));
     }

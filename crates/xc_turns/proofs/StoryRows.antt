@@ -46,7 +46,7 @@ use Rattle.xc_model.specs.declared.phase.Phase.{Phase}
 use Rattle.xc_model.specs.declared.phase.Phase.TheVariants.{Running, Committing, Undoing, Backing}
 use Rattle.xc_script.specs.Values.{Variables}
 use Rattle.xc_script.specs.Walks.{Walk}
-use Rattle.xc_model.specs.Live.{IsScripted, asked_by, has_clients}
+use Rattle.xc_model.specs.Live.{GoesOn, IsScripted, asked_by, has_clients}
 use Rattle.xc_model.specs.Setting.{Setting}
 use Rattle.xc_model.specs.Progress.{Following}
 use Rattle.xc_model.specs.EntryEnds.{IsCauseOf}
@@ -62,7 +62,7 @@ use Rattle.xc_model.specs.Stories.{FitsWhereItRuns}
 use Rattle.xc_model.specs.Stories.{AreAttempts, IsDoing, IsInPhase, IsCommitting, StoryHolds, IsRunning, IsInNextTx, IsUndoing, IsUnderway}
 use Rattle.xc_turns.proofs.LiveSteps.{answered_live, asks_scripted, back_live, begin_live, kept_live, live_none}
 use Rattle.xc_turns.proofs.StoryAsks.{answered-more, asks-more, in_time-more}
-use Rattle.xc_model.proofs.Laws.{in_time-count, nothing_asked, unasked_fits}
+use Rattle.xc_model.proofs.Laws.{in_time-count, not_clients, nothing_asked, unasked_fits}
 use Rattle.xc_turns.proofs.LateCounts.{late-more, back-more}
 use Rattle.xc_turns.proofs.Sided.{sided_after}
 
@@ -86,7 +86,7 @@ given_up s f (Some a) c spent are =
 
 -- it ends as its story does
 end_told : (s : Setting) (now : Moment) (f : Following) (job : JobView) (end : JobEnd) → IsEnding s now job end → AreAttempts f job.attempts
-    → f.starved ≡ false → job.place ≡ at_begin f.job → IsEnd s (begun_count now) f end
+    → GoesOn s.script f.starved → job.place ≡ at_begin f.job → IsEnd s (begun_count now) f end
 end_told s now f job job_end.Done ending are goes place =
     (goes, λ own. ap (λ (p : Position). body_at s p) (sym place) ∙ subst (λ b. IsOver b s job) own ending)
 end_told s now f job (job_end.GaveUp c) ending are goes place =
@@ -94,7 +94,7 @@ end_told s now f job (job_end.GaveUp c) ending are goes place =
 end_told s now f job job_end.JournalFull ending are goes place =
     let few : length f.failed < s.rules.attempts = let lt = ending.1 in let same = attempts_count f job.attempts are in omega arith in
     (goes, subst (λ (p : Position). IsSome (body_at s p)) place ending.0, few, ending.3)
-end_told s now f job job_end.NoMemory ending are goes place = subst (λ (p : Position). IsSome (body_at s p)) place ending
+end_told s now f job job_end.NoMemory ending are goes place = (ending.0, subst (λ (p : Position). IsSome (body_at s p)) place ending.1)
 
 -- an idle job that ends
 pub ended_told : (s : Setting) (now : Moment) (entered : ℕ) (f : Following) (job : JobView) (end : JobEnd) → job.doing ≡ Idle → IsEnding s now job end
@@ -158,7 +158,7 @@ newest_tried older pending u e ended newest = ap (λ us. us ++ tried ended) newe
 
 -- a transaction that begins
 begun_underway : (s : Setting) (now : Moment) (f : Following) (job : JobView) (last : Ask) → (has_clients s.script ≡ true → last ≡ ask.End)
-    → MayBegin s now job → AreAttempts f job.attempts → f.starved ≡ false → job.place ≡ at_begin f.job → f.since ≤ length now.journal
+    → MayBegin s now job → AreAttempts f job.attempts → GoesOn s.script f.starved → job.place ≡ at_begin f.job → f.since ≤ length now.journal
     → job.me ≡ beginning job.me.places → All IsSided job.me.places
     → IsUnderway s f (record job.place { begun = job.place.variables }) last
     (new_tx (begun_count now + 1) (rank_of job.attempts (begun_count now + 1)) (length now.journal) job.me)
@@ -791,9 +791,33 @@ tried_underway s f place last tx c older u end undoes newest legal under =
       phase = subst (IsInPhase s place last next) (sym undoes) phase;
     }
 
--- ---- a job that asks nothing more
-pub starved_told : (s : Setting) (begun entered : ℕ) (f : Following) (job : JobView) → job.doing ≡ Starved → StoryHolds s begun entered f job
+-- ---- a job whose last transaction was aborted for lack of memory
+pub starved_told : (s : Setting) (begun entered : ℕ) (f : Following) (job : JobView) → IsScripted s.script → job.doing ≡ Starved
+    → StoryHolds s begun entered f job
     → StoryHolds s begun entered f (record job { doing = Ended job_end.NoMemory })
-starved_told s begun entered f job starved told =
+starved_told s begun entered f job own starved told =
     let was = subst (IsDoing s begun f job) starved told.doing in
-    record { block = told.block; fresh = told.fresh; sided = told.sided; since = told.since; attempts = told.attempts; few = told.few; doing = was.1 }
+    record {
+      block = told.block;
+      fresh = told.fresh;
+      sided = told.sided;
+      since = told.since;
+      attempts = told.attempts;
+      few = told.few;
+      doing = (own, was.1);
+    }
+
+-- one that a client asks goes on
+pub fed_told : (s : Setting) (begun entered : ℕ) (f : Following) (job : JobView) → has_clients s.script ≡ true → job.doing ≡ Starved
+    → StoryHolds s begun entered f job → StoryHolds s begun entered f (record job { doing = Idle })
+fed_told s begun entered f job clients starved told =
+    let was = subst (IsDoing s begun f job) starved told.doing in
+    record {
+      block = told.block;
+      fresh = told.fresh;
+      sided = told.sided;
+      since = told.since;
+      attempts = told.attempts;
+      few = told.few;
+      doing = (λ own. absurd (not_clients s.script clients own), was.2);
+    }

@@ -12,6 +12,7 @@ use Rattle.xc_script.specs.Ask.{block_place, fresh_job}
 use Rattle.xc_data.specs.declared.entry.Entry.{Entry}
 use Rattle.xc_data.specs.declared.entry.Mark.{Mark}
 use Rattle.xc_model.specs.Setting.{Setting}
+use Rattle.xc_model.specs.Live.{most_entries}
 use Rattle.xc_model.specs.EntryEnds.{IsUnrevoked, cause_in}
 use Rattle.xc_model.specs.Grounds.{Part}
 use Rattle.xc_model.specs.Progress.{Following, untried}
@@ -59,7 +60,7 @@ opened_told s begun entered (name ∷ names) zero f job got_f got =
       since = omega arith;
       attempts = (refl, refl);
       few = omega arith;
-      doing = (refl, refl);
+      doing = (λ own. refl, refl);
     } in
     subst (λ (g : Following). StoryHolds s begun entered g job) first
     (subst (StoryHolds s begun entered (opened_following s.script name)) one told)
@@ -91,7 +92,7 @@ start_told s words marks =
       count = length-map names (opened_following s.script) ∙ sym (length-map names (opened_job s.script));
       jobs_told = λ at f job got_f got. opened_told s (0 + length (actives jobs)) 0 names at f job got_f got;
       begins = subst (λ (txs : List TxView). AreBegins [] (map active_begin txs)) (sym (none_opened s.script names)) none_begun;
-      few = subst (λ (txs : List TxView). 0 + length txs ≤ 10000) (sym (none_opened s.script names)) (omega arith);
+      few = subst (λ (txs : List TxView). 0 + length txs ≤ most_entries s.script) (sym (none_opened s.script names)) (omega arith);
       grounded = record {
         entries = λ i e got. cc;
         actives = λ j e got. absurd (none_wanted s words marks 1 names j e got);

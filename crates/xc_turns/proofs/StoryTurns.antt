@@ -63,8 +63,8 @@ use Rattle.xc_turns.proofs.Progressing.{entered-all, lasts_grow, lasts_stay}
 use Rattle.xc_turns.proofs.StoryBegins.{active_begun}
 use Rattle.xc_turns.proofs.StoryJobs.{StoriesHoldBut, begins_in, story_goes_on, told_but, told_whole}
 use Rattle.xc_turns.proofs.StoryRows.{begins_back_underway, backs_one_underway, ends_back_underway, cut_underway}
-use Rattle.xc_turns.proofs.StoryRows.{active_told, back_underway, begun_told, called_underway, commits_underway, ended_told, ended_underway, starved_told}
-use Rattle.xc_turns.proofs.StoryRows.{same_underway, tried_underway, waiting_told}
+use Rattle.xc_turns.proofs.StoryRows.{active_told, back_underway, begun_told, called_underway, commits_underway, ended_told, ended_underway, fed_told}
+use Rattle.xc_turns.proofs.StoryRows.{same_underway, starved_told, tried_underway, waiting_told}
 use Rattle.xc_turns.proofs.LateCounts.{left_some}
 use Rattle.xc_turns.proofs.StoryEntries.{started_on, abort_leads, abort_true, aborted_by, commit_leads, commit_true, gone_on}
 use Rattle.std.proofs.Common.{append-nil}
@@ -142,18 +142,22 @@ module _ (s : Setting) (at : ℕ) (old new : Moment) (job : JobView) (b : Before
       (ap (λ (n : Moment). n.jobs) row.1)
       (story_goes_on s b.lasts old.journal old.jobs at job (asked_to_wait job) b.there refl
       (λ f told. waiting_told s (begun_count old) (length old.journal) f job told) b.told)
-  idle_row turn.NoMemory idle row = absurd row
+  idle_row turn.NoMemory idle row = stays_as old.jobs (ap (λ (n : Moment). n.journal) row.2) (ap (λ (n : Moment). n.jobs) row.2) b.told
 
   starved_row : (answer : Turn) → job.doing ≡ Starved → StarvedTurn (mover s at old job) answer new → After
   starved_row (turn.Ended job_end.NoMemory) starved row =
       let next : JobView = record job { doing = Ended job_end.NoMemory } in
-      stays_as (slice_set old.jobs at next) (ap (λ (n : Moment). n.journal) row) (ap (λ (n : Moment). n.jobs) row)
+      stays_as (slice_set old.jobs at next) (ap (λ (n : Moment). n.journal) row.1) (ap (λ (n : Moment). n.jobs) row.1)
       (story_goes_on s b.lasts old.journal old.jobs at job next b.there (ap (option_map active_begin) (sym (ap active_in starved)))
-      (λ f told. starved_told s (begun_count old) (length old.journal) f job starved told) b.told)
+      (λ f told. starved_told s (begun_count old) (length old.journal) f job row.0 starved told) b.told)
   starved_row (turn.Ended job_end.Done) starved row = absurd row
   starved_row (turn.Ended (job_end.GaveUp c)) starved row = absurd row
   starved_row (turn.Ended job_end.JournalFull) starved row = absurd row
-  starved_row turn.Went starved row = absurd row
+  starved_row turn.Went starved row =
+      let next : JobView = record job { doing = Idle } in
+      stays_as (slice_set old.jobs at next) (ap (λ (n : Moment). n.journal) row.1) (ap (λ (n : Moment). n.jobs) row.1)
+      (story_goes_on s b.lasts old.journal old.jobs at job next b.there (ap (option_map active_begin) (sym (ap active_in starved)))
+      (λ f told. fed_told s (begun_count old) (length old.journal) f job row.0 starved told) b.told)
   starved_row (turn.Busy object holder) starved row = absurd row
   starved_row turn.NoMemory starved row = absurd row
 

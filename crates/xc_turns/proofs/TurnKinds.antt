@@ -1,6 +1,6 @@
 -- Each row of the table of turns is of one kind.
 use Rattle.std.proofs.Common.{◌≡◌, inl, inr, ℕ, ◌+◌, List, [], ◌∷◌, ◌++◌, length, refl, ap, sym, ◌∙◌, subst}
-use Rattle.std.specs.Prelude.{Option, slice_set}
+use Rattle.std.specs.Prelude.{Option, slice_get, slice_set}
 use Rattle.std.specs.declared.option.Option.TheVariants.{None, Some}
 use Rattle.xc_data.specs.declared.entry.KeptItem.{KeptItem}
 use Rattle.xc_data.specs.declared.call.Call.{Call}
@@ -50,6 +50,7 @@ use Rattle.xc_model.specs.Entering.{behind_commit, behind_abort, entry_of}
 use Rattle.xc_model.specs.LateCalls.{started_late}
 use Rattle.xc_turns.proofs.Grown.{AreIdle, started_idle}
 use Rattle.xc_turns.proofs.LateEnds.{Ends, next_ends}
+use Rattle.xc_turns.proofs.Lists.{set_itself}
 use Rattle.xc_model.proofs.Laws.{asked_same}
 use Rattle.std.proofs.Common.{append-nil}
 use Rattle.xc_turns.proofs.Jobs.{behind_abort_none}
@@ -78,8 +79,8 @@ undoing_is (Some m) c = refl
 
 -- ---- the rows
 module _ (s : Setting) (at : ℕ) (old : Moment) (job : JobView) (new : Moment) where
-  idle_kind : job.doing ≡ Idle → (answer : Turn) → IdleTurn (mover s at old job) answer new → Kind s at old job new
-  idle_kind e (turn.Ended end) row =
+  idle_kind : slice_get old.jobs at ≡ Some job → job.doing ≡ Idle → (answer : Turn) → IdleTurn (mover s at old job) answer new → Kind s at old job new
+  idle_kind there e (turn.Ended end) row =
       rests (record {
         behind = record job { doing = Ended end };
         sets = record { jobs = ap (λ (n : Moment). n.jobs) row.1; words = ap (λ (n : Moment). length n.words) row.1 };
@@ -88,7 +89,7 @@ module _ (s : Setting) (at : ℕ) (old : Moment) (job : JobView) (new : Moment) 
         before = ap active_in e;
         after = refl;
       })
-  idle_kind e (turn.Busy object number) row =
+  idle_kind there e (turn.Busy object number) row =
       rests (record {
         behind = asked_to_wait job;
         sets = record { jobs = ap (λ (n : Moment). n.jobs) row.1; words = ap (λ (n : Moment). length n.words) row.1 };
@@ -97,7 +98,7 @@ module _ (s : Setting) (at : ℕ) (old : Moment) (job : JobView) (new : Moment) 
         before = ap active_in e;
         after = ap active_in e;
       })
-  idle_kind e turn.Went row =
+  idle_kind there e turn.Went row =
       begins (record {
         behind = beginning_job old job;
         sets = record { jobs = ap (λ (n : Moment). n.jobs) row.1; words = ap (λ (n : Moment). length n.words) row.1 };
@@ -110,15 +111,35 @@ module _ (s : Setting) (at : ℕ) (old : Moment) (job : JobView) (new : Moment) 
         number = refl;
         marks = ap (λ (n : Moment). n.marks) row.1;
       })
-  idle_kind e _ row = absurd row
+  idle_kind there e turn.NoMemory row =
+      rests (record {
+        behind = job;
+        sets = record {
+          jobs = ap (λ (n : Moment). n.jobs) row.2 ∙ sym (set_itself old.jobs at job there);
+          words = ap (λ (n : Moment). length n.words) row.2;
+        };
+        journal = ap (λ (n : Moment). n.journal) row.2;
+        marks = ap (λ (n : Moment). n.marks) row.2;
+        before = ap active_in e;
+        after = ap active_in e;
+      })
 
   starved_kind : job.doing ≡ Starved → (answer : Turn) → StarvedTurn (mover s at old job) answer new → Kind s at old job new
   starved_kind e (turn.Ended job_end.NoMemory) row =
       rests (record {
         behind = record job { doing = Ended job_end.NoMemory };
-        sets = record { jobs = ap (λ (n : Moment). n.jobs) row; words = ap (λ (n : Moment). length n.words) row };
-        journal = ap (λ (n : Moment). n.journal) row;
-        marks = ap (λ (n : Moment). n.marks) row;
+        sets = record { jobs = ap (λ (n : Moment). n.jobs) row.1; words = ap (λ (n : Moment). length n.words) row.1 };
+        journal = ap (λ (n : Moment). n.journal) row.1;
+        marks = ap (λ (n : Moment). n.marks) row.1;
+        before = ap active_in e;
+        after = refl;
+      })
+  starved_kind e turn.Went row =
+      rests (record {
+        behind = record job { doing = Idle };
+        sets = record { jobs = ap (λ (n : Moment). n.jobs) row.1; words = ap (λ (n : Moment). length n.words) row.1 };
+        journal = ap (λ (n : Moment). n.journal) row.1;
+        marks = ap (λ (n : Moment). n.marks) row.1;
         before = ap active_in e;
         after = refl;
       })
@@ -506,12 +527,13 @@ module _ (s : Setting) (at : ℕ) (old : Moment) (job : JobView) (new : Moment) 
     active_kind Backing e answer row = marked_back_kind (old.marks tx.number) refl answer row e
     active_kind (Undoing c) e answer row = undoing_kind c answer row e
 
-  doing_kind : (d : Doing) → job.doing ≡ d → (answer : Turn) → TurnOf (mover s at old job) d answer new → Kind s at old job new
-  doing_kind Idle e answer row = idle_kind e answer row
-  doing_kind (Active tx) e answer row = active_kind tx (ap active_in e) tx.phase refl answer row
-  doing_kind Starved e answer row = starved_kind e answer row
-  doing_kind (Ended end) e answer row = absurd row
+  doing_kind : slice_get old.jobs at ≡ Some job → (d : Doing) → job.doing ≡ d → (answer : Turn) → TurnOf (mover s at old job) d answer new
+      → Kind s at old job new
+  doing_kind there Idle e answer row = idle_kind there e answer row
+  doing_kind there (Active tx) e answer row = active_kind tx (ap active_in e) tx.phase refl answer row
+  doing_kind there Starved e answer row = starved_kind e answer row
+  doing_kind there (Ended end) e answer row = absurd row
 
 -- each row is of one kind
 pub row_kind : (s : Setting) (at : ℕ) (old new : Moment) (answer : Turn) → (t : IsTurn s at old answer new) → Kind s at old t.job new
-row_kind s at old new answer t = doing_kind s at old t.job new t.job.doing refl answer t.row
+row_kind s at old new answer t = doing_kind s at old t.job new t.there t.job.doing refl answer t.row

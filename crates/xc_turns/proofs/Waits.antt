@@ -45,7 +45,7 @@ use Rattle.std.proofs.Common.{◌++◌, ◌<◌, append-nil, arith, length-set}
 use Rattle.xc_model.specs.Entering.{started_jobs}
 use Rattle.xc_model.specs.Movers.{mover}
 use Rattle.xc_turns.proofs.LateEnds.{next_ends}
-use Rattle.xc_turns.proofs.Lists.{get_front, get_inside}
+use Rattle.xc_turns.proofs.Lists.{get_front, get_inside, set_itself}
 use Rattle.xc_data.proofs.Laws.{get_set_same, get_set_other}
 
 module _ (s : Setting) (at : ℕ) (old new : Moment) (job : JobView) (stands : slice_get old.jobs at ≡ Some job) where
@@ -228,10 +228,11 @@ module _ (s : Setting) (at : ℕ) (old new : Moment) (job : JobView) (stands : s
   doing_made number m has Idle is (turn.Ended end) row = same_marks (turn.Ended end) number m (ap (λ (n : Moment). n.marks) row.1) has
   doing_made number m has Idle is turn.Went row = fewer_marks turn.Went number (begun_count old + 1) m (ap (λ (n : Moment). n.marks) row.1) has
   doing_made number m has Idle is (turn.Busy object holder) row = same_marks (turn.Busy object holder) number m (ap (λ (n : Moment). n.marks) row.1) has
-  doing_made number m has Idle is turn.NoMemory row = absurd row
+  doing_made number m has Idle is turn.NoMemory row = same_marks turn.NoMemory number m (ap (λ (n : Moment). n.marks) row.2) has
   doing_made number m has (Active tx) is answer row = active_made number m has tx is tx.phase refl answer row
   doing_made number m has Starved is (turn.Ended job_end.NoMemory) row = same_marks (turn.Ended job_end.NoMemory) number m
-      (ap (λ (n : Moment). n.marks) row) has
+      (ap (λ (n : Moment). n.marks) row.1) has
+  doing_made number m has Starved is turn.Went row = same_marks turn.Went number m (ap (λ (n : Moment). n.marks) row.1) has
   doing_made number m has Starved is _ row = absurd row
   doing_made number m has (Ended end) is answer row = absurd row
 
@@ -345,27 +346,30 @@ module _ (s : Setting) (at : ℕ) (old new : Moment) (job : JobView) where
   active_so tx is (Undoing c) turn.Went row = back_so turn.Went tx is c tx.undo.pending row
   active_so tx is (Undoing c) _ row = absurd row
 
-  doing_so : (d : Doing) → job.doing ≡ d → (answer : Turn) → TurnOf (mover s at old job) d answer new → Changed answer
-  doing_so Idle is (turn.Ended end) row =
+  doing_so : slice_get old.jobs at ≡ Some job → (d : Doing) → job.doing ≡ d → (answer : Turn) → TurnOf (mover s at old job) d answer new → Changed answer
+  doing_so there Idle is (turn.Ended end) row =
       stays_so (turn.Ended end) (record job { doing = Ended end }) (ap (λ (n : Moment). n.jobs) row.1) refl (sym (ap (λ d. is_some (active_in d)) is))
-  doing_so Idle is turn.Went row =
+  doing_so there Idle is turn.Went row =
       turns_so turn.Went (beginning_job old job) [] (ap (λ (n : Moment). n.jobs) row.1 ∙ sym (append-nil (slice_set old.jobs at (beginning_job old job)))) refl
       (sym (ap (λ d. not (is_some (active_in d))) is))
-  doing_so Idle is (turn.Busy object number) row = told_so object number (asked_to_wait job) (ap (λ (n : Moment). n.jobs) row.1)
-  doing_so Idle is turn.NoMemory row = absurd row
-  doing_so (Active tx) is answer row = active_so tx is tx.phase answer row
-  doing_so Starved is (turn.Ended job_end.NoMemory) row =
-      stays_so (turn.Ended job_end.NoMemory) (record job { doing = Ended job_end.NoMemory }) (ap (λ (n : Moment). n.jobs) row) refl
+  doing_so there Idle is (turn.Busy object number) row = told_so object number (asked_to_wait job) (ap (λ (n : Moment). n.jobs) row.1)
+  doing_so there Idle is turn.NoMemory row =
+      stays_so turn.NoMemory job (ap (λ (n : Moment). n.jobs) row.2 ∙ sym (set_itself old.jobs at job there)) refl refl
+  doing_so there (Active tx) is answer row = active_so tx is tx.phase answer row
+  doing_so there Starved is (turn.Ended job_end.NoMemory) row =
+      stays_so (turn.Ended job_end.NoMemory) (record job { doing = Ended job_end.NoMemory }) (ap (λ (n : Moment). n.jobs) row.1) refl
       (sym (ap (λ d. is_some (active_in d)) is))
-  doing_so Starved is _ row = absurd row
-  doing_so (Ended end) is answer row = absurd row
+  doing_so there Starved is turn.Went row =
+      stays_so turn.Went (record job { doing = Idle }) (ap (λ (n : Moment). n.jobs) row.1) refl (sym (ap (λ d. is_some (active_in d)) is))
+  doing_so there Starved is _ row = absurd row
+  doing_so there (Ended end) is answer row = absurd row
 
 -- after another answer the count is as before, or 0 where a transaction began or entered
 pub count_kept : (s : Setting) (at : ℕ) (old new : Moment) (answer : Turn) → IsTurn s at old answer new
     → ((object : Object) (number : ℕ) → answer ≢ turn.Busy object number)
     → (job is : JobView) → slice_get old.jobs at ≡ Some job → slice_get new.jobs at ≡ Some is → CountsOn job is
 count_kept s at old new answer t other job is there got =
-    let c = doing_so s at old new t.job t.job.doing refl answer t.row in
+    let c = doing_so s at old new t.job t.there t.job.doing refl answer t.row in
     let same : t.job ≡ job = let both : Some t.job ≡ Some job = sym t.there ∙ there in cc both in
     let put : slice_get new.jobs at ≡ Some c.behind =
     ap (λ js. slice_get js at) c.jobs ∙ get_front (slice_set old.jobs at c.behind) c.more at c.behind (get_set_same old.jobs at t.job c.behind t.there) in
@@ -376,7 +380,7 @@ count_kept s at old new answer t other job is there got =
 pub others_kept : (s : Setting) (at j : ℕ) (old new : Moment) (answer : Turn) → IsTurn s at old answer new → j ≢ at → j < length old.jobs
     → slice_get new.jobs j ≡ slice_get old.jobs j
 others_kept s at j old new answer t away low =
-    let c = doing_so s at old new t.job t.job.doing refl answer t.row in
+    let c = doing_so s at old new t.job t.there t.job.doing refl answer t.row in
     let many = length-set old.jobs at c.behind in
     ap (λ js. slice_get js j) c.jobs ∙ get_inside (slice_set old.jobs at c.behind) c.more j (omega (arith, low, many))
     ∙ get_set_other old.jobs at j c.behind away

@@ -121,15 +121,15 @@ module _ (s : Setting) (at : ℕ) (old : Moment) (job : JobView) (new : Moment) 
       (quiet_turn before old.words old.jobs at job stands h job' (idle_quiet job (ap active_in is))
       (active_quiet job' tx refl (running_is_none Running refl)) (active_speaks before job' tx refl (begun_spoken before _ _ _ _)))
   by_idle is (turn.Busy object number) row = subst (KeepsWords s) (sym row.1) (idles (asked_to_wait job) (ap active_in is) (ap active_in is))
-  by_idle is turn.NoMemory row = absurd row
+  by_idle is turn.NoMemory row = subst (KeepsWords s) (sym row.2) h
 
   by_starved : job.doing ≡ Starved → (answer : Turn) → StarvedTurn (mover s at old job) answer new → KeepsWords s new
   by_starved is (turn.Ended job_end.NoMemory) row =
-      subst (KeepsWords s) (sym row) (idles (record job { doing = Ended job_end.NoMemory }) (ap active_in is) refl)
+      subst (KeepsWords s) (sym row.1) (idles (record job { doing = Ended job_end.NoMemory }) (ap active_in is) refl)
   by_starved is (turn.Ended job_end.Done) row = absurd row
   by_starved is (turn.Ended (job_end.GaveUp c)) row = absurd row
   by_starved is (turn.Ended job_end.JournalFull) row = absurd row
-  by_starved is turn.Went row = absurd row
+  by_starved is turn.Went row = subst (KeepsWords s) (sym row.1) (idles (record job { doing = Idle }) (ap active_in is) refl)
   by_starved is (turn.Busy object holder) row = absurd row
   by_starved is turn.NoMemory row = absurd row
 
