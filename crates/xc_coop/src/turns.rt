@@ -51,7 +51,7 @@ fn poll_boxed<H: Host, R: AllocGlobal + Wait + RandomSource>(
     boxed: Box<Station<H>>,
     share: u32,
 ) -> Box<Station<H>>
-    requires few { length boxed.value.journal ≤ 10000 }
+    requires few { length boxed.value.journal ≤ 4294967295 }
     requires share { 1 ≤ share }
     ensures origin { KeepsOrigin boxed.value result.value }
 {
@@ -67,7 +67,7 @@ fn poll_jobs<H: Host, R: AllocGlobal + Wait + RandomSource>(
     station: Station<H>,
     share: u32,
 ) -> Station<H>
-    requires few { length station.journal ≤ 10000 }
+    requires few { length station.journal ≤ 4294967295 }
     requires share { 1 ≤ share }
     ensures origin { KeepsOrigin station result }
 {

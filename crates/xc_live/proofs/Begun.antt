@@ -43,7 +43,7 @@ module _ (s : Setting) (at : ℕ) (old new : Moment) (job : JobView) (desk : IsD
   by_row idle (turn.Ended end) row =
       job_calm (record job { doing = Ended end }) (ap (λ (n : Moment). n.jobs) row.1) (λ n. ap (λ (k : Moment). k.marks n) row.1 ∙ desk.unmarked n)
       (record { none = none; calm = tt })
-  by_row idle turn.NoMemory row = absurd row
+  by_row idle turn.NoMemory row = subst (IsDesk s) (sym row.2) desk
 
   -- after the turn of an idle one all are calm
   pub idle_calm : job.doing ≡ Idle → (answer : Turn) → IsTurn s at old answer new → IsDesk s new
@@ -56,13 +56,13 @@ module _ (s : Setting) (at : ℕ) (old new : Moment) (job : JobView) (desk : IsD
           subst (λ (j : JobView). TurnOf (mover s at old j) j.doing answer new) same t.row in
           subst (λ d. TurnOf (mover s at old job) d answer new) idle row
 
-  -- it isn't aborted in that turn
-  pub idle_not_aborted : job.doing ≡ Idle → IsTurn s at old turn.NoMemory new → ⊥
-  idle_not_aborted idle t =
+  -- without memory nothing changes
+  pub idle_stays : job.doing ≡ Idle → IsTurn s at old turn.NoMemory new → new ≡ old
+  idle_stays idle t =
       let same : t.job ≡ job = cc (t.there, there) in
       let row : TurnOf (mover s at old job) job.doing turn.NoMemory new =
       subst (λ (j : JobView). TurnOf (mover s at old j) j.doing turn.NoMemory new) same t.row in
-      subst (λ d. TurnOf (mover s at old job) d turn.NoMemory new) idle row
+      (subst (λ d. TurnOf (mover s at old job) d turn.NoMemory new) idle row).2
 
 -- ---- a client that lives and has none is idle
 does_idle : (d : Doing) → IsCalm d → goes_on (stage_of d) ≡ true → active_in d ≡ None → d ≡ Idle
@@ -95,13 +95,13 @@ begun_calm model client old new answer desk live none turned =
     subst (λ s. IsDesk s (now_of model new)) (sym (setting_kept model client old new turned.1))
     (idle_calm (setting_of model old) (client - 1) (now_of model old) (now_of model new) idle.1 desk idle.2 idle.3 answer turned.0)
 
--- and no begin is aborted
-pub begun_goes : {H : Type 0} (model : HostModel H) (client : ℕ) (old new : StationView H) → IsDesk (setting_of model old) (now_of model old)
+-- and where there is no memory for a transaction it is as before
+pub begun_stays : {H : Type 0} (model : HostModel H) (client : ℕ) (old new : StationView H) → IsDesk (setting_of model old) (now_of model old)
     → live_at old.jobs client ≡ true → tx_at (job_views old.jobs) client ≡ None
-    → IsTurn (setting_of model old) (client - 1) (now_of model old) turn.NoMemory (now_of model new) → ⊥
-begun_goes model client old new desk live none t =
+    → IsTurn (setting_of model old) (client - 1) (now_of model old) turn.NoMemory (now_of model new) → now_of model new ≡ now_of model old
+begun_stays model client old new desk live none t =
     let idle = is_idle model client old desk live none in
-    idle_not_aborted (setting_of model old) (client - 1) (now_of model old) (now_of model new) idle.1 desk idle.2 idle.3 t
+    idle_stays (setting_of model old) (client - 1) (now_of model old) (now_of model new) idle.1 desk idle.2 idle.3 t
 
 -- ---- a desk before its first call
 -- its clients are idle, and have handed in nothing

@@ -134,7 +134,7 @@ module _ {H : Type 0} (model : HostModel H) (client : ℕ) (old : StationView H)
       ended_so (turn.Ended end) row = (end, row.1)
       ended_so turn.Went row = absurd (row.0.more (subst (λ b. IsOver b s its) (sym clients_mid) refl))
       ended_so (turn.Busy object number) row = let active = row.0.active in absurd (nobody_active active.0 active.1 active.2)
-      ended_so turn.NoMemory row = absurd row
+      ended_so turn.NoMemory row = absurd (row.1.more (subst (λ b. IsOver b s its) (sym clients_mid) refl))
 
       ends : (end : JobEnd) × (now_of model new ≡ with_job (now_of model mid) (client - 1) (record its { doing = Ended end }))
       ends = ended_so answer row
@@ -171,6 +171,7 @@ module _ {H : Type 0} (model : HostModel H) (client : ℕ) (old : StationView H)
             others = λ other ne. live_as new.jobs old.jobs other (λ some. elsewhere (other - 1) (place_of_other other ne some));
             count = count_new;
             journal = ap (λ (n : Moment). n.journal) ends.1 ∙ ap (λ (n : Moment). n.journal) handed.behind;
+            gone = turned.1.gone ∙ same.gone;
             words = ap (λ (n : Moment). n.words) ends.1 ∙ ap (λ (n : Moment). n.words) handed.behind;
             opening = turned.1.opening ∙ same.opening;
             rules = turned.1.rules ∙ same.rules;
@@ -193,4 +194,4 @@ module _ {H : Type 0} (model : HostModel H) (client : ℕ) (old : StationView H)
 -- nothing is done
 pub dismissed_still : {H : Type 0} (client : ℕ) (old : StationView H) → live_at old.jobs client ≡ false → HasDismissed client (record { old = old; new = old })
 dismissed_still client old ended =
-    record { ended = ended; others = λ other ne. refl; count = refl; journal = refl; words = refl; opening = refl; rules = refl }
+    record { ended = ended; others = λ other ne. refl; count = refl; journal = refl; gone = refl; words = refl; opening = refl; rules = refl }

@@ -18,10 +18,11 @@ use Rattle.xc_script.specs.declared.ask.Ask.TheVariants as ask
 use Rattle.xc_model.specs.HandedIn.{IsHandedIn, MayHand, MayHandIn}
 use Rattle.xc_model.specs.declared.phase.Phase.{Phase}
 use Rattle.xc_model.specs.declared.phase.Phase.TheVariants.{Running}
-use Rattle.xc_model.specs.Moment.{TxView, JobView, Active, Starved, Ended, Moment, unmarked, with_job}
+use Rattle.xc_model.specs.Moment.{TxView, JobView, Active, Idle, Starved, Moment, unmarked, with_job}
 use Rattle.xc_model.specs.Movers.{mover}
 use Rattle.xc_model.specs.Rows.{IsTurn, StarvedTurn, TurnOf}
 use Rattle.xc_model.specs.Setting.{Setting}
+use Rattle.xc_model.proofs.Laws.{not_clients}
 use Rattle.xc_live.specs.Calm.{IsCalm, IsCalmJob, IsDesk}
 use Rattle.xc_live.specs.Clients.{HasTakenUp, IsAsking, StandsBehind, may_ask}
 use Rattle.xc_live.proofs.Placed.{all_calm, calm_but, calm_but_set, get_either, set_either}
@@ -115,29 +116,28 @@ module _ (s : Setting) (at : ℕ) (was : TxView) (asked : Ask) (old : Moment) (h
         | inr joined ↦ e.joined joined.0 job joined.1
       ]
 
-  -- a starved one ends
+  -- a starved one is idle after its turn
   pub starved_so : (new : Moment) (answer : Turn) → e.after.doing ≡ Starved → IsTurn s at mid answer new
-      → new ≡ with_job mid at (record e.after { doing = Ended job_end.NoMemory })
+      → new ≡ with_job mid at (record e.after { doing = Idle })
   starved_so new answer starved t =
       let same : t.job ≡ e.after = cc (t.there, entered_there) in
       let row : TurnOf (mover s at mid e.after) e.after.doing answer new =
       subst (λ (j : JobView). TurnOf (mover s at mid j) j.doing answer new) same t.row in
       by_answer answer (subst (λ d. TurnOf (mover s at mid e.after) d answer new) starved row)
     where
-      by_answer : (answer : Turn) → StarvedTurn (mover s at mid e.after) answer new
-          → new ≡ with_job mid at (record e.after { doing = Ended job_end.NoMemory })
-      by_answer (turn.Ended job_end.NoMemory) row = row
+      by_answer : (answer : Turn) → StarvedTurn (mover s at mid e.after) answer new → new ≡ with_job mid at (record e.after { doing = Idle })
+      by_answer (turn.Ended job_end.NoMemory) row = absurd (not_clients s.script had.clients row.0)
       by_answer (turn.Ended job_end.Done) row = absurd row
       by_answer (turn.Ended job_end.JournalFull) row = absurd row
       by_answer (turn.Ended (job_end.GaveUp c)) row = absurd row
-      by_answer turn.Went row = absurd row
+      by_answer turn.Went row = row.1
       by_answer (turn.Busy object number) row = absurd row
       by_answer turn.NoMemory row = absurd row
 
   -- and then all are calm
-  pub starved_calm : (new : Moment) → new ≡ with_job mid at (record e.after { doing = Ended job_end.NoMemory }) → IsDesk s new
+  pub starved_calm : (new : Moment) → new ≡ with_job mid at (record e.after { doing = Idle }) → IsDesk s new
   starved_calm new is =
-      let behind : JobView = record e.after { doing = Ended job_end.NoMemory } in
+      let behind : JobView = record e.after { doing = Idle } in
       all_calm s at mid new behind e.after [] had.clients entered_there others_mid
       (ap (λ (n : Moment). n.jobs) is ∙ sym (append-nil (slice_set mid.jobs at behind))) (record { none = e.none; calm = tt })
       (λ j job got. cc got) (λ n. ap (λ (k : Moment). k.marks n) is ∙ none_marked_mid n)

@@ -4,13 +4,12 @@ use Rattle.std.specs.Prelude.{replicate, slice_get}
 use Rattle.std.specs.declared.option.Option.TheVariants.{Some}
 use Rattle.xc_data.specs.declared.entry.Cause.{Cause}
 use Rattle.xc_data.specs.declared.entry.Cause.TheVariants as cause
-use Rattle.xc_data.specs.declared.entry.JobEnd.TheVariants as job_end
 use Rattle.xc_data.specs.declared.entry.Turn.{Turn}
 use Rattle.xc_host.specs.Model.{HostModel}
 use Rattle.xc_script.specs.declared.ask.Ask.{Ask}
 use Rattle.xc_model.specs.declared.phase.Phase.{Phase}
 use Rattle.xc_model.specs.declared.phase.Phase.TheVariants.{Running, Committing, Undoing, Backing}
-use Rattle.xc_model.specs.Moment.{TxView, JobView, Idle, Starved, Ended, Moment, active_in, with_job}
+use Rattle.xc_model.specs.Moment.{TxView, JobView, Idle, Starved, Moment, active_in, with_job}
 use Rattle.xc_model.specs.Rows.{IsTurn}
 use Rattle.xc_data.proofs.Laws.{get_set_same}
 use Rattle.xc_station.specs.Finishing.{AddsEntry, job_left_at, left_in, left_of, phase_at}
@@ -19,7 +18,7 @@ use Rattle.xc_station.specs.Stations.{HasTurned, StationView, TakeTurns, live_at
 use Rattle.xc_live.specs.Calm.{IsCalm, IsDesk}
 use Rattle.xc_live.specs.Moving.{AskedAt, HasLeft, is_want}
 use Rattle.xc_live.proofs.Handed.{entered_calm, entered_there, starved_calm, starved_so}
-use Rattle.xc_live.proofs.Numbered.{turns_taken, turn_taken, phase_told, setting_kept, settings_kept, starved_lives, told_placed}
+use Rattle.xc_live.proofs.Numbered.{doing_lives, turns_taken, turn_taken, phase_told, setting_kept, settings_kept, told_placed}
 use Rattle.xc_live.proofs.Rolled.{IsBehindEntry, IsEndingPhase, before_entry, comes_to_entry, doing_after, doing_behind}
 
 -- ---- causes
@@ -84,6 +83,7 @@ module _ {H : Type 0} (model : HostModel H) (client : ℕ) (some : 0 < client) (
           entered = record {
             entered = entered;
             none = told_placed active_in (job_views mid.jobs) client behind.after some there ∙ ap active_in (behind.does ∙ idle);
+            lives = doing_lives mid.jobs client behind.after Idle some there (behind.does ∙ idle) refl;
           };
           calm = subst (λ s. IsDesk s (now_of model mid)) (sym (settings_kept model client (count + 1) old mid rolled))
               (entered_calm (setting_of model old) (client - 1) was asked (now_of model old) had phase (now_of model mid) behind
@@ -92,41 +92,42 @@ module _ {H : Type 0} (model : HostModel H) (client : ℕ) (some : 0 < client) (
 
     -- a starved one lives yet
     pub left_lives : doing_behind phase ≡ Starved → live_at mid.jobs client ≡ true
-    left_lives starved = starved_lives mid.jobs client behind.after some there (behind.does ∙ starved)
+    left_lives starved = doing_lives mid.jobs client behind.after Starved some there (behind.does ∙ starved) refl
 
     module _ (starved : doing_behind phase ≡ Starved) (new : StationView H) (answer : Turn)
         (turned : HasTurned model client (record { old = mid; new = new }) answer) where
       kept_mid : setting_of model mid ≡ setting_of model old
       kept_mid = settings_kept model client (count + 1) old mid rolled
 
-      abbrev ended : JobView
-      ended = record behind.after { doing = Ended job_end.NoMemory }
+      abbrev fed : JobView
+      fed = record behind.after { doing = Idle }
 
-      now_ended : now_of model new ≡ with_job (now_of model mid) (client - 1) ended
-      now_ended =
+      now_fed : now_of model new ≡ with_job (now_of model mid) (client - 1) fed
+      now_fed =
           starved_so (setting_of model old) (client - 1) was asked (now_of model old) had phase (now_of model mid) behind (now_of model new) answer
           (behind.does ∙ starved) (subst (λ s. IsTurn s (client - 1) (now_of model mid) answer (now_of model new)) kept_mid turned.0)
 
-      ended_there : slice_get (job_views new.jobs) (client - 1) ≡ Some ended
-      ended_there =
-          ap (λ (n : Moment). slice_get n.jobs (client - 1)) now_ended
-          ∙ get_set_same (job_views mid.jobs) (client - 1) behind.after ended there
+      fed_there : slice_get (job_views new.jobs) (client - 1) ≡ Some fed
+      fed_there =
+          ap (λ (n : Moment). slice_get n.jobs (client - 1)) now_fed
+          ∙ get_set_same (job_views mid.jobs) (client - 1) behind.after fed there
 
-      -- and ends with one turn more
+      -- and is idle with one turn more
       pub has_starved : HasLeft model client phase (record { old = old; new = new })
       has_starved =
           let all = turns_taken model client (count + 1) 1 old mid new rolled (turn_taken model client answer mid new (left_lives starved) turned) in
-          let same : new.journal ≡ mid.journal = ap (λ (n : Moment). n.journal) now_ended in
+          let same : new.journal ≡ mid.journal = ap (λ (n : Moment). n.journal) now_fed in
           record {
             turns = all.0;
             takes = all.1;
             entered = record {
               entered = subst (λ j. AddsEntry client phase old.journal j) (sym same) entered;
-              none = told_placed active_in (job_views new.jobs) client ended some ended_there;
+              none = told_placed active_in (job_views new.jobs) client fed some fed_there;
+              lives = doing_lives new.jobs client fed Idle some fed_there refl refl;
             };
             calm = subst (λ s. IsDesk s (now_of model new)) (sym (setting_kept model client mid new turned.1 ∙ kept_mid))
                 (starved_calm (setting_of model old) (client - 1) was asked (now_of model old) had phase (now_of model mid) behind (now_of model new)
-                now_ended);
+                now_fed);
           }
 
 -- ---- by the cause

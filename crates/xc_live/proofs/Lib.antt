@@ -6,6 +6,7 @@ mod Rolled
 mod Yielded
 mod Settled
 mod Handed
+mod HandedOut
 mod Left
 mod Begun
 mod Made

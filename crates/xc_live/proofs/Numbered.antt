@@ -144,10 +144,10 @@ pub active_lives : (jobs : List Job) (client : ℕ) (job : JobView) (tx : TxView
 active_lives jobs client job tx some there does =
     live_told jobs client job some there ∙ ap (λ d. goes_on (stage_of d)) does ∙ phase_lives tx tx.phase
 
--- and so does a starved one
-pub starved_lives : (jobs : List Job) (client : ℕ) (job : JobView) → 0 < client → slice_get (job_views jobs) (client - 1) ≡ Some job
-    → job.doing ≡ Starved → live_at jobs client ≡ true
-starved_lives jobs client job some there does = live_told jobs client job some there ∙ ap (λ d. goes_on (stage_of d)) does
+-- and so does one without, where it hasn't ended
+pub doing_lives : (jobs : List Job) (client : ℕ) (job : JobView) (d : Doing) → 0 < client → slice_get (job_views jobs) (client - 1) ≡ Some job
+    → job.doing ≡ d → goes_on (stage_of d) ≡ true → live_at jobs client ≡ true
+doing_lives jobs client job d some there does goes = live_told jobs client job some there ∙ ap (λ e. goes_on (stage_of e)) does ∙ goes
 
 -- ---- turns one after another
 module _ {H : Type 0} (model : HostModel H) (client : ℕ) where

@@ -71,7 +71,7 @@ module _ {H : Type 0} (model : HostModel H) (client : ℕ) (some : 0 < client) (
   )
 
 -- one entry more leaves fewer
-pub entries_fall : (client : ℕ) (phase : Phase) (old mid new : List Entry) → AddsEntry client phase old new → mid ≡ old → length mid ≤ 10000
-    → 10001 - length new < 10001 - length old
+pub entries_fall : (client : ℕ) (phase : Phase) (old mid new : List Entry) → AddsEntry client phase old new → mid ≡ old → length mid ≤ 4294967295
+    → 4294967296 - length new < 4294967296 - length old
 entries_fall client phase old mid new (e, grown, is) same few =
     omega (arith, ap length grown, length-append old (e ∷ []), ap length same, few)

@@ -1,5 +1,5 @@
 -- What a begin and a call of a client come to.
-use Rattle.std.specs.Prelude.{◌≡◌, ℕ, true, false, is_some, List, replicate}
+use Rattle.std.specs.Prelude.{◌≡◌, ℕ, ◌≤◌, true, false, is_some, List, replicate}
 use Rattle.std.specs.declared.option.Option.TheVariants.{None, Some}
 use Rattle.xc_data.specs.Step.{Step}
 use Rattle.xc_data.specs.declared.call.Call.{Call}
@@ -12,7 +12,7 @@ use Rattle.xc_model.specs.declared.phase.Phase.TheVariants.{Running, Undoing}
 use Rattle.xc_model.specs.Moment.{TxView, JobView}
 use Rattle.xc_live.specs.Told.{tx_at}
 use Rattle.xc_station.specs.Jobs.{job_views}
-use Rattle.xc_station.specs.Stations.{HasTurned, StationView, TakeTurns}
+use Rattle.xc_station.specs.Stations.{HasTurned, StationView, TakeTurns, entries_due, now_of}
 use Rattle.xc_live.specs.declared.answers.Began.{Began}
 use Rattle.xc_live.specs.declared.answers.Began.TheVariants as began
 use Rattle.xc_live.specs.declared.answers.Called.{Called}
@@ -21,11 +21,14 @@ use Rattle.xc_live.specs.Clients.{IsCallNoted, may_ask}
 use Rattle.xc_live.specs.Ended.{HandsIn, IsEnteredBehind}
 use Rattle.xc_live.specs.GivingWay.{GiveWay}
 
--- a begin is one turn of the client, by its answer
+-- a begin is one turn of the client, by its answer; without memory for a transaction it changes nothing. Where 10,000 entries wait, or
+-- will once the active transactions have ended, no turn is taken
 abbrev pub IsBegunSo : {H : Type 0} → HostModel H → ℕ → Step (StationView H) → Began → Type 0
 IsBegunSo model client desk began.Went = HasTurned model client desk turn.Went
 IsBegunSo model client desk (began.Waits holder) = (object : Object) × HasTurned model client desk (turn.Busy object holder)
 IsBegunSo model client desk (began.Ended end) = HasTurned model client desk (turn.Ended end)
+IsBegunSo model client desk began.NoMemory = HasTurned model client desk turn.NoMemory × (now_of model desk.new ≡ now_of model desk.old)
+IsBegunSo model client desk began.Full = (10000 ≤ entries_due desk.old) × (desk.new ≡ desk.old)
 
 -- a call: the client hands it in, those in its way give way, and turns of the client alone are taken
 pub record MakesItsCall {H : Type 0} (model : HostModel H) (client : ℕ) (c : Call) (desk : Step (StationView H)) : Type 0 where

@@ -11,7 +11,7 @@ abbrev pub IsCalm : Doing → Type 0
 IsCalm Idle = Unit {0}
 IsCalm (Active tx) = tx.phase ≡ Running
 IsCalm (Ended end) = Unit {0}
--- a want of memory ends it before the call that met it answers
+-- after a want of memory it takes one turn more before the call that met it answers
 IsCalm Starved = ⊥
 
 -- and it has handed in nothing

@@ -36,6 +36,7 @@ pub record HasDismissed {H : Type 0} (client : ℕ) (desk : Step (StationView H)
   pub others : (other : ℕ) → other ≢ client → live_at desk.new.jobs other ≡ live_at desk.old.jobs other
   pub count : length desk.new.jobs ≡ length desk.old.jobs
   pub journal : desk.new.journal ≡ desk.old.journal
+  pub gone : desk.new.gone ≡ desk.old.gone
   pub words : desk.new.words ≡ desk.old.words
   pub opening : desk.new.opening ≡ desk.old.opening
   pub rules : desk.new.rules ≡ desk.old.rules

@@ -1,5 +1,5 @@
 -- What a commit and an abort of a client come to.
-use Rattle.std.specs.Prelude.{◌≡◌, ℕ, ◌-◌, List, replicate, length}
+use Rattle.std.specs.Prelude.{◌≡◌, true, ℕ, ◌-◌, List, replicate, length}
 use Rattle.std.specs.declared.option.Option.TheVariants.{None}
 use Rattle.xc_data.specs.Step.{Step}
 use Rattle.xc_data.specs.declared.entry.Entry.{Entry}
@@ -12,7 +12,7 @@ use Rattle.xc_model.specs.declared.phase.Phase.TheVariants.{Committing, Undoing}
 use Rattle.xc_live.specs.Told.{tx_at}
 use Rattle.xc_station.specs.Finishing.{AddsEntry}
 use Rattle.xc_station.specs.Jobs.{job_views}
-use Rattle.xc_station.specs.Stations.{KeepsOpening, StationView, TakeTurns, now_of, setting_of}
+use Rattle.xc_station.specs.Stations.{KeepsOpening, StationView, TakeTurns, live_at, now_of, setting_of}
 use Rattle.xc_live.specs.declared.answers.Ended.{Ended}
 use Rattle.xc_live.specs.declared.answers.Ended.TheVariants as ended
 use Rattle.xc_live.specs.Clients.{MayUndo}
@@ -29,10 +29,11 @@ pub record AsksAlone {H : Type 0} (model : HostModel H) (client : ℕ) (asked : 
   pub turns : ℕ
   pub takes : TakeTurns model (replicate turns client) handed desk.new
 
--- its transaction, which was in this phase, is in the journal, behind these; and it has none any more
+-- its transaction, which was in this phase, is in the journal, behind these; it has none any more, and hasn't ended
 pub record IsEnteredBehind {H : Type 0} (client : ℕ) (phase : Phase) (before : List Entry) (now : StationView H) : Type 0 where
   pub entered : AddsEntry client phase before now.journal
   pub none : tx_at (job_views now.jobs) client ≡ None
+  pub lives : live_at now.jobs client ≡ true
 
 -- by the answer
 abbrev pub IsEndedSo : {H : Type 0} → HostModel H → ℕ → Ask → Step (StationView H) → Ended → Type 0

@@ -4,6 +4,7 @@ pub mod Clients
 pub mod Closing
 pub mod Ended
 pub mod GivingWay
+pub mod HandingOut
 pub mod Moving
 pub mod Opening
 pub mod Others

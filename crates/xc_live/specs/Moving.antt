@@ -78,7 +78,7 @@ IsSettledSo model client tx asked desk =
 abbrev pub HasSettled : {H : Type 0} → HostModel H → ℕ → Step (StationView H) → Type 0
 HasSettled model client desk = (tx : TxView) (asked : Ask) → AskedAt model client tx asked desk.old → IsSettledSo model client tx asked desk
 
--- a cause that ends the client too
+-- a cause after whose entry the client takes one turn more
 abbrev pub is_want : Cause → Bool
 is_want cause.NoMemory = true
 is_want cause.Asked = false

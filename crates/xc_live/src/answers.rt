@@ -9,6 +9,10 @@ pub enum Began {
     Waits { holder: u32 },
     /// No transaction begins any more: the client has ended so.
     Ended(JobEnd),
+    /// There is no memory for a transaction now, and nothing changes: begin again later.
+    NoMemory,
+    /// As many entries wait to be handed out as may, and nothing changes: begin again when they are handed out.
+    Full,
 }
 
 /// What a call comes to.
@@ -16,7 +20,7 @@ pub enum Began {
 pub enum Called {
     /// It is done, or kept for the commit. `Desk::reply` lends its reply.
     Replied,
-    /// The transaction was rolled back, and its entry is the journal's last: begin again.
+    /// The transaction was rolled back, and its entry is the journal's last: begin again. The client hasn't ended, whatever the cause.
     Again(Cause),
     /// It isn't made, and nothing changes: a save within a block, a keep or a back outside of one, or the start of a job.
     Refused,

@@ -7,9 +7,10 @@ ghost use Rattle.xc_script.specs.declared.ask.Ask.TheVariants as PlainAsk;
 ghost use Rattle.xc_station.specs.HandedTold.{last_reply_at};
 ghost use Rattle.xc_live.specs.Told.{tx_at};
 ghost use Rattle.xc_station.specs.Jobs.{job_views};
-ghost use Rattle.xc_station.specs.Stations.{live_at};
+ghost use Rattle.xc_station.specs.Stations.{entries_held, live_at};
 
 mod closing;
+mod handing;
 mod opening;
 mod quiet;
 
@@ -77,9 +78,9 @@ impl<H: Host> Desk<H> {
         self.station.phase(client).is_some()
     }
 
-    /// The journal so far.
+    /// The entries of the journal that weren't handed out yet.
     pub fn journal(&self) -> &[Entry]
-        ensures { result.now ≡ self.now.journal }
+        ensures { result.now ≡ entries_held self.now }
     {
         self.station.journal()
     }
@@ -91,18 +92,21 @@ impl<H: Host> Desk<H> {
         self.station.last_reply(client)
     }
 
-    /// Begins a transaction of a client that has none.
+    /// Begins a transaction of a client that has none. Want of memory ends no client, and neither do entries that nobody has handed out.
     pub fn begin(&mut self, client: u32) -> Began
         requires live { live_at self.old.jobs client ≡ true }
         requires none { tx_at (job_views self.old.jobs) client ≡ None }
         ensures { IsBegunSo H.model client (record { old = self.old; new = self.new }) result }
     {
+        // First, since the turn of a client that finds no room in the journal would end it.
+        if !self.station.has_room() {
+            return Began::Full;
+        }
         match self.station.turn(client) {
             Turn::Went => Began::Went,
             Turn::Busy { holder, .. } => Began::Waits { holder },
             Turn::Ended(end) => Began::Ended(end),
-            // An idle job isn't aborted.
-            Turn::NoMemory => unreachable!(),
+            Turn::NoMemory => Began::NoMemory,
         }
     }
 

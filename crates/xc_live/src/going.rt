@@ -1,5 +1,4 @@
-ghost use Rattle.std.specs.Prelude.{◌≡◌, ◌≢◌, ◌<◌, ◌-◌, ℕ, length, true, false, Some};
-ghost use Rattle.xc_data.specs.declared.entry.Cause.{Cause as PlainCause};
+ghost use Rattle.std.specs.Prelude.{◌≡◌, ◌≢◌, ◌<◌, ◌-◌, length, true, false, Some};
 ghost use Rattle.xc_model.specs.Moment.{TxView};
 ghost use Rattle.xc_model.specs.declared.phase.Phase.TheVariants as PlainPhase;
 ghost use Rattle.xc_script.specs.declared.ask.Ask.{Ask as PlainAsk};
@@ -28,7 +27,7 @@ fn push<H: Host>(station: &mut Station<H>, client: u32) -> bool
     requires asks { (tx : TxView) × (asked : PlainAsk) × AsksAt H.model client tx asked station.old }
     ensures yielded { result ≡ true → IsYielded H.model client (record { old = station.old; new = station.new }) }
     ensures moved { result ≡ false → IsMoved H.model client (record { old = station.old; new = station.new }) }
-    ensures falls { result ≡ true → 10001 - length station.new.journal < 10001 - length station.old.journal }
+    ensures falls { result ≡ true → 4294967296 - length station.new.journal < 4294967296 - length station.old.journal }
 {
     let Turn::Busy { holder, .. } = station.turn(client) else {
         return false;
@@ -84,7 +83,7 @@ fn is_want(cause: &Cause) -> bool
     }
 }
 
-// The rollback of a client, to the entry; want of memory ends the client. Gives the entry's place.
+// The rollback of a client, to the entry; after want of memory one turn more, so that it may begin again. Gives the entry's place.
 fn roll_back<H: Host>(station: &mut Station<H>, client: u32, cause: &Cause) -> u32
     requires undoes { phase_at (job_views station.old.jobs) client ≡ Some (PlainPhase.Undoing cause.now) }
     requires asked { (tx : TxView) × (asked : PlainAsk) × AskedAt H.model client tx asked station.old }

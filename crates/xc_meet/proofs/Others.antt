@@ -114,7 +114,7 @@ module _ {L : Type 0} (told : L → Wire) where
               record {
                 table = at ∙ (others.together.table ∙ parted.tables.0);
                 shares = omega (arith, ap (λ (v : PassView). v.shares) is, others.together.shares, session.gains.goes.shares, parted.shares);
-                origin = ap (λ (v : PassView). v.origin) is ∙ (others.together.origin ∙ parted.origin);
+                origin = ap (λ (v : PassView). v.origin) is ∙ (others.together.origin ∙ parted.origins.0);
                 seen = starts_trans new.view.seen met.view.seen old.view.seen with_met
                     (starts_trans met.view.seen rest.view.seen old.view.seen others.together.seen parted.seen);
               };

@@ -1,6 +1,7 @@
 ghost use Rattle.std.specs.Prelude.{◌≡◌, ◌≤◌, ◌*◌, ◌^◌, []};
 ghost use Rattle.std.specs.Thread.{IsSync};
 ghost use Rattle.xc_meet.specs.Members.{LeavesSessions};
+ghost use Rattle.xc_serve.specs.Gains.{IsOfScript};
 ghost use Rattle.xc_serve.specs.Sessions.{IsSession};
 
 use crate::part::part;
@@ -33,6 +34,7 @@ pub fn serve_all<
     count: u32,
 ) -> (Pass<Box<Station<H>>>, Ls, Roomy<Session<L>>)
     requires table { pass.table ≡ shop.now.table.shared.table_id }
+    requires scripted { IsOfScript pass }
     requires shares { (2 ^ 25 * count ≤ pass.view.shares) × (pass.view.shares ≤ 2 ^ 32) }
     requires none { backwards.items ≡ [] }
     requires room { count ≤ backwards.spare }
@@ -53,6 +55,7 @@ pub fn serve_all<
         || -> (Pass<Box<Station<H>>>, Ls, Roomy<Session<L>>)
             requires sync { IsSync R.row }
             requires table { rest.table ≡ shop.now.table.shared.table_id }
+            requires scripted { IsOfScript rest }
             requires shares { (2 ^ 25 * left ≤ rest.view.shares) × (rest.view.shares ≤ 2 ^ 32) }
             requires none { backwards.items ≡ [] }
             requires room { left ≤ backwards.spare }
@@ -60,7 +63,7 @@ pub fn serve_all<
                 (record { old = backwards; new = result.2 }) left }
         { serve_all(rt, alloc, shop, rest, links, backwards, left) },
         || -> (Pass<Box<Station<H>>>, Session<L>)
-            requires { IsSync R.row × (own.table ≡ shop.now.table.shared.table_id) }
+            requires { IsSync R.row × (own.table ≡ shop.now.table.shared.table_id) × IsOfScript own }
             ensures { IsSession own result.0 (L.told link) (L.told result.1.link) result.1.end }
         {
             let mut link = link;

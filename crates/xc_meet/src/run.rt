@@ -1,5 +1,6 @@
 ghost use Rattle.std.specs.Prelude.{◌≡◌, ◌≤◌, [], IfOk, IfErr, length};
 ghost use Rattle.xc_meet.specs.Members.{AreAll};
+ghost use Rattle.xc_model.specs.Live.{IsScripted};
 ghost use Rattle.xc_station.specs.Stations.{IsFrontOf, KeepsOrigin};
 
 use crate::all::serve_all;
@@ -27,7 +28,8 @@ fn serve_boxed<
     backwards: Roomy<Session<L>>,
     count: u32,
 ) -> Result<(Box<Station<H>>, Ls, Roomy<Session<L>>), (Box<Station<H>>, Ls)>
-    requires few { length boxed.value.journal ≤ 10000 }
+    requires scripted { IsScripted boxed.value.opening.script }
+    requires few { length boxed.value.journal ≤ 4294967295 }
     requires at_most { count ≤ 64 }
     requires room { (backwards.items ≡ []) × (count ≤ backwards.spare) }
     ensures origin { IfOk result (λ r. KeepsOrigin boxed.value r.0.value) }
@@ -49,8 +51,8 @@ fn serve_boxed<
     }
 }
 
-/// Hands a station to the sessions of some links, and takes it back when all have ended. Where there is no memory for the list of
-/// sessions, the station's box or a turnstile, no link is accepted and both come back as they were. It may wait.
+/// Hands a station of a script to the sessions of some links, and takes it back when all have ended. Where there is no memory for the
+/// list of sessions, the station's box or a turnstile, no link is accepted and both come back as they were. It may wait.
 pub fn serve_sessions<
     L: Duplex + Send + Drop,
     Ls: Links<Link = L> + Send + Drop,
@@ -63,7 +65,8 @@ pub fn serve_sessions<
     links: Ls,
     count: u32,
 ) -> Result<(Station<H>, Ls, Roomy<Session<L>>), (Station<H>, Ls)>
-    requires few { length station.journal ≤ 10000 }
+    requires scripted { IsScripted station.opening.script }
+    requires few { length station.journal ≤ 4294967295 }
     requires at_most { count ≤ 64 }
     ensures origin { IfOk result (λ r. KeepsOrigin station r.0) }
     ensures front { IfOk result (λ r. IsFrontOf station.journal r.0.journal) }

@@ -70,6 +70,7 @@ module _ {H : Type 0} (model : HostModel H) (rules : Rules) (host : H) (first la
           scripted = ap (λ (o : Opening). is_refused_by model.takes_scripts o.script) same ∙ start.scripted;
           faults = ap (λ (o : Opening). o.faults) same ∙ start.faults;
           asked = mine;
+          unparted = left.unparted (subst (λ (o : Opening). IsScripted o.script) (sym origin.opening) own);
           whole = whole;
           kept = left.kept;
           accounted = journal_accounts (setting end.opening.script rules model.tells) end.journal.items mine whole.journal;

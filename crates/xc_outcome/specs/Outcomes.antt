@@ -60,6 +60,8 @@ module _ {H : Type 0} (model : HostModel H) where
   pub record IsEndOf (station : StationView H) (end : End H) : Type 0 where
     pub opening : end.opening ≡ station.opening
     pub journal : end.journal.items ≡ station.journal
+    -- of a script nothing of it was handed out
+    pub unparted : IsScripted station.opening.script → end.journal.gone ≡ 0
     pub lines : AreLinesOf (job_views station.jobs) end.jobs
     pub whole : IsTrueEnd (setting station.opening.script station.rules model.tells) end.journal.items (final_of model end)
     pub kept : AreKept end.kept

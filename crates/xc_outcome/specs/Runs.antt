@@ -102,6 +102,8 @@ module _ {H : Type 0} (model : HostModel H) where
     pub faults : end.opening.faults ≡ model.fault_count host
     -- its blocks ask its transactions, and no client
     pub asked : IsScripted end.opening.script
+    -- the end has all of the journal: nothing of it was handed out before
+    pub unparted : end.journal.gone ≡ 0
     -- the journal is true of the script, and leads to the words, to the host's contents with the kept data in front, and to the jobs' ends
     pub whole : IsTrueEnd (setting end.opening.script rules model.tells) end.journal.items (final_of end)
     -- what is kept stands in order: pipes by number, then pairs by number and side; no item is empty but a message

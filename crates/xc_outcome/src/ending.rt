@@ -1,6 +1,7 @@
 //! From a station all of whose jobs have ended to what is written of them.
 
 ghost use Rattle.std.specs.Prelude.{◌≡◌, ◌≤◌, ℕ, List, None, Option, Some, length};
+ghost use Rattle.xc_model.specs.Live.{IsScripted};
 ghost use Rattle.xc_station.specs.Stations.{NobodyLives};
 ghost use Rattle.xc_station.specs.declared.run_result.End.{End as PlainEnd};
 ghost use Rattle.xc_outcome.specs.Due.{due_bytes};
@@ -19,7 +20,8 @@ use xc_station::{End, Station};
 
 // The status that a run with this end is meant to have where there is memory for what is due.
 fn meant_of<H>(end: &End<H>) -> Status
-    requires { length end.now.journal.items ≤ 10000 }
+    requires few { length end.now.journal.items ≤ 10000 }
+    requires unparted { end.now.journal.gone ≡ 0 }
     ensures { (seed : Option ℕ) → IsDueWithEnd seed result end.now (written_of seed end.now) }
 {
     status_of(end)
@@ -27,7 +29,8 @@ fn meant_of<H>(end: &End<H>) -> Status
 
 // The line that sums up a run is written, or that there is no memory for it.
 fn write_summary<K: Sink, H>(alloc: Global, sink: &mut K, end: &End<H>, seed: u64) -> Status
-    requires { length end.now.journal.items ≤ 10000 }
+    requires few { length end.now.journal.items ≤ 10000 }
+    requires unparted { end.now.journal.gone ≡ 0 }
     ensures { IsEndSaid (Some seed) end.now result (record { old = K.told sink.old; new = K.told sink.new }) }
 {
     let meant = meant_of(end);
@@ -39,7 +42,8 @@ fn write_summary<K: Sink, H>(alloc: Global, sink: &mut K, end: &End<H>, seed: u6
 
 // The text of a run is written, or that there is no memory for a piece of it.
 fn write_journal<K: Sink, H>(alloc: Global, sink: &mut K, end: &End<H>) -> Status
-    requires { length end.now.journal.items ≤ 10000 }
+    requires few { length end.now.journal.items ≤ 10000 }
+    requires unparted { end.now.journal.gone ≡ 0 }
     ensures { IsEndSaid None end.now result (record { old = K.told sink.old; new = K.told sink.new }) }
 {
     let meant = meant_of(end);
@@ -60,7 +64,8 @@ fn write_journal<K: Sink, H>(alloc: Global, sink: &mut K, end: &End<H>) -> Statu
 
 // What is due with an end is written: its text, or with a seed the line that sums it up.
 fn write_end<K: Sink, H>(alloc: Global, sink: &mut K, end: &End<H>, seed: Option<u64>) -> Status
-    requires { length end.now.journal.items ≤ 10000 }
+    requires few { length end.now.journal.items ≤ 10000 }
+    requires unparted { end.now.journal.gone ≡ 0 }
     ensures { IsEndSaid seed end.now result (record { old = K.told sink.old; new = K.told sink.new }) }
 {
     match seed {
@@ -69,14 +74,15 @@ fn write_end<K: Sink, H>(alloc: Global, sink: &mut K, end: &End<H>, seed: Option
     }
 }
 
-/// All jobs have ended: what is due with that end is written.
+/// All jobs of a script have ended: what is due with that end is written.
 pub fn finish_run<K: Sink, H: Host>(
     alloc: Global,
     sink: &mut K,
     station: Station<H>,
     seed: Option<u64>,
 ) -> Finish<H>
-    requires { NobodyLives station.jobs }
+    requires ended { NobodyLives station.jobs }
+    requires scripted { IsScripted station.opening.script }
     ensures end { (end : PlainEnd H) × (result.end ≡ Some end) × IsEndOf H.model station end × (meant : PlainStatus) × (due : List ℕ)
         × IsDueWithEnd seed meant end due × IsWrittenAs meant due result.status (record { old = K.told sink.old; new = K.told sink.new }) }
     ensures host { result.host ≡ None }

@@ -49,6 +49,7 @@ fn some_late_starved(entries: &[Entry]) -> bool
 }
 
 fn starves<H>(end: &End<H>) -> bool
+    requires { end.now.journal.gone ≡ 0 }
     ensures { result ≡ starves end.now }
 {
     some_job_starved(end.jobs.as_slice()) || some_late_starved(end.journal.as_slice())
@@ -61,7 +62,8 @@ fn gave_up<H>(end: &End<H>) -> bool
 }
 
 fn leaves_effects<H>(end: &End<H>) -> bool
-    requires { length end.now.journal.items ≤ 10000 }
+    requires few { length end.now.journal.items ≤ 10000 }
+    requires unparted { end.now.journal.gone ≡ 0 }
     ensures { result ≡ leaves_effects end.now }
 {
     remaining_effects(end.journal.as_slice()) > 0
@@ -70,7 +72,8 @@ fn leaves_effects<H>(end: &End<H>) -> bool
 /// The status that a run with this end is meant to have. Memory comes first: a run in which it ran out has that status,
 /// whatever else became of its jobs.
 pub fn status_of<H>(end: &End<H>) -> Status
-    requires { length end.now.journal.items ≤ 10000 }
+    requires few { length end.now.journal.items ≤ 10000 }
+    requires unparted { end.now.journal.gone ≡ 0 }
     ensures { result ≡ (if starves end.now then Status.NoMemory
         else if leaves_effects end.now then Status.Left
         else if gave_up end.now then Status.GaveUp

@@ -167,7 +167,7 @@ fn ended_before(
 
 // A station with this script, in its box.
 fn boxed(alloc: Global, script: &str) -> Result<Option<Box<Station<MemHost>>>, ParseErr>
-    ensures { IfOk result (λ o. IfSome o (λ boxed. length boxed.value.journal ≤ 10000)) }
+    ensures { IfOk result (λ o. IfSome o (λ boxed. length boxed.value.journal ≤ 4294967295)) }
 {
     let script = parse(alloc, &Chunk::new(alloc, script.as_bytes())?)?;
     let Ok(station) = Station::start(alloc, MemHost::new(alloc), script, RULES) else {

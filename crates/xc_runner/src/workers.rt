@@ -56,7 +56,7 @@ fn run_boxed<H: Host + Send, P: Pace + Sync, R: AllocGlobal + Threads + Wait + S
     workers: u32,
     pace: &P,
 ) -> Box<Station<H>>
-    requires few { length boxed.value.journal ≤ 10000 }
+    requires few { length boxed.value.journal ≤ 4294967295 }
     ensures origin { KeepsOrigin boxed.value result.value }
     ensures front { IsFrontOf boxed.value.journal result.value.journal }
 {
@@ -77,7 +77,7 @@ pub fn run_workers<H: Host + Send, P: Pace + Sync, R: AllocGlobal + Threads + Wa
     workers: u32,
     pace: &P,
 ) -> Station<H>
-    requires few { length station.journal ≤ 10000 }
+    requires few { length station.journal ≤ 4294967295 }
     ensures origin { KeepsOrigin station result }
     ensures front { IsFrontOf station.journal result.journal }
 {

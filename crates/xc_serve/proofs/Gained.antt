@@ -5,11 +5,11 @@ use Rattle.std.proofs.Math.ListN.{drop_of_length-le}
 use Rattle.std.proofs.lemmas.List.{append-nil}
 use Rattle.xc_data.specs.declared.entry.Entry.{Entry}
 use Rattle.xc_data.specs.declared.entry.Event.{Event}
-use Rattle.xc_station.specs.Passes.{PassView, StationMeaning, StationPass}
+use Rattle.xc_station.specs.Passes.{StationMeaning, StationPass}
 use Rattle.xc_turnstile.specs.Insides.{Gains, GainsEvent, IsInside, IsNext}
 use Rattle.xc_turnstile.specs.Meanings.{boxed}
-use Rattle.xc_turnstile.specs.Views.{AreAtPlaces, added, entered_view, left_view, numbered}
-use Rattle.xc_turnstile.proofs.Laws.{gains_at, pass_goes_further, numbered_stands, stands_append, stands_longer, starts_self}
+use Rattle.xc_turnstile.specs.Views.{added, left_view, numbered}
+use Rattle.xc_turnstile.proofs.Laws.{gains_at, pass_goes_further, stands_append, stands_longer, starts_self}
 use Rattle.xc_print.specs.Entries.{journal_text}
 use Rattle.xc_serve.specs.Answers.{entry_texts}
 

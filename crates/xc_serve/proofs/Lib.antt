@@ -2,3 +2,4 @@ pub mod Blocks
 pub mod Gained
 pub mod Told
 pub mod Lines
+pub mod Scripted

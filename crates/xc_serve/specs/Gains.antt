@@ -7,6 +7,8 @@ use Rattle.xc_data.specs.declared.entry.Event.{Event}
 use Rattle.xc_data.specs.declared.entry.Event.TheVariants.{Turned}
 use Rattle.xc_data.specs.declared.entry.Turn.{Turn}
 use Rattle.xc_text.specs.declared.script.Script.{Script}
+use Rattle.xc_model.specs.Live.{IsScripted}
+use Rattle.xc_model.specs.declared.origin.Origin.{Origin}
 use Rattle.xc_turnstile.specs.Insides.{Gains}
 use Rattle.xc_station.specs.Passes.{StationPass}
 use Rattle.xc_turnstile.specs.Views.{added}
@@ -17,6 +19,10 @@ use Rattle.xc_serve.specs.declared.answer.ServeAnswer.TheVariants as answer
 use Rattle.xc_serve.specs.declared.order.Order.{Order}
 use Rattle.xc_serve.specs.declared.order.Order.TheVariants as order
 use Rattle.xc_serve.specs.Answers.{IsServeAnswer, IsOwnBlock, IsOwnIn, answer_bytes, job_closing, entry_texts, turn_events}
+
+-- the station that a pass is for is one of a script, so nothing of its journal was handed out
+abbrev pub IsOfScript : StationPass → Type 0
+IsOfScript pass = (o : Origin) → pass.view.origin ≡ Some o → IsScripted o.script
 
 -- a text is this one, or was lost for lack of memory
 abbrev pub IsText : Option (List ℕ) → List ℕ → Type 0

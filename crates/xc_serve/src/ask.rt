@@ -1,7 +1,8 @@
 ghost use Rattle.std.specs.Prelude.{◌≡◌, ◌≤◌, ℕ, List, [], ◌∷◌, IfOk, length, slice_get};
 ghost use Rattle.xc_data.specs.declared.entry.Event.TheVariants.{Looked};
 ghost use Rattle.xc_serve.specs.Answers.{seen_line, text_at};
-ghost use Rattle.xc_serve.specs.Gains.{IsOrderFollowed, IsMade, IsText, IsTold};
+ghost use Rattle.xc_model.specs.Live.{IsScripted};
+ghost use Rattle.xc_serve.specs.Gains.{IsOfScript, IsOrderFollowed, IsMade, IsText, IsTold};
 ghost use Rattle.xc_serve.specs.declared.order.Order.TheVariants as Asked;
 ghost use Rattle.xc_station.specs.Events.{IsEvent};
 ghost use Rattle.xc_turnstile.specs.Insides.{Gains};
@@ -79,7 +80,8 @@ fn work<H: Host, R: Wait>(
     shop: &Turnstile<Box<Station<H>>>,
     pass: Pass<Box<Station<H>>>,
 ) -> (Pass<Box<Station<H>>>, Option<ServeAnswer>)
-    requires { pass.table ≡ shop.now.table.shared.table_id }
+    requires table { pass.table ≡ shop.now.table.shared.table_id }
+    requires scripted { IsOfScript pass }
     ensures { IsOrderFollowed pass result.0 Asked.Work result.1 }
 {
     let (pass, job) = pick(rt, shop, pass);
@@ -110,6 +112,7 @@ fn look_for<H: Host>(
     station: &mut Station<H>,
     place: u64,
 ) -> (u32, Option<ServeAnswer>)
+    requires { IsScripted station.old.opening.script }
     ensures length { result.0 ≡ length station.old.journal }
     ensures same { station.new.journal ≡ station.old.journal }
     ensures event { IsEvent station.old station.new (Looked result.0) }
@@ -127,7 +130,8 @@ fn look_up<H: Host, R: Wait>(
     pass: Pass<Box<Station<H>>>,
     place: u64,
 ) -> (Pass<Box<Station<H>>>, Option<ServeAnswer>)
-    requires { pass.table ≡ shop.now.table.shared.table_id }
+    requires table { pass.table ≡ shop.now.table.shared.table_id }
+    requires scripted { IsOfScript pass }
     ensures { IsOrderFollowed pass result.0 (Asked.Entry place) result.1 }
 {
     let (mut station, hold) = enter(rt, shop, pass);
@@ -143,7 +147,8 @@ pub fn follow<H: Host, R: Wait>(
     pass: Pass<Box<Station<H>>>,
     order: Order,
 ) -> (Pass<Box<Station<H>>>, Option<ServeAnswer>)
-    requires { pass.table ≡ shop.now.table.shared.table_id }
+    requires table { pass.table ≡ shop.now.table.shared.table_id }
+    requires scripted { IsOfScript pass }
     ensures { IsOrderFollowed pass result.0 order result.1 }
 {
     match order {

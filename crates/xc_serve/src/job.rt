@@ -1,9 +1,10 @@
-ghost use Rattle.std.specs.Prelude.{◌≡◌, List, ℕ, None, IfOk, OnErr};
+ghost use Rattle.std.specs.Prelude.{◌≡◌, None, IfOk, OnErr};
 ghost use Rattle.xc_data.specs.declared.entry.Event.TheVariants.{Turned};
 ghost use Rattle.xc_print.specs.Entries.{journal_text};
 ghost use Rattle.xc_runner.specs.Walks.{is_last};
 ghost use Rattle.xc_serve.specs.Answers.{block_or_none};
-ghost use Rattle.xc_serve.specs.Gains.{Grows, IsToldJob, IsToldTurn, TellsTurn, closing_if};
+ghost use Rattle.xc_model.specs.Live.{IsScripted};
+ghost use Rattle.xc_serve.specs.Gains.{Grows, IsOfScript, IsToldJob, IsToldTurn, TellsTurn, closing_if};
 ghost use Rattle.xc_station.specs.Events.{IsEvent};
 
 use std::alloc::Global;
@@ -78,6 +79,7 @@ fn take_turn<H: Host>(
     job: u32,
     text: Option<Text>,
 ) -> (Option<Turn>, Option<Text>)
+    requires { IsScripted station.old.opening.script }
     ensures event { IsEvent station.old station.new (Turned job result.0) }
     ensures tells { TellsTurn station.new.opening.script (record { old = station.old.journal; new = station.new.journal }) job result.0
         (record { old = text; new = result.1 }) }
@@ -99,7 +101,8 @@ fn turn_told<H: Host, R: Wait>(
     job: u32,
     text: Option<Text>,
 ) -> (Pass<Box<Station<H>>>, Option<Turn>, Option<Text>)
-    requires { pass.table ≡ shop.now.table.shared.table_id }
+    requires table { pass.table ≡ shop.now.table.shared.table_id }
+    requires scripted { IsOfScript pass }
     ensures { IsToldTurn pass result.0 job result.1 (record { old = text; new = result.2 }) }
 {
     let (mut station, hold) = enter(rt, shop, pass);
@@ -126,7 +129,8 @@ pub fn work_told<H: Host, R: Wait>(
     pass: Pass<Box<Station<H>>>,
     job: u32,
 ) -> (Pass<Box<Station<H>>>, Option<Text>)
-    requires { pass.table ≡ shop.now.table.shared.table_id }
+    requires table { pass.table ≡ shop.now.table.shared.table_id }
+    requires scripted { IsOfScript pass }
     ensures { IsToldJob pass result.0 job result.1 }
 {
     let mut mine = pass;

@@ -4,6 +4,7 @@ ghost use Rattle.xc_edge.specs.Counts.{HasCause};
 ghost use Rattle.xc_links.specs.Lines.{IsCut};
 ghost use Rattle.xc_links.specs.Wires.{giving};
 ghost use Rattle.xc_serve.specs.Answers.{answer_bytes};
+ghost use Rattle.xc_serve.specs.Gains.{IsOfScript};
 ghost use Rattle.xc_serve.specs.Serving.{IsSaid, IsServed};
 ghost use Rattle.xc_serve.specs.Sessions.{IsAsked, IsSession};
 
@@ -83,7 +84,8 @@ fn serve_order<L: Duplex, H: Host, R: Wait>(
     pass: Pass<Box<Station<H>>>,
     order: Order,
 ) -> (Pass<Box<Station<H>>>, Next)
-    requires { pass.table ≡ shop.now.table.shared.table_id }
+    requires table { pass.table ≡ shop.now.table.shared.table_id }
+    requires scripted { IsOfScript pass }
     ensures { IsServed pass result.0 (record { old = L.told link.old; new = L.told link.new }) order result.1 }
 {
     let (pass, answer) = follow(rt, alloc, shop, pass, order);
@@ -103,7 +105,8 @@ pub fn serve_one<L: Duplex, H: Host + Send, R: Wait>(
     shop: &Turnstile<Box<Station<H>>>,
     pass: Pass<Box<Station<H>>>,
 ) -> Served<H>
-    requires { pass.table ≡ shop.now.table.shared.table_id }
+    requires table { pass.table ≡ shop.now.table.shared.table_id }
+    requires scripted { IsOfScript pass }
     ensures { IsSession pass result.pass (L.told link.old) (L.told link.new) result.end }
 {
     let mut mine = pass;

@@ -83,7 +83,11 @@ module _ (s : Setting) (at : ℕ) (now : Moment) (was : JobView) (marks : ℕ �
       (ap (λ (j : JobView). active_in j.doing) (seen_as (asked_to_wait was) (ap (λ (n : Moment). n.jobs) row.1)) ∙ ap active_in idle)
   safe_idle turn.Went row =
       safe_begun tries job _ (ap (λ (j : JobView). j.doing) (seen_as (beginning_job now was) (ap (λ (n : Moment). n.jobs) row.1))) refl refl
-  safe_idle turn.NoMemory row = absurd row
+  safe_idle turn.NoMemory row =
+      let both : Some (job_view job) ≡ Some was =
+      sym (get_set_same now.jobs at was (job_view job) there) ∙ ap (λ (n : Moment). slice_get n.jobs at) row.2 ∙ there in
+      let same : job_view job ≡ was = cc both in
+      safe_without tries job (ap (λ (j : JobView). active_in j.doing) same ∙ ap active_in idle)
 
 -- ---- all jobs
 -- with another job in one place

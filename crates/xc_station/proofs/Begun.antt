@@ -1,6 +1,6 @@
 -- An idle job that ends, or whose next transaction begins.
-use Rattle.std.proofs.Common.{◌≡◌, ◌+◌, ◌<◌, ℕ, Bool, List, length, true, false, refl, ap, sym, ◌∙◌, subst, is_some, IsSome}
-use Rattle.std.specs.Prelude.{Option, not}
+use Rattle.std.proofs.Common.{◌≡◌, ◌+◌, ◌<◌, ℕ, Bool, List, arith, length, true, false, refl, ap, sym, ◌∙◌, subst, is_some, IsSome}
+use Rattle.std.specs.Prelude.{Option, not, slice_get, slice_set, if◌then◌else◌}
 use Rattle.std.specs.declared.option.Option.TheVariants.{None, Some}
 use Rattle.xc_data.specs.declared.object.Object.{Object}
 use Rattle.xc_sentinel.specs.declared.seat.Seat.{Seat}
@@ -9,23 +9,27 @@ use Rattle.xc_sentinel.specs.Seating.{KeepsSeats, seat_in}
 use Rattle.std.specs.Prelude.{Result, Ok, Err, OnOk, OnErr}
 use Rattle.std.specs.Result.{is_err}
 use Rattle.xc_data.specs.declared.entry.JobEnd.{JobEnd}
+use Rattle.xc_data.specs.declared.entry.JobEnd.TheVariants as job_end
 use Rattle.xc_data.specs.declared.entry.Mark.{Mark}
 use Rattle.xc_data.specs.declared.entry.Turn.{Turn}
 use Rattle.xc_data.specs.declared.entry.Turn.TheVariants as turn
 use Rattle.xc_data.specs.declared.private.Private.{Private}
 use Rattle.xc_text.specs.Stated.{Statement}
+use Rattle.xc_text.specs.declared.script.Script.{Script}
 use Rattle.xc_script.specs.declared.ask.Ask.{Ask}
 use Rattle.xc_script.specs.declared.ask.Ask.TheVariants as ask
 use Rattle.xc_script.specs.Position.{Position, job_of}
 use Rattle.xc_script.proofs.Laws.{live_body}
-use Rattle.xc_model.specs.Live.{has_clients}
+use Rattle.xc_model.specs.Live.{IsScripted, has_clients, most_entries}
 use Rattle.xc_model.specs.Setting.{Setting}
 use Rattle.xc_model.specs.Moment.{TxView, JobView, Active, Ended, Moment, begun_count, failures, rank_of, asked_to_wait, with_job}
-use Rattle.xc_model.specs.IdleRows.{IdleTurn, IsEnding, IsOver, WaitsForNobody, IsWaiting, NamesLast, beginning_job, new_tx}
-use Rattle.xc_model.specs.Movers.{body_at, mover}
+use Rattle.xc_model.specs.IdleRows.{IdleTurn, IsEnding, IsOver, MayBegin, WaitsForNobody, IsWaiting, NamesLast, beginning_job, new_tx}
+use Rattle.xc_model.specs.Movers.{Mover, body_at, mover}
+use Rattle.xc_model.proofs.Laws.{most_numbered}
+use Rattle.xc_turns.proofs.Laws.{set_itself}
 use Rattle.xc_station.specs.declared.begin_tx.Halt.{Halt}
 use Rattle.xc_station.specs.declared.begin_tx.Halt.TheVariants.{End, Wait}
-use Rattle.xc_station.specs.Beginning.{IsWaitOver, IsHalted, IsSeatBehind, IsStopped, is_end_in, is_over_in}
+use Rattle.xc_station.specs.Beginning.{GoesWithout, IsWaitOver, IsHalted, IsSeatBehind, IsStopped, is_end_in, is_over_in}
 use Rattle.xc_station.specs.Moments.{AreSeats, HasBegun, runs, seated_as}
 
 -- what an answer without an error tells
@@ -39,7 +43,7 @@ where_err (Ok x) is p = cc
 where_err (Err e) is p = p
 
 -- the job ends, and the marks stay
-pub job_ends : (s : Setting) (at : ℕ) (now : Moment) (job new : JobView) (answer : Turn) (end : JobEnd) (marks : ℕ → Option Mark) → now.marks ≡ marks
+job_ends : (s : Setting) (at : ℕ) (now : Moment) (job new : JobView) (answer : Turn) (end : JobEnd) (marks : ℕ → Option Mark) → now.marks ≡ marks
     → IsEnding s now job end → new ≡ record job { doing = Ended end } → answer ≡ turn.Ended end
     → IdleTurn (mover s at now job) answer (record (with_job now at new) { marks = marks })
 job_ends s at now job new answer end marks same ending is given =
@@ -71,14 +75,47 @@ pub stopped_there : (job new : JobView) (halt : Halt) (answer : Turn) → IsStop
 stopped_there job new (End end) answer is went = let bad : turn.Ended end ≡ turn.Went = sym is.1 ∙ went in cc bad
 stopped_there job new (Wait object holder) answer is went = let bad : turn.Busy object holder ≡ turn.Went = sym is.1 ∙ went in cc bad
 
--- an idle job that can't have its room ends
-pub ended_seats : (number rank : ℕ) (old new : Seats) (end : JobEnd) (answer : Turn) → answer ≡ turn.Ended end → KeepsSeats old new
-    → IsSeatBehind number rank old new answer
-ended_seats number rank old new end answer is kept = subst (IsSeatBehind number rank old new) (sym is) kept
+-- an idle job that can't have its room takes none
+pub without_seats : (number rank : ℕ) (old new : Seats) (clients : Bool) (was is : JobView) (answer : Turn) → GoesWithout clients was is answer
+    → KeepsSeats old new → IsSeatBehind number rank old new answer
+without_seats number rank old new true was is answer without kept = subst (IsSeatBehind number rank old new) (sym without.1) kept
+without_seats number rank old new false was is answer without kept = subst (IsSeatBehind number rank old new) (sym without.1) kept
+
+-- nor does it begin
+pub without_begun : (clients : Bool) (was is : JobView) (answer : Turn) → GoesWithout clients was is answer → answer ≡ turn.Went → ⊥
+without_begun true was is answer without went = let bad : turn.NoMemory ≡ turn.Went = sym without.1 ∙ went in cc bad
+without_begun false was is answer without went = let bad : turn.Ended job_end.NoMemory ≡ turn.Went = sym without.1 ∙ went in cc bad
+
+-- a script's ends; where clients ask nothing changes
+pub goes_without : (s : Setting) (at : ℕ) (now : Moment) (job new : JobView) (answer : Turn) (marks : ℕ → Option Mark) → now.marks ≡ marks
+    → slice_get now.jobs at ≡ Some job → MayBegin s now job → (clients : Bool) → has_clients s.script ≡ clients
+    → GoesWithout clients job new answer → IdleTurn (mover s at now job) answer (record (with_job now at new) { marks = marks })
+goes_without s at now job new answer marks same there ready true live is =
+    let jobs = ap (slice_set now.jobs at) is.0 ∙ set_itself now.jobs at job there in
+    subst (λ t. IdleTurn (mover s at now job) t (record (with_job now at new) { marks = marks })) (sym is.1)
+    (live, ready, λ i. record now { jobs = jobs i; marks = sym same i })
+goes_without s at now job new answer marks same there ready false own is =
+    job_ends s at now job new answer job_end.NoMemory marks same (own, ready.left) is.0 is.1
 
 -- so many transactions have begun
 pub all_begun : (now : Moment) (entered entries active : ℕ) → HasBegun now entries active → entered ≡ entries → begun_count now ≡ entered + active
 all_begun now entered entries active k len = λ i. (k.entered ∙ sym len) i + k.active i
+
+-- where not too many wait to be handed out, and a number is left, there is room in the journal
+pub room_left : (script : Script) (begun waiting count : ℕ) → count ≡ begun → (IsScripted script → waiting ≡ begun)
+    → (waiting < 10000) × (begun < 4294967295) → count < most_entries script
+room_left script begun waiting count same whole room = by_kind (has_clients script) refl where
+  by_kind : (b : Bool) → has_clients script ≡ b → count < (if b then 4294967295 else 10000)
+  by_kind true is = let low = room.1 in omega (arith, same, low)
+  by_kind false is = let low = room.0 in let all = whole is in omega (arith, same, low, all)
+
+-- who begins has a number for its transaction
+pub number_left : (m : Mover) (answer : Turn) (new : Moment) → answer ≡ turn.Went → IdleTurn m answer new → begun_count m.old < 4294967295
+number_left m answer new went row =
+    let begins = subst (λ t. IdleTurn m t new) went row in
+    let room = begins.0.room in
+    let most = most_numbered m.setting.script in
+    omega (arith, room, most)
 
 -- its next transaction begins
 pub job_begins : (now : Moment) (job : JobView) (me : Private) (place : Position) (tx : TxView) (entered entries active rank : ℕ) → me ≡ job.me

@@ -1,7 +1,7 @@
 -- What every turn leaves: another job in one place, jobs that are live after the others, and a journal that goes on.
 use Rattle.std.proofs.Common.{◌≡◌, inl, inr, ℕ, Bool, true, false, List, [], ◌∷◌, ◌++◌, length, refl, ap, sym, ◌∙◌}
 use Rattle.std.proofs.lemmas.List.{append-nil}
-use Rattle.std.specs.Prelude.{Option, nat_lt, slice_set}
+use Rattle.std.specs.Prelude.{Option, nat_lt, slice_get, slice_set}
 use Rattle.std.specs.declared.option.Option.TheVariants.{None, Some}
 use Rattle.xc_data.specs.declared.call.Call.{Call}
 use Rattle.xc_data.specs.declared.call.Call.TheVariants as call
@@ -32,6 +32,7 @@ use Rattle.xc_model.specs.Movers.{asked_at, mover}
 use Rattle.xc_model.specs.Entering.{behind_abort, behind_commit, entry_of}
 use Rattle.xc_model.specs.IdleRows.{beginning_job}
 use Rattle.xc_model.specs.Entering.{started_jobs}
+use Rattle.xc_turns.proofs.Laws.{set_itself}
 use Rattle.xc_station.specs.Stations.{ChangesOne}
 
 module _ (s : Setting) (at : ℕ) (old : Moment) (job : JobView) (new : Moment) where
@@ -52,14 +53,15 @@ module _ (s : Setting) (at : ℕ) (old : Moment) (job : JobView) (new : Moment) 
       → new.journal ≡ old.journal ++ entry ∷ [] → ChangesOne at old new
   enters behind started entry jobs journal = record { behind = behind; started = started; jobs = jobs; front = (entry ∷ [], journal) }
 
-  idle_leaves : (answer : Turn) → IdleTurn (mover s at old job) answer new → ChangesOne at old new
-  idle_leaves (turn.Ended end) row = alone (record job { doing = Ended end }) _ row.1 refl refl
-  idle_leaves (turn.Busy object number) row = alone (asked_to_wait job) _ row.1 refl refl
-  idle_leaves turn.Went row = alone (beginning_job old job) _ row.1 refl refl
-  idle_leaves turn.NoMemory row = absurd row
+  idle_leaves : slice_get old.jobs at ≡ Some job → (answer : Turn) → IdleTurn (mover s at old job) answer new → ChangesOne at old new
+  idle_leaves there (turn.Ended end) row = alone (record job { doing = Ended end }) _ row.1 refl refl
+  idle_leaves there (turn.Busy object number) row = alone (asked_to_wait job) _ row.1 refl refl
+  idle_leaves there turn.Went row = alone (beginning_job old job) _ row.1 refl refl
+  idle_leaves there turn.NoMemory row = alone job old row.2 (sym (set_itself old.jobs at job there)) refl
 
   starved_leaves : (answer : Turn) → StarvedTurn (mover s at old job) answer new → ChangesOne at old new
-  starved_leaves (turn.Ended job_end.NoMemory) row = alone (record job { doing = Ended job_end.NoMemory }) _ row refl refl
+  starved_leaves (turn.Ended job_end.NoMemory) row = alone (record job { doing = Ended job_end.NoMemory }) _ row.1 refl refl
+  starved_leaves turn.Went row = alone (record job { doing = Idle }) _ row.1 refl refl
   starved_leaves _ row = absurd row
 
   module _ (tx : TxView) where
@@ -131,12 +133,12 @@ module _ (s : Setting) (at : ℕ) (old : Moment) (job : JobView) (new : Moment) 
     active_leaves Committing answer row = committing_leaves answer row
     active_leaves (Undoing c) answer row = undoing_leaves c answer row
 
-  doing_leaves : (d : Doing) (answer : Turn) → TurnOf (mover s at old job) d answer new → ChangesOne at old new
-  doing_leaves Idle answer row = idle_leaves answer row
-  doing_leaves (Active tx) answer row = active_leaves tx tx.phase answer row
-  doing_leaves Starved answer row = starved_leaves answer row
-  doing_leaves (Ended end) answer row = absurd row
+  doing_leaves : slice_get old.jobs at ≡ Some job → (d : Doing) (answer : Turn) → TurnOf (mover s at old job) d answer new → ChangesOne at old new
+  doing_leaves there Idle answer row = idle_leaves there answer row
+  doing_leaves there (Active tx) answer row = active_leaves tx tx.phase answer row
+  doing_leaves there Starved answer row = starved_leaves answer row
+  doing_leaves there (Ended end) answer row = absurd row
 
 -- each turn does
 pub turn_leaves : (s : Setting) (at : ℕ) (old new : Moment) (answer : Turn) → IsTurn s at old answer new → ChangesOne at old new
-turn_leaves s at old new answer t = doing_leaves s at old t.job new t.job.doing answer t.row
+turn_leaves s at old new answer t = doing_leaves s at old t.job new t.there t.job.doing answer t.row

@@ -3,7 +3,7 @@ use Rattle.std.proofs.Common.{◌≡◌, ◌≢◌, ℕ, zero, suc, ◌+◌, ◌
 use Rattle.std.proofs.Common.{true, false}
 use Rattle.std.proofs.lemmas.List.Elements.{All-weaker, All-contains_itself}
 use Rattle.std.specs.FinMap as map
-use Rattle.std.specs.Prelude.{All, Contains, is_some, IsSome, IsTrue, Option, slice_get, if◌then◌else◌}
+use Rattle.std.specs.Prelude.{Contains, is_some, IsSome, IsTrue, Option, slice_get, if◌then◌else◌}
 use Rattle.std.specs.List.{fold}
 use Rattle.std.specs.declared.option.Option.TheVariants.{None, Some}
 use Rattle.xc_data.specs.declared.call.Call.{Call}
@@ -33,6 +33,7 @@ use Rattle.xc_model.specs.declared.phase.Phase.TheVariants.{Running}
 use Rattle.xc_model.specs.Live.{asked_by, has_clients}
 use Rattle.xc_model.specs.Stories.{AreAttempts, FitsWhereItRuns, StandsAfterReplies, IsDoing, IsInPhase, IsUnderway}
 use Rattle.xc_model.specs.Movers.{IsActiveAt, asked_at}
+use Rattle.xc_model.proofs.Laws.{most_numbered}
 use Rattle.xc_turns.proofs.Laws.{given_by_now, given_once, behind_count, passed_few}
 use Rattle.xc_sentinel.specs.declared.seat.Seat.{Seat}
 use Rattle.xc_sentinel.specs.Seating.{seat_in}
@@ -101,6 +102,11 @@ count_told : (script : Script) (p : Progress) (journal : List Entry) → length 
 count_told script p [] = refl
 count_told script p (e ∷ journal) = count_told script (after_entry script p e) journal ∙ count_left p.words e.calls e.outcome
 
+-- each entry has a number, and so has the transaction that begins next
+pub few_begun : (s : Setting) (faults : ℕ) (now : Moment) → IsSteady s faults now → length now.journal + length (actives now.jobs) ≤ 4294967295
+few_begun s faults now steady =
+    let few = steady.kept.told.few in let most = most_numbered s.script in omega (arith, few, most)
+
 -- so they are few
 pub few_words : (s : Setting) (faults : ℕ) (now : Moment) → IsSteady s faults now → length now.words ≤ 4096
 few_words s faults now steady =
@@ -125,8 +131,9 @@ module _ (s : Setting) (faults : ℕ) (now : Moment) (steady : IsSteady s faults
       let underway = subst (IsDoing s (length now.journal + length (actives now.jobs)) beside.0 job) does tells.doing in
       let passed = passed_few s told.lasts now.journal told.entries at beside.0 beside.1 in
       let few = told.few in
+      let most = most_numbered s.script in
       let same = underway.standing.next in
-      omega (arith, passed, few, same)
+      omega (arith, passed, few, most, same)
 
   -- the attempts that ended in a conflict
   pub few_failures : failures job.attempts < s.rules.attempts

@@ -237,6 +237,15 @@ module _ {H : Type 0} (model : HostModel H) (shared : Shared H) (journal : List 
       let both : Some (job_view job) ≡ Some job' = sym here ∙ (ap (λ (now : Moment). slice_get now.jobs at) e ∙ also) in
       cc both
 
+  -- or leaves it as it was
+  idle_same : (marks : ℕ → Option Mark)
+      → record (with_job (moment model shared journal jobs) at (job_view job)) { marks = marks } ≡ moment model shared journal jobs
+      → job_view job ≡ job_view was
+  idle_same marks e =
+      let both : Some (job_view job) ≡ Some (job_view was) =
+      sym (get_set_same (job_views jobs) at (job_view was) (job_view job) there) ∙ (ap (λ (now : Moment). slice_get now.jobs at) e ∙ there) in
+      cc both
+
   module _ (s : Setting) (sentinels' : Sentinels) (journal' : List Entry) (spare' : ℕ) (answer : Turn) (none : active_of (job_view was) ≡ None)
       (row : IdleTurn (mover s at (moment model shared journal jobs) (job_view was)) answer
       (record (with_job (moment model shared journal jobs) at (job_view job)) { marks = marks_of sentinels'.seats }))
@@ -278,9 +287,9 @@ module _ {H : Type 0} (model : HostModel H) (shared : Shared H) (journal : List 
               let one : Some fresh ≡ Some tx = ap active_of (sym same) ∙ is in
               let it : fresh ≡ tx = cc one in
               ap (λ (t : TxView). t.taken) (sym it)
-          by_answer turn.NoMemory row = absurd row
+          by_answer turn.NoMemory row = none_there (job_view was) (idle_same (marks_of sentinels'.seats) row.2) none
 
-      -- or it has ended, or waits
+      -- or it has ended, waits, or is as before
       pub rooms_idle_halted : answer ≢ turn.Went → spare ≤ spare'
           → HasRooms (record shared { sentinels = sentinels' }) active spare' (moment model (record shared { sentinels = sentinels' }) journal'
           (slice_set jobs at job)) lines
@@ -301,4 +310,6 @@ module _ {H : Type 0} (model : HostModel H) (shared : Shared H) (journal : List 
               ap active_of (idle_set (marks_of sentinels'.seats) _ (asked_to_wait (job_view was)) row.1) ∙ none in
               rooms_still sentinels' journal' spare' same kept none none' more
           by_answer turn.Went is row kept = absurd (halted is)
-          by_answer turn.NoMemory is row kept = absurd row
+          by_answer turn.NoMemory is row kept =
+              let none' : active_of (job_view job) ≡ None = ap active_of (idle_same (marks_of sentinels'.seats) row.2) ∙ none in
+              rooms_still sentinels' journal' spare' same kept none none' more

@@ -17,6 +17,7 @@ use Rattle.xc_host.specs.Model.{HostModel}
 use Rattle.xc_model.specs.declared.phase.Phase.{Phase}
 use Rattle.xc_model.specs.declared.phase.Phase.TheVariants.{Running, Committing, Undoing, Backing}
 use Rattle.xc_model.specs.Alone.{AreAlone}
+use Rattle.xc_model.specs.Live.{IsScripted}
 use Rattle.xc_data.specs.declared.call.LateCall.{LateCall}
 use Rattle.xc_model.specs.Moment.{TxView, JobView, Doing, Active, Moment, active_in, late_left}
 use Rattle.xc_model.specs.Rows.{IsTurn}
@@ -43,17 +44,17 @@ goes_further a b c h k =
     }
 
 -- one run of turns of a job after another
-pub works_further : {H : Type 0} (model : HostModel H) (job : ℕ) (a b c : StationView H) → length a.jobs ≤ length b.jobs → WorksOn model job a b
-    → WorksOn model job b c → WorksOn model job a c
-works_further model job a b c rises h k =
+pub works_further : {H : Type 0} (model : HostModel H) (job : ℕ) (a b c : StationView H) → IsScripted b.opening.script → length a.jobs ≤ length b.jobs
+    → WorksOn model job a b → WorksOn model job b c → WorksOn model job a c
+works_further model job a b c own rises h k =
     record {
       taken = k.taken ∙ h.taken;
       others = λ other away low. let more = rises in k.others other away (omega (arith, low, more)) ∙ h.others other away low;
-      alone = λ alone. k.alone (h.alone alone);
+      alone = λ first alone. k.alone own (h.alone first alone);
     }
 
 -- one event after what it tells of
-pub event_noted : {H : Type 0} (a b c : StationView H) (e : Event) → GoesOn a b → KeepsEvents a b → length b.journal ≤ 10000 → c ≡ with_event b e
+pub event_noted : {H : Type 0} (a b c : StationView H) (e : Event) → GoesOn a b → KeepsEvents a b → length b.journal ≤ 4294967295 → c ≡ with_event b e
     → IsEvent a c e
 event_noted a b c e goes quiet few is =
     subst (λ s. IsEvent a s e) (sym is)
@@ -129,7 +130,7 @@ module _ {H : Type 0} (model : HostModel H) (job : ℕ) (old new : StationView H
       record {
         taken = kept.taken;
         others = other_lives old.jobs new.jobs job left.behind left.started positive left.jobs;
-        alone = alone_turned _ _ _ _ _ row;
+        alone = λ own. alone_turned _ _ _ _ _ own row;
       }
 
 -- ---- one job after another
@@ -215,9 +216,9 @@ module _ {H : Type 0} (model : HostModel H) (job : ℕ) (old taking new : Statio
       let count = ap length is in let within = live_within old.jobs job next.live in
       works.others other (λ same. omega (arith, same, above, low, most)) (omega (arith, above, low, most, within, count)) ∙ ap (λ js. live_at js other) is
 
-  pub next_alone : ((other : ℕ) → 0 < other → other ≤ old.taken → live_at old.jobs other ≡ false) → AreAlone (now_of model old) (old.taken - 1)
-      → AreAlone (now_of model new) (new.taken - 1)
-  next_alone ended alone =
+  pub next_alone : IsScripted taking.opening.script → ((other : ℕ) → 0 < other → other ≤ old.taken → live_at old.jobs other ≡ false)
+      → AreAlone (now_of model old) (old.taken - 1) → AreAlone (now_of model new) (new.taken - 1)
+  next_alone own ended alone =
       let last : new.taken ≡ job = works.taken ∙ at in
       let above = next.above in
       let later : AreAlone (now_of model old) (job - 1) =
@@ -225,7 +226,7 @@ module _ {H : Type 0} (model : HostModel H) (job : ℕ) (old taking new : Statio
       (λ same. subst (AreAlone (now_of model old)) same alone)
       (λ away. alone_later (now_of model old) (old.taken - 1) (job - 1) alone
       (ended_rests old.jobs (old.taken - 1) (before 0 ended (old.taken - 1 + 1) (omega arith) (omega (arith, above, away)))) (omega (arith, above))) in
-      subst (λ n. AreAlone (now_of model new) (n - 1)) (sym last) (works.alone (subst (λ (n : Moment). AreAlone n (job - 1)) (sym now) later))
+      subst (λ n. AreAlone (now_of model new) (n - 1)) (sym last) (works.alone own (subst (λ (n : Moment). AreAlone n (job - 1)) (sym now) later))
 
 -- where the last was taken none above lives
 pub none_above : (jobs : List Job) (from taken : ℕ) → ((other : ℕ) → from < other → other ≤ taken → live_at jobs other ≡ false)

@@ -8,11 +8,11 @@ use Rattle.xc_data.specs.declared.entry.Cause.{Cause}
 use Rattle.xc_data.specs.declared.undo.Undo.{Undo}
 use Rattle.xc_model.specs.declared.phase.Phase.{Phase}
 use Rattle.xc_model.specs.declared.phase.Phase.TheVariants as phase
-use Rattle.xc_model.specs.Moment.{TxView, Doing, Idle, Active, Starved, Ended, late_left}
+use Rattle.xc_model.specs.Moment.{TxView, JobView, Doing, Idle, Active, Starved, Ended, active_in, active_of, late_left}
 use Rattle.xc_station.specs.declared.job.Job.{Job}
 use Rattle.xc_station.specs.declared.job.Stage.{Stage}
 use Rattle.xc_station.specs.declared.job.Stage.TheVariants as stage
-use Rattle.xc_station.specs.Jobs.{IsStage, back_stage, goes_on, late_stage, phase_stage, doing_of, stage_of}
+use Rattle.xc_station.specs.Jobs.{IsStage, back_stage, fed_doing, goes_on, late_stage, phase_stage, doing_of, stage_of}
 use Rattle.xc_station.specs.Stations.{live_at, lives}
 
 -- ---- the job there
@@ -68,6 +68,14 @@ idle_stage Idle e = refl
 idle_stage (Active tx) e = absurd (not_active tx stage.Idle refl e)
 idle_stage Starved e = cc e
 idle_stage (Ended end) e = cc e
+
+fed_none : (clients : Bool) → active_in (fed_doing clients) ≡ None
+fed_none true = refl
+fed_none false = refl
+
+-- after its turn without memory a job has no transaction
+pub fed_inactive : (was job : JobView) (clients : Bool) → job ≡ record was { doing = fed_doing clients } → active_of job ≡ None
+fed_inactive was job clients is = ap active_of is ∙ fed_none clients
 
 -- it is starved
 pub starved_stage : (d : Doing) → stage_of d ≡ stage.Starved → d ≡ Starved

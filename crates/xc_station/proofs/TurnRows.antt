@@ -1,7 +1,7 @@
 -- Each row of the table of turns, from one moment of a station to the next.
 use Rattle.std.proofs.Common.{◌≡◌, ℕ, ◌+◌, ◌≤◌, List, [], ◌∷◌, ◌++◌, length, refl, ap, sym, ◌∙◌, subst, arith, IsTrue}
 use Rattle.std.proofs.lemmas.List.{length-append, length-map, map-append}
-use Rattle.std.specs.Prelude.{slice_get, slice_set}
+use Rattle.std.specs.Prelude.{Bool, true, false, slice_get, slice_set}
 use Rattle.std.specs.declared.option.Option.TheVariants.{None, Some}
 use Rattle.xc_data.specs.declared.call.LateCall.{LateCall}
 use Rattle.xc_data.specs.declared.call.LateCall.TheVariants as late_call
@@ -28,6 +28,7 @@ use Rattle.xc_model.specs.declared.phase.Phase.{Phase}
 use Rattle.xc_model.specs.declared.phase.Phase.TheVariants as phase
 use Rattle.xc_model.specs.declared.rules.Rules.{Rules}
 use Rattle.xc_data.specs.Calls.{thread_in}
+use Rattle.xc_model.specs.Live.{has_clients}
 use Rattle.xc_model.specs.Setting.{Setting, setting}
 use Rattle.xc_model.specs.Moment.{TxView, JobView, Doing, Idle, Active, Starved, Ended, Moment, late_left, queue_of, with_queue, with_job}
 use Rattle.xc_model.specs.Moment.{unmarked}
@@ -45,7 +46,7 @@ use Rattle.xc_station.specs.declared.calls.Shared.{Shared}
 use Rattle.xc_station.specs.declared.job.Job.{Job}
 use Rattle.xc_station.specs.declared.job.Stage.{Stage}
 use Rattle.xc_station.specs.declared.job.Stage.TheVariants as stage
-use Rattle.xc_station.specs.Jobs.{doing_of, job_view, job_views}
+use Rattle.xc_station.specs.Jobs.{doing_of, fed_doing, fed_turn, job_view, job_views}
 use Rattle.xc_station.specs.Lent.{GivesTaken, Lent}
 use Rattle.xc_station.specs.Moments.{IsRunningRow, marks_of, moved, told_by}
 use Rattle.xc_station.specs.Stations.{moment}
@@ -104,15 +105,22 @@ module _ {H : Type 0} (model : HostModel H) (shared : Shared H) (journal : List 
       (row_turned s at old (record (with_job old at (job_view job)) { marks = marks_of sentinels'.seats }) (job_view was) Idle answer
       (seen_there stage.Idle is) (idle_stage (doing_of was) is.stage) row)
 
-  -- a starved job's
+  -- a starved job's row, of a script or of clients
+  fed_row : (s : Setting) (new : Moment) (clients : Bool) → has_clients s.script ≡ clients
+      → new ≡ with_job (moment model shared journal jobs) at (record (job_view was) { doing = fed_doing clients })
+      → StarvedTurn (mover s at (moment model shared journal jobs) (job_view was)) (fed_turn clients) new
+  fed_row s new true asks behind = (asks, behind)
+  fed_row s new false asks behind = (asks, behind)
+
+  -- and its turn
   pub starved_turned : (s : Setting) (job : Job) (answer : Turn) → IsThere jobs at stage.Starved was
-      → (job_view job ≡ record (job_view was) { doing = Ended job_end.NoMemory }) × (answer ≡ turn.Ended job_end.NoMemory)
+      → (job_view job ≡ record (job_view was) { doing = fed_doing (has_clients s.script) }) × (answer ≡ fed_turn (has_clients s.script))
       → IsTurn s at (moment model shared journal jobs) answer (moment model shared journal (slice_set jobs at job))
   starved_turned s job answer is ends =
       let old = moment model shared journal jobs in
       let new = moment model shared journal (slice_set jobs at job) in
-      let row : StarvedTurn (mover s at old (job_view was)) (turn.Ended job_end.NoMemory) new =
-      moment_set shared journal job ∙ ap (with_job old at) ends.0 in
+      let row : StarvedTurn (mover s at old (job_view was)) (fed_turn (has_clients s.script)) new =
+      fed_row s new (has_clients s.script) refl (moment_set shared journal job ∙ ap (with_job old at) ends.0) in
       row_turned s at old new (job_view was) Starved answer (seen_there stage.Starved is) (starved_stage (doing_of was) is.stage)
       (subst (λ a. StarvedTurn (mover s at old (job_view was)) a new) (sym ends.1) row)
 

@@ -1,6 +1,7 @@
 -- The turn of an idle job.
 use Rattle.std.specs.Prelude.{◌≡◌, ℕ, ◌<◌, Bool, true, false, is_some, not, Option}
 use Rattle.std.specs.declared.option.Option.TheVariants.{None, Some}
+use Rattle.xc_data.specs.declared.entry.JobEnd.TheVariants as job_end
 use Rattle.xc_data.specs.declared.entry.Turn.{Turn}
 use Rattle.xc_data.specs.declared.entry.Turn.TheVariants as turn
 use Rattle.xc_data.specs.declared.object.Object.{Object}
@@ -51,6 +52,11 @@ WaitsOnly busy patience (Wait object holder) = busy < patience
 abbrev pub IsStopped : JobView → JobView → Halt → Turn → Type 0
 IsStopped was is (End end) answer = (is ≡ record was { doing = Ended end }) × (answer ≡ turn.Ended end)
 IsStopped was is (Wait object holder) answer = (is ≡ asked_to_wait was) × (answer ≡ turn.Busy object holder)
+
+-- after a begin without memory: where clients ask the job is as before; a script's has ended
+abbrev pub GoesWithout : Bool → JobView → JobView → Turn → Type 0
+GoesWithout true was is answer = (is ≡ was) × (answer ≡ turn.NoMemory)
+GoesWithout false was is answer = (is ≡ record was { doing = Ended job_end.NoMemory }) × (answer ≡ turn.Ended job_end.NoMemory)
 
 -- the seats after it: a transaction of this number and rank has begun, or they are as before
 abbrev pub IsSeatBehind : ℕ → ℕ → Seats → Seats → Turn → Type 0

@@ -19,7 +19,7 @@ with_event station event = record station { events = (station.events + 1) % 1844
 pub record IsEvent {H : Type 0} (old new : StationView H) (event : Event) : Type 0 where
   pub origin : KeepsOrigin old new
   pub front : IsFrontOf old.journal new.journal
-  pub few : length new.journal ≤ 10000
+  pub few : length new.journal ≤ 4294967295
   pub count : new.events ≡ (old.events + 1) % 18446744073709551616
   pub last : new.last ≡ Some event
 

@@ -1,9 +1,9 @@
 -- What is told of the active transaction of a client's job.
-use Rattle.std.specs.Prelude.{ℕ, ◌+◌, ◌-◌, ◌==◌, Bool, true, false, List, length, position, is_some, unwrap_or, Option, slice_get}
+use Rattle.std.specs.Prelude.{ℕ, ◌+◌, ◌-◌, ◌==◌, Bool, false, List, length, position, is_some, unwrap_or, Option, slice_get}
 use Rattle.std.specs.Option.{option_map}
 use Rattle.std.specs.declared.option.Option.TheVariants.{None, Some}
 use Rattle.xc_data.specs.declared.call.Reply.{Reply}
-use Rattle.xc_model.specs.Moment.{TxView, JobView, Doing, Idle, Active, Starved, Ended}
+use Rattle.xc_model.specs.Moment.{JobView, Doing, Idle, Active, Starved, Ended}
 use Rattle.xc_station.specs.Finishing.{told_at}
 use Rattle.xc_station.specs.Jobs.{doing_of}
 use Rattle.xc_station.specs.declared.job.Job.{Job}

@@ -4,8 +4,11 @@ use Rattle.std.specs.Global.{Box}
 use Rattle.std.specs.declared.option.Option.TheVariants.{None, Some}
 use Rattle.xc_data.specs.declared.call.LateCall.{LateCall}
 use Rattle.xc_data.specs.declared.call.LateEnd.{LateEnd}
+use Rattle.xc_data.specs.declared.entry.JobEnd.TheVariants as job_end
 use Rattle.xc_data.specs.declared.entry.Outcome.{Outcome}
 use Rattle.xc_data.specs.declared.entry.Outcome.TheVariants.{Committed, Aborted}
+use Rattle.xc_data.specs.declared.entry.Turn.{Turn}
+use Rattle.xc_data.specs.declared.entry.Turn.TheVariants as turn
 use Rattle.xc_data.specs.declared.private.Private.{Private}
 use Rattle.xc_data.specs.declared.undo.Undo.{Undo}
 use Rattle.xc_text.specs.declared.script.Script.{Script}
@@ -96,6 +99,16 @@ job_view job =
       busy = job.busy;
       doing = doing_of job;
     }
+
+-- what a job does after the turn that follows an abort for lack of memory: of a script it has ended; where clients ask it is idle
+abbrev pub fed_doing : Bool → Doing
+fed_doing true = Idle
+fed_doing false = Ended job_end.NoMemory
+
+-- and what that turn answers
+abbrev pub fed_turn : Bool → Turn
+fed_turn true = turn.Went
+fed_turn false = turn.Ended job_end.NoMemory
 
 -- ---- what a committing transaction has started
 -- a child, as the job that it is from the entry on

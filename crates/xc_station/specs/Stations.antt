@@ -1,7 +1,7 @@
 -- A station between two turns, and what runs of turns keep.
 use Rattle.std.specs.Prelude.{◌≡◌, ◌≢◌, ℕ, zero, suc, ◌==◌, ◌+◌, ◌-◌, ◌<◌, ◌≤◌, Bool, true, false, List, [], ◌∷◌, ◌++◌}
 use Rattle.std.specs.Global.{Global}
-use Rattle.std.specs.Prelude.{Vec, length, slice_get, slice_set, vec_capacity}
+use Rattle.std.specs.Prelude.{Vec, drop, length, slice_get, slice_set, vec_capacity}
 use Rattle.std.specs.Prelude.{if◌then◌else◌, IsTrue, Option}
 use Rattle.std.specs.declared.option.Option.TheVariants.{None, Some}
 use Rattle.xc_data.specs.Step.{Step}
@@ -19,6 +19,7 @@ use Rattle.xc_model.specs.declared.rules.Rules.{Rules}
 use Rattle.xc_model.specs.Setting.{Setting, setting}
 use Rattle.xc_model.specs.Moment.{JobView, Moment, actives}
 use Rattle.xc_model.specs.Alone.{AreAlone}
+use Rattle.xc_model.specs.Live.{IsScripted}
 use Rattle.xc_model.specs.Consistent.{IsSet, IsConsistent}
 use Rattle.xc_model.specs.Rows.{IsTurn}
 use Rattle.xc_model.specs.Measure.{turns_left}
@@ -39,6 +40,8 @@ pub record StationView (H : Type 0) : Type 0 where
   pub kept : List KeptItem
   pub words : List ℕ
   pub journal : List Entry
+  -- how many entries of its journal were handed out
+  pub gone : ℕ
   pub jobs : List Job
   -- the jobs in the places below this one were taken by a worker, or have ended
   pub taken : ℕ
@@ -63,6 +66,14 @@ now_of model station =
       started = station.started;
       marks = marks_of station.seats;
     }
+
+-- the entries of its journal that wait to be handed out
+abbrev pub entries_held : {H : Type 0} → StationView H → List Entry
+entries_held station = drop station.gone station.journal
+
+-- how many wait, or will once the active transactions have ended
+abbrev pub entries_due : {H : Type 0} → StationView H → ℕ
+entries_due station = length (entries_held station) + length (actives (job_views station.jobs))
 
 -- what its journal is judged by
 abbrev pub setting_of : {H : Type 0} → HostModel H → StationView H → Setting
@@ -109,6 +120,7 @@ pub record KeepsOpening {H : Type 0} (old new : StationView H) : Type 0 where
   pub opening : new.opening ≡ old.opening
   pub rules : new.rules ≡ old.rules
   pub taken : new.taken ≡ old.taken
+  pub gone : new.gone ≡ old.gone
 
 -- and neither does what stands after it
 pub record KeepsEvents {H : Type 0} (old new : StationView H) : Type 0 where
@@ -157,11 +169,11 @@ pub record GoesOn {H : Type 0} (old new : StationView H) : Type 0 where
   pub front : IsFrontOf old.journal new.journal
   pub count : length old.jobs ≤ length new.jobs
 
--- and what one of turns of this job keeps: whether the others that were there live, and that it works alone
+-- and what one of turns of this job keeps: whether the others that were there live, and in a script that it works alone
 pub record WorksOn {H : Type 0} (model : HostModel H) (job : ℕ) (old new : StationView H) : Type 0 where
   pub taken : new.taken ≡ old.taken
   pub others : (other : ℕ) → other ≢ job → other ≤ length old.jobs → live_at new.jobs other ≡ live_at old.jobs other
-  pub alone : AreAlone (now_of model old) (job - 1) → AreAlone (now_of model new) (job - 1)
+  pub alone : IsScripted old.opening.script → AreAlone (now_of model old) (job - 1) → AreAlone (now_of model new) (job - 1)
 
 -- ---- a list of turns
 -- the job takes its turn, a row of the table, and the opening and what is taken stays

@@ -1,14 +1,15 @@
 -- What the fields of a station keep together between two turns.
 use Rattle.std.specs.FinMap as map
 use Rattle.std.specs.Global.{Global}
-use Rattle.std.specs.Prelude.{◌≡◌, ℕ, ◌≤◌, List, length, IsTrue, Vec}
-use Rattle.xc_data.specs.declared.entry.Entry.{Entry}
+use Rattle.std.specs.Prelude.{◌≡◌, ℕ, ◌≤◌, length, IsTrue, Vec}
 use Rattle.xc_data.specs.declared.entry.JobLine.{JobLine}
 use Rattle.xc_host.specs.Model.{HostModel, plan_of}
 use Rattle.xc_maps.specs.Keys.{name_cmp}
+use Rattle.xc_model.specs.Live.{IsScripted}
 use Rattle.xc_model.specs.Moment.{Moment}
 use Rattle.xc_model.specs.Setting.{Setting, setting}
 use Rattle.xc_model.specs.declared.rules.Rules.{Rules}
+use Rattle.xc_journal.specs.Told.{Journal}
 use Rattle.xc_roomy.specs.Room.{Roomy}
 use Rattle.xc_station.specs.declared.calls.Shared.{Shared}
 use Rattle.xc_station.specs.declared.job.Job.{Job}
@@ -25,7 +26,7 @@ pub record Fields (H : Type 0) : Type 0 where
   pub places : map.FinMap name_cmp ℕ
   pub rules : Rules
   pub shared : Shared H
-  pub journal : Roomy Entry
+  pub journal : Journal
   pub active : ℕ
   pub jobs : Vec Job Global
   pub lines : Roomy JobLine
@@ -44,6 +45,8 @@ module _ {H : Type 0} (model : HostModel H) (s : Fields H) where
   -- so they do
   pub record IsWhole : Type 0 where
     pub steady : IsSteady judged_by s.opening.faults at_moment
+    -- of a script nothing was handed out
+    pub unparted : IsScripted s.opening.script → s.journal.gone ≡ 0
     pub rooms : HasRooms s.shared s.active s.journal.spare at_moment s.lines
     -- jobs that have ended are passed over
     pub ahead : AreAhead s.jobs.items s.ahead.items

@@ -1,27 +1,31 @@
-ghost use Rattle.std.specs.Prelude.{◌≡◌, ℕ, Bool, true, ◌≤◌, ◌<◌, ◌+◌, length, is_some, IfSome, IsSome, MatchOption, None, Some};
-ghost use Rattle.std.specs.Prelude.{OnOk, OnErr};
+ghost use Rattle.std.specs.Prelude.{◌≡◌, ℕ, Bool, true, false, ◌≤◌, ◌<◌, ◌+◌, length, is_some, IfSome, IsSome, MatchOption, None, Some};
+ghost use Rattle.std.specs.Prelude.{IsNone, OnOk, OnErr, slice_get};
 ghost use Rattle.xc_sentinel.specs.Seating.{KeepsSeats, SetsSeat, seat_in};
 ghost use Rattle.xc_model.specs.Moment.{Moment, Idle, begun_count, failures, rank_of, with_job};
 ghost use Rattle.xc_model.specs.IdleRows.{IdleTurn, MayBegin, IsSpent, NamesLast};
-ghost use Rattle.xc_model.specs.Live.{has_clients};
+ghost use Rattle.xc_model.specs.Live.{IsScripted, has_clients};
 ghost use Rattle.xc_model.specs.Movers.{mover};
 ghost use Rattle.xc_model.specs.declared.rules.Rules.{Rules as PlainRules};
 ghost use Rattle.xc_model.specs.Setting.{Setting, setting};
-ghost use Rattle.xc_station.specs.Beginning.{IsWaitOver, IsHalted, IsNamedLast, IsSeatBehind, IsStopped, WaitsOnly, is_end_in, is_over_in};
+ghost use Rattle.xc_station.specs.Beginning.{GoesWithout, IsWaitOver, IsHalted, IsNamedLast, IsSeatBehind, IsStopped, WaitsOnly};
+ghost use Rattle.xc_station.specs.Beginning.{is_end_in, is_over_in};
 ghost use Rattle.xc_station.specs.Jobs.{job_view};
 ghost use Rattle.xc_station.specs.Moments.{AreSeats, HasBegun, marks_of};
 
 use crate::job::{Activity, Job};
 use std::alloc::Global;
 use xc_data::{Cause, JobEnd, NoMemory, Object, Turn};
+use xc_journal::Journal;
 use xc_model::{Attempts, Rules};
-use xc_roomy::Journal;
 use xc_script::{Ask, JobState};
 use xc_sentinel::Sentinels;
 use xc_text::Script;
 
-/// The most entries that a journal has; each active transaction has its place among them.
-const MOST_ENTRIES: usize = 10_000;
+/// The most entries that wait to be handed out; each active transaction has its place among them.
+pub const MOST_WAITING: usize = 10_000;
+
+/// The most entries that a journal of clients has: each transaction has a number.
+const MOST_NUMBERS: usize = 4_294_967_295;
 
 // What keeps an idle job from its next transaction, memory aside.
 #[derive(Drop)]
@@ -91,16 +95,32 @@ fn is_over(script: &Script, job: &Job) -> bool
     !job.place.has_next(script)
 }
 
+// Whether no transaction more begins: of those that have begun too many wait to be handed out, or no number is left. A script's are
+// never handed out.
+fn is_full(begun: usize, waiting: usize) -> bool
+    requires { waiting ≤ begun }
+    ensures full { result ≡ true → 10000 ≤ begun }
+    ensures room { result ≡ false → (waiting < 10000) × (begun < 4294967295) }
+{
+    if waiting >= MOST_WAITING {
+        return true;
+    }
+    begun >= MOST_NUMBERS
+}
+
 // Whether an idle job ends or waits.
 fn why_halted(
     script: &Script,
     rules: &Rules,
     sentinels: &Sentinels,
     begun: usize,
+    waiting: usize,
     job: &Job,
 ) -> Option<Halt>
     requires attempts { 1 ≤ rules.now.attempts }
+    requires waiting { (waiting ≤ begun) × (IsScripted script.now → waiting ≡ begun) }
     ensures patient { IfSome result (WaitsOnly job.now.busy 4294967295) }
+    ensures numbered { IsNone result → begun < 4294967295 }
     ensures halts { (tells : Bool) (now : Moment) → begun_count now ≡ begun → AreSeats sentinels.now.seats now.jobs → MatchOption result
         (MayBegin (setting script.now rules.now tells) now (job_view job.now))
         (IsHalted (setting script.now rules.now tells) now (job_view job.now)) }
@@ -114,7 +134,7 @@ fn why_halted(
     if let Some((object, holder)) = waits_for(rules, sentinels, job) {
         return Some(Halt::Wait { object, holder });
     }
-    if begun >= MOST_ENTRIES {
+    if is_full(begun, waiting) {
         return Some(Halt::End(JobEnd::JournalFull));
     }
     None
@@ -157,10 +177,9 @@ fn take_room(
     number: u32,
     rank: u32,
 ) -> Result<(), NoMemory>
-    requires few { length journal.old.items ≤ 10000 }
-    requires most { spare ≤ 10001 }
     requires new { seat_in sentinels.old.seats number ≡ None }
     ensures items { journal.new.items ≡ journal.old.items }
+    ensures gone { journal.new.gone ≡ journal.old.gone }
     ensures room { OnOk result (spare ≤ journal.new.spare) }
     ensures kept { journal.old.spare ≤ journal.new.spare }
     ensures claims { sentinels.new.claims ≡ sentinels.old.claims }
@@ -181,8 +200,20 @@ fn take_room(
     Ok(())
 }
 
+// The turn of a job whose next transaction gets no room: of a script it ends; where clients ask it stays as it is.
+fn go_without(clients: bool, job: &mut Job) -> Turn
+    ensures without { GoesWithout clients (job_view job.old) (job_view job.new) result }
+    ensures children { job.new.children.items ≡ job.old.children.items }
+{
+    if clients {
+        return Turn::NoMemory;
+    }
+    job.end(&JobEnd::NoMemory)
+}
+
 /// The turn of an idle job: its next transaction begins, with a seat, room for its entry and its variables kept for an abort; or
-/// the job waits or ends. `active` counts the active transactions, each of which has its room in the journal.
+/// the job waits or ends. Where there is no memory for that room, a client's job stays as it is. `active` counts the active
+/// transactions, each of which has its room in the journal.
 pub fn begin(
     alloc: Global,
     script: &Script,
@@ -193,10 +224,12 @@ pub fn begin(
     job: &mut Job,
 ) -> Turn
     requires idle { (job_view job.old).doing ≡ Idle }
-    requires few { length journal.old.items + active ≤ 10000 }
+    requires few { length journal.old.items + active ≤ 4294967295 }
+    requires held { IsScripted script.now → journal.old.gone ≡ 0 }
     requires attempts { 1 ≤ rules.now.attempts }
     requires new { seat_in sentinels.old.seats (length journal.old.items + active + 1) ≡ None }
     ensures items { journal.new.items ≡ journal.old.items }
+    ensures gone { journal.new.gone ≡ journal.old.gone }
     ensures room { (result ≡ Turn.Went → active + 1 ≤ journal.new.spare) × (journal.old.spare ≤ journal.new.spare) }
     ensures claims { sentinels.new.claims ≡ sentinels.old.claims }
     ensures seats { IsSeatBehind (length journal.old.items + active + 1) (rank_of job.old.attempts (length journal.old.items + active + 1))
@@ -204,23 +237,32 @@ pub fn begin(
     ensures row { (tells : Bool) (now : Moment) (at : ℕ) → HasBegun now (length journal.old.items) active
         → AreSeats sentinels.old.seats now.jobs
         → now.marks ≡ marks_of sentinels.old.seats
+        → slice_get now.jobs at ≡ Some (job_view job.old)
         → IdleTurn (mover (setting script.now rules.now tells) at now (job_view job.old)) result
         (record (with_job now at (job_view job.new)) { marks = marks_of sentinels.new.seats }) }
     ensures children { job.new.children.items ≡ job.old.children.items }
 {
     let entered = journal.len();
+    let waiting = journal.waiting() + active as usize;
     // First, since a job that ends or waits takes no number and no room.
-    if let Some(halt) = why_halted(script, rules, sentinels, entered + active as usize, job) {
+    if let Some(halt) = why_halted(
+        script,
+        rules,
+        sentinels,
+        entered as usize + active as usize,
+        waiting,
+        job,
+    ) {
         return stop(job, &halt);
     }
     // Those that entered and those that are active have the numbers before.
-    let number = entered as u32 + active + 1;
+    let number = entered + active + 1;
     let rank = rank_of(&job.attempts, number);
-    // Before anything of the job changes: without room it ends as it stands.
+    // Before anything of the job changes: without room it ends, or stays, as it stands.
     if take_room(journal, sentinels, &mut job.place, active + 1, number, rank).is_err() {
-        return job.end(&JobEnd::NoMemory);
+        return go_without(script.clients, job);
     }
-    job.tx.begin(alloc, number, rank, entered as u32);
+    job.tx.begin(alloc, number, rank, entered);
     job.activity = Activity::Active;
     job.handed = None;
     job.busy = 0;

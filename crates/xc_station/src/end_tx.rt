@@ -165,15 +165,12 @@ fn go_back(job: &mut Job, rank: u32, cause: Cause)
     ensures back { (tx : TxView) → tx.rank ≡ rank → job_view job.new ≡ behind_abort (job_view job.old) tx cause }
     ensures children { job.new.children.items ≡ job.old.children.items }
 {
+    job.place.back();
     match cause {
         Cause::NoMemory => job.activity = Activity::Starved,
         // A block that got stuck is not tried again: another try would find what remains.
-        Cause::Asked | Cause::Stuck { .. } => {
-            job.place.back();
-            go_on(&mut job.place, &mut job.attempts);
-        }
+        Cause::Asked | Cause::Stuck { .. } => go_on(&mut job.place, &mut job.attempts),
         Cause::Conflict { .. } | Cause::Revoked { .. } => {
-            job.place.back();
             job.attempts = Some(one_more(&job.attempts, rank, cause));
         }
     }

@@ -1,6 +1,6 @@
 ghost use Rattle.std.specs.Prelude.{◌≡◌, ◌+◌, ◌<◌, ◌^◌};
 ghost use Rattle.xc_model.specs.Moment.{Ended, asked_to_wait};
-ghost use Rattle.xc_station.specs.Jobs.{doing_of, is_live, phase_stage, job_view, tx_view, stage_of};
+ghost use Rattle.xc_station.specs.Jobs.{doing_of, fed_doing, fed_turn, is_live, phase_stage, job_view, tx_view, stage_of};
 
 use crate::tx::Tx;
 use xc_data::{Ident, JobEnd, Turn};
@@ -13,7 +13,7 @@ pub enum Activity {
     /// It has no active transaction.
     Idle,
     Active,
-    /// Its last transaction was aborted for lack of memory.
+    /// Its last transaction was aborted for lack of memory, and no turn of it came since.
     Starved,
     Ended(JobEnd),
 }
@@ -121,5 +121,17 @@ impl Job {
     {
         self.activity = Activity::Ended(end.again());
         Turn::Ended(end.again())
+    }
+
+    /// The turn of one whose last transaction was aborted for lack of memory: of a script it ends; where clients ask it is idle again.
+    pub fn feed(&mut self, clients: bool) -> Turn
+        ensures fed { (job_view self.new ≡ record (job_view self.old) { doing = fed_doing clients }) × (result ≡ fed_turn clients) }
+        ensures children { self.new.children.items ≡ self.old.children.items }
+    {
+        if clients {
+            self.activity = Activity::Idle;
+            return Turn::Went;
+        }
+        self.end(&JobEnd::NoMemory)
     }
 }

@@ -1,6 +1,6 @@
 use xc_data::{JobList, KeptList, WordList};
 use xc_host::OpenErr;
-use xc_roomy::Journal;
+use xc_journal::Journal;
 use xc_text::Script;
 
 /// What a station was started with.
@@ -26,6 +26,7 @@ pub struct End<H> {
     /// What aborted transactions gave back and nobody took again, in front of what the host's pipes and pairs hold.
     pub kept: KeptList,
     pub words: WordList,
+    /// With the entries that weren't handed out; of a script these are all.
     pub journal: Journal,
     pub jobs: JobList,
 }

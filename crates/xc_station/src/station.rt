@@ -1,16 +1,15 @@
 ghost use Rattle.std.specs.Prelude.{◌≡◌, ◌<◌, ◌≤◌, ◌-◌, ◌+◌, ℕ, length, ◌&&◌, None, false};
-ghost use Rattle.std.specs.Prelude.{IsTrue, IsNone, MatchOption, Some};
-ghost use Rattle.xc_host.specs.Model.{plan_of};
-ghost use Rattle.xc_model.specs.Setting.{setting};
-ghost use Rattle.xc_station.specs.Jobs.{is_live, job_views};
+ghost use Rattle.std.specs.Prelude.{IsNone, MatchOption, Some};
+ghost use Rattle.xc_station.specs.Jobs.{is_live};
 ghost use Rattle.xc_station.specs.Names.{IsNameOf, block_name_at};
-ghost use Rattle.xc_station.specs.Places.{IndexesBlocks};
-ghost use Rattle.xc_station.specs.Stations.{AreAhead, IsNextOf, KeepsEvents};
-ghost use Rattle.xc_station.specs.Stations.{live_at, now_of};
+ghost use Rattle.xc_station.specs.Stations.{IsNextOf, KeepsEvents};
+ghost use Rattle.xc_model.specs.Live.{IsScripted};
+ghost use Rattle.xc_station.specs.Stations.{entries_held, live_at, now_of};
 
 mod clients;
 mod events;
 mod finish;
+mod handing;
 mod run_out;
 mod start;
 mod turns;
@@ -22,9 +21,10 @@ use std::alloc::Global;
 use std::marker::Model;
 use xc_data::{Entry, Event, Ident, JobLine};
 use xc_host::Host;
+use xc_journal::Journal;
 use xc_maps::IdentMap;
 use xc_model::Rules;
-use xc_roomy::{Journal, Roomy};
+use xc_roomy::Roomy;
 
 /// The core, over a host. Jobs are numbered from 1, in the order of their starts.
 #[derive(Drop)]
@@ -68,6 +68,7 @@ impl<H: Host> Model for Station<H> {
       kept = s.shared.buffers.kept;
       words = s.shared.words;
       journal = s.journal.items;
+      gone = s.journal.gone;
       jobs = s.jobs.items;
       taken = s.taken;
       seats = s.shared.sentinels.seats;
@@ -122,9 +123,12 @@ impl<H: Host> Station<H> {
         self.jobs.len() as u32
     }
 
-    /// The journal so far. It takes no memory.
+    /// The entries of the journal that wait to be handed out. It takes no memory.
     pub fn journal(&self) -> &[Entry]
-        ensures { result.now ≡ self.now.journal }
+        ensures held { result.now ≡ entries_held self.now }
+
+        // Of a script these are all.
+        ensures all { IsScripted self.now.opening.script → result.now ≡ self.now.journal }
     {
         self.journal.as_slice()
     }

@@ -7,7 +7,8 @@ ghost use Rattle.xc_host.specs.Model.{plan_of};
 ghost use Rattle.xc_model.specs.Ending.{IsTrueEnd};
 ghost use Rattle.xc_model.specs.Setting.{setting};
 ghost use Rattle.xc_live.specs.Closing.{AreQuiet, HasDismissed, NobodyIsActive};
-ghost use Rattle.xc_station.specs.Stations.{NobodyLives, now_of, setting_of};
+ghost use Rattle.xc_journal.specs.Told.{waiting_of};
+ghost use Rattle.xc_station.specs.Stations.{NobodyLives, entries_held, now_of, setting_of};
 
 use crate::Desk;
 use xc_host::Host;
@@ -32,7 +33,8 @@ fn dismiss<H: Host>(station: &mut Station<H>, client: u32)
 fn dismiss_all<H: Host>(station: &mut Station<H>)
     requires { AreQuiet (setting_of H.model station.old) (now_of H.model station.old) }
     ensures ended { NobodyLives station.new.jobs }
-    ensures same { (station.new.journal ≡ station.old.journal) × (station.new.words ≡ station.old.words)
+    ensures same { (station.new.journal ≡ station.old.journal) × (station.new.gone ≡ station.old.gone)
+        × (station.new.words ≡ station.old.words)
         × (station.new.opening ≡ station.old.opening) × (station.new.rules ≡ station.old.rules) }
 {
     let mut client = 0;
@@ -48,6 +50,9 @@ impl<H: Host> Desk<H> {
         requires { NobodyIsActive self }
         ensures opening { result.opening ≡ self.opening }
         ensures same { (result.journal.items ≡ self.journal) × (result.words ≡ self.words) }
+
+        // Its journal holds the entries that weren't handed out yet.
+        ensures held { waiting_of result.journal ≡ entries_held self }
 
         // What `Station::finish` says: the journal is true of the plain machine, and leads to the words and to the host.
         ensures whole { IsTrueEnd (setting self.opening.script self.rules H.model.tells) result.journal.items

@@ -20,7 +20,7 @@ impl<H: Host> Station<H> {
     // One event more, which is the last one from then on.
     fn note(&mut self, event: Event)
         ensures noted { self.new ≡ with_event self.old event }
-        ensures few { length self.old.journal ≤ 10000 }
+        ensures few { length self.old.journal ≤ 4294967295 }
         ensures few_jobs { length self.old.jobs ≤ 1000 }
     {
         self.events = self.events.wrapping_add(1);
@@ -30,7 +30,7 @@ impl<H: Host> Station<H> {
     // A turn with this answer was the last event from then on.
     fn note_turn(&mut self, job: u32, answer: &Turn)
         ensures noted { self.new ≡ with_event self.old (Turned job (Some answer.now)) }
-        ensures few { length self.old.journal ≤ 10000 }
+        ensures few { length self.old.journal ≤ 4294967295 }
     {
         self.note(Event::Turned {
             job,
@@ -94,7 +94,7 @@ impl<H: Host> Station<H> {
         ensures noted { self.new ≡ with_event self.old (Looked result) }
         ensures event { IsEvent self.old self.new (Looked result) }
     {
-        let length = self.journal.len() as u32;
+        let length = self.entries();
         self.note(Event::Looked(length));
         length
     }
@@ -112,7 +112,7 @@ impl<H: Host> Chronicle for Station<H> {
     ghost meaning = { meaning_of };
 
     fn len(&self) -> u64 {
-        self.journal.len() as u64
+        self.entries() as u64
     }
 
     fn events(&self) -> u64 {

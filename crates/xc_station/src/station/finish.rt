@@ -56,6 +56,10 @@ impl<H: Host> Station<H> {
         ensures opening { result.opening ≡ self.opening }
         ensures handed { (result.host ≡ self.host) × (result.kept ≡ self.kept) × (result.words ≡ self.words)
             × (result.journal.items ≡ self.journal) × AreLinesOf (job_views self.jobs) result.jobs }
+
+        // Of the journal what was handed out is gone; of a script nothing is.
+        ensures gone { result.journal.gone ≡ self.gone }
+        ensures unparted { IsScripted self.opening.script → result.journal.gone ≡ 0 }
         ensures whole { IsTrueEnd (setting self.opening.script self.rules H.model.tells) result.journal.items
             (record { words = result.words; contents = with_kept (H.model.contents result.host) result.kept; lines = result.jobs }) }
 

@@ -39,10 +39,10 @@ fn finish<H: Host>(station: &mut Station<H>, job: u32) -> u32
 
 impl<H: Host> Station<H> {
     // The length of the journal.
-    fn entries(&self) -> u32
+    pub(super) fn entries(&self) -> u32
         ensures { result ≡ length self.now.journal }
     {
-        self.journal.len() as u32
+        self.journal.len()
     }
 
     /// What the active transaction of a job does; `None` exactly if the job has none, or isn't there. It takes no memory.

@@ -21,7 +21,7 @@ use crate::end_tx::{TxResult, abort, commit, end_late, end_start, undo};
 use crate::job::Stage;
 use crate::places::block_at;
 use crate::running::run;
-use xc_data::{Ident, JobEnd, NoMemory, Turn};
+use xc_data::{Ident, Turn};
 use xc_host::Host;
 
 impl<H: Host> Station<H> {
@@ -56,7 +56,7 @@ impl<H: Host> Station<H> {
         ensures quiet { KeepsEvents self.old self.new }
         ensures row { IsTurn (setting_of H.model self.old) at (now_of H.model self.old) result (now_of H.model self.new) }
     {
-        let entered = self.journal.len() as u32;
+        let entered = self.entries();
         run(
             self.alloc,
             &mut self.shared,
@@ -200,7 +200,7 @@ impl<H: Host> Station<H> {
         Turn::Went
     }
 
-    // A job whose transaction was aborted for lack of memory ends.
+    // A job whose transaction was aborted for lack of memory ends, or is idle again where clients ask.
     #[inline(never)]
     fn starved(&mut self, at: usize) -> Turn
         requires { IsStage self.old.jobs at PlainStage.Starved }
@@ -208,7 +208,8 @@ impl<H: Host> Station<H> {
         ensures quiet { KeepsEvents self.old self.new }
         ensures row { IsTurn (setting_of H.model self.old) at (now_of H.model self.old) result (now_of H.model self.new) }
     {
-        self.jobs[at].end(&JobEnd::NoMemory)
+        let clients = self.opening.script.clients;
+        self.jobs[at].feed(clients)
     }
 
     // What a turn does, by the job's stage.

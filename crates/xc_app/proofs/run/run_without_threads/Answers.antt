@@ -5,6 +5,8 @@ use Rattle.xc_app.specs.Followed.{IsFollowed}
 use Rattle.xc_app.proofs.Finishing.{finished}
 use Rattle.xc_app.proofs.Following.{followed}
 use Rattle.xc_outcome.proofs.Laws.{starts_scripted}
+use Rattle.xc_model.specs.Live.{IsScripted}
+use Rattle.xc_station.specs.declared.run_result.Opening.{Opening}
 use Rattle.xc_app.proofs.run.run_without_threads.Goals as goal
 
 pub returns-in-Ok-2-clause-finished : goal.returns-in-Ok-2-clause-finished
@@ -25,3 +27,8 @@ returns-in-Ok-2-clause-followed g c =
 
 pub take_turns-station-requires-clause-scripted : goal.take_turns-station-requires-clause-scripted
 take_turns-station-requires-clause-scripted g c = starts_scripted _ _ _ _ _ c.in-Ok.ensures.started.prepared.start
+
+pub finish_run-requires-clause-scripted : goal.finish_run-requires-clause-scripted
+finish_run-requires-clause-scripted g c =
+    subst (λ (o : Opening). IsScripted o.script) (sym c.take_turns-station.ensures.origin.opening)
+    (starts_scripted _ _ _ _ _ c.in-Ok.ensures.started.prepared.start)

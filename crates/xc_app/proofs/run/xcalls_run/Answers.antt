@@ -6,6 +6,8 @@ use Rattle.xc_outcome.specs.Outcomes.{IsWrittenAs}
 use Rattle.xc_app.proofs.Finishing.{finished, threads_not_alone}
 use Rattle.xc_app.proofs.Following.{followed_by_workers}
 use Rattle.xc_outcome.proofs.Laws.{starts_scripted}
+use Rattle.xc_model.specs.Live.{IsScripted}
+use Rattle.xc_station.specs.declared.run_result.Opening.{Opening}
 use Rattle.xc_app.proofs.run.xcalls_run.Goals as goal
 
 -- the workers' run is finished
@@ -43,3 +45,8 @@ pub take_together-station-requires-clause-scripted : goal.take_together-station-
 take_together-station-requires-clause-scripted g c lifetimes within =
     let (needs, same, start) = c.in-Started.ensures.started in
     starts_scripted _ _ _ _ _ start.prepared.start
+
+pub finish_run-requires-clause-scripted : goal.finish_run-requires-clause-scripted
+finish_run-requires-clause-scripted g c =
+    let (needs, same, start) = c.in-Started.ensures.started in
+    subst (λ (o : Opening). IsScripted o.script) (sym c.take_together-station.ensures.origin.opening) (starts_scripted _ _ _ _ _ start.prepared.start)

@@ -1,7 +1,9 @@
-use Rattle.std.proofs.Common.{refl, map, string_bytes}
+use Rattle.std.proofs.Common.{refl, map, string_bytes, subst, sym}
 use Rattle.xc_coop.specs.Headline.{IsCoopFinished}
 use Rattle.xc_coop.proofs.Finishing.{coop_finished}
 use Rattle.xc_outcome.proofs.Laws.{starts_scripted}
+use Rattle.xc_model.specs.Live.{IsScripted}
+use Rattle.xc_station.specs.declared.run_result.Opening.{Opening}
 use Rattle.xc_coop.proofs.run.coop_run.Goals as goal
 
 -- the run is finished
@@ -25,3 +27,8 @@ returns-in-Ok-clause-complete g c = (by_polls g c).complete
 
 pub take_cooperatively-station-requires-clause-scripted : goal.take_cooperatively-station-requires-clause-scripted
 take_cooperatively-station-requires-clause-scripted g c = starts_scripted _ _ _ _ _ c.in-Ok.ensures.started.prepared.start
+
+pub finish_run-requires-clause-scripted : goal.finish_run-requires-clause-scripted
+finish_run-requires-clause-scripted g c =
+    subst (λ (o : Opening). IsScripted o.script) (sym c.take_cooperatively-station.ensures.origin.opening)
+    (starts_scripted _ _ _ _ _ c.in-Ok.ensures.started.prepared.start)

@@ -15,4 +15,4 @@ invariant-loop g l =
     }
 
 abbrev pub decreases-loop : goal.decreases-loop
-decreases-loop g l = 10001 - length l.station.journal
+decreases-loop g l = 4294967296 - length l.station.journal

@@ -1,4 +1,4 @@
-use Rattle.std.proofs.Common.{[], ◌∷◌, ap, subst, ◌∙◌, slice_get, length}
+use Rattle.std.proofs.Common.{[], ◌∷◌, ap, subst, sym, ◌∙◌, slice_get, length}
 use Rattle.xc_data.specs.declared.entry.Event.TheVariants.{Looked}
 use Rattle.xc_station.specs.Events.{IsEvent}
 use Rattle.xc_station.specs.Passes.{PassView, meaning_of}
@@ -8,6 +8,7 @@ use Rattle.xc_serve.specs.Gains.{IsTold}
 use Rattle.xc_serve.proofs.Gained.{gains_quietly, unboxed}
 use Rattle.xc_runner.proofs.Laws.{event_next}
 use Rattle.xc_serve.proofs.Told.{look_is}
+use Rattle.xc_model.specs.Live.{IsScripted}
 use Rattle.xc_serve.proofs.ask.look_up.Goals as goal
 
 pub returns : goal.returns
@@ -32,3 +33,9 @@ returns g c =
       told_is = subst (λ (s : StationView g.row.H.Denot). IsTold c.look_for-length.result.1 (text_at (slice_get s.journal c.args.place))) at did.told;
       starved = λ none. (λ e. cc, λ e. cc);
     }
+
+pub look_for-length-requires : goal.look_for-length-requires
+look_for-length-requires g c =
+    let entered = c.enter-station.result in
+    subst (λ (s : StationView g.row.H.Denot). IsScripted s.opening.script) (sym c.deref_mut.ensures.value)
+    (c.requires.scripted (meaning_of.origin entered.0.value) c.enter-station.ensures.origin)

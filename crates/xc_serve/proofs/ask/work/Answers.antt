@@ -5,6 +5,7 @@ use Rattle.xc_data.specs.declared.entry.Event.TheVariants.{Picked}
 use Rattle.xc_serve.specs.Answers.{job_closing, entry_texts, turn_events}
 use Rattle.xc_turnstile.specs.Insides.{Gains}
 use Rattle.xc_serve.proofs.Gained.{gains_further, gains_no_entry}
+use Rattle.xc_serve.proofs.Scripted.{script_still}
 use Rattle.xc_serve.proofs.ask.work.Goals as goal
 
 pub returns : goal.returns
@@ -34,3 +35,7 @@ returns g c =
       told_is = c.all_told.ensures (entry_texts w.entries ++ job_closing j w.block w.last) w.text;
       starved = λ none. (λ e. cc, λ e. cc);
     }
+
+pub work_told-pass-requires-clause-scripted : goal.work_told-pass-requires-clause-scripted
+work_told-pass-requires-clause-scripted g c =
+    script_still c.args.pass c.pick-pass.result.0 c.pick-pass.ensures.gains.gains.goes.origin c.requires.scripted

@@ -1,4 +1,7 @@
+use Rattle.std.proofs.Common.{subst, sym}
+use Rattle.xc_model.specs.Live.{IsScripted}
 use Rattle.xc_runner.specs.Walks.{is_last}
+use Rattle.xc_station.specs.declared.run_result.Opening.{Opening}
 use Rattle.xc_serve.specs.Answers.{block_or_none}
 use Rattle.xc_serve.specs.Gains.{closing_if}
 use Rattle.xc_serve.proofs.Blocks.{own_told}
@@ -17,6 +20,7 @@ returns-clause-tells g c =
       grows = grows_on c.args.text c.with_entries-text.result c.with_closing-text.result _
           (closing_if (is_last c.try_turn-answer.result) c.args.job block c.try_turn-answer.result)
           (grows_added c.args.text c.with_entries-text.result c.journal-before.result.now c.journal.result.now was.journal is.journal
-          c.journal-before.ensures c.journal.ensures c.with_entries-text.ensures)
+          (c.journal-before.ensures.all c.requires) (c.journal.ensures.all (subst (λ (o : Opening). IsScripted o.script)
+          (sym c.try_turn-answer.ensures.event.origin.opening) c.requires)) c.with_entries-text.ensures)
           c.with_closing-text.ensures;
     }

@@ -11,6 +11,7 @@ use Rattle.xc_serve.proofs.Blocks.{own_known}
 use Rattle.xc_serve.proofs.Gained.{unboxed}
 use Rattle.xc_runner.proofs.Laws.{event_next}
 use Rattle.xc_turnstile.proofs.Laws.{gains_at}
+use Rattle.xc_model.specs.Live.{IsScripted}
 use Rattle.xc_serve.proofs.job.turn_told.Goals as goal
 
 pub returns : goal.returns
@@ -36,3 +37,9 @@ returns g c =
       own = own_known left.view (meaning_of.origin is) is.journal origin seen c.args.job tells.block turned.0 tells.own;
       grows = tells.grows;
     }
+
+pub take_turn-answer-requires : goal.take_turn-answer-requires
+take_turn-answer-requires g c =
+    let entered = c.enter-station.result in
+    subst (λ (s : StationView g.row.H.Denot). IsScripted s.opening.script) (sym c.deref_mut.ensures.value)
+    (c.requires.scripted (meaning_of.origin entered.0.value) c.enter-station.ensures.origin)

@@ -7,6 +7,8 @@ use Rattle.xc_sessions.specs.Options.{serve_settings_of}
 use Rattle.xc_sessions.proofs.Endings.{status_by_counts, sessions_so}
 use Rattle.xc_sessions.proofs.Finishing.{serve_finished}
 use Rattle.xc_outcome.proofs.Laws.{starts_scripted}
+use Rattle.xc_model.specs.Live.{IsScripted}
+use Rattle.xc_station.specs.declared.run_result.Opening.{Opening}
 use Rattle.xc_sessions.proofs.run.serve_run.Goals as goal
 
 pub returns-in-Ok-clause-served : goal.returns-in-Ok-clause-served
@@ -37,3 +39,8 @@ returns-in-Ok-clause-sessions g c =
 
 pub work-worked-requires-clause-scripted : goal.work-worked-requires-clause-scripted
 work-worked-requires-clause-scripted g c lifetimes within = starts_scripted _ _ _ _ _ c.in-Ok.ensures.started.prepared.start
+
+pub finish_run-finish-requires-clause-scripted : goal.finish_run-finish-requires-clause-scripted
+finish_run-finish-requires-clause-scripted g c =
+    subst (λ (o : Opening). IsScripted o.script) (sym c.work-worked.ensures.origin.opening)
+    (starts_scripted _ _ _ _ _ c.in-Ok.ensures.started.prepared.start)

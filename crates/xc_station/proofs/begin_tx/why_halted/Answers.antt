@@ -2,7 +2,8 @@ use Rattle.std.proofs.Common.{arith, refl, sym}
 use Rattle.xc_model.specs.Live.{has_clients}
 use Rattle.xc_model.specs.Setting.{setting}
 use Rattle.xc_station.specs.Jobs.{job_view}
-use Rattle.xc_station.proofs.Begun.{free, left_so, not_over, over_so, waits_for_last}
+use Rattle.xc_model.specs.Moment.{begun_count}
+use Rattle.xc_station.proofs.Begun.{free, left_so, not_over, over_so, room_left, waits_for_last}
 use Rattle.xc_station.proofs.begin_tx.why_halted.Goals as goal
 
 pub returns-then-is_over-clause-halts : goal.returns-then-is_over-clause-halts
@@ -23,9 +24,9 @@ returns-in-Some-waits_for-clause-halts c tells now begun sat =
     (left_so s (job_view c.args.job.now) (sym (c.if-is_over.ensures c.args.rules.now tells))) c.in_default.ensures c.in-Some-waits_for.object
     c.in-Some-waits_for.holder e.waits.0 e.waits.1 (e.patient refl).0
 
-pub returns-then-begun-ge-MOST_ENTRIES-clause-halts : goal.returns-then-begun-ge-MOST_ENTRIES-clause-halts
-returns-then-begun-ge-MOST_ENTRIES-clause-halts c tells now begun sat =
-    let full = c.if-begun-ge-MOST_ENTRIES.true in
+pub returns-then-is_full-clause-halts : goal.returns-then-is_full-clause-halts
+returns-then-is_full-clause-halts c tells now begun sat =
+    let full = c.if-is_full.ensures.full refl in
     let s = setting c.args.script.now c.args.rules.now tells in
     let left = left_so s (job_view c.args.job.now) (sym (c.if-is_over.ensures c.args.rules.now tells)) in (
       left,
@@ -36,7 +37,7 @@ returns-then-begun-ge-MOST_ENTRIES-clause-halts c tells now begun sat =
 
 pub returns-clause-halts : goal.returns-clause-halts
 returns-clause-halts c tells now begun sat =
-    let few = c.if-begun-ge-MOST_ENTRIES.false in
+    let few = c.if-is_full.ensures.room refl in
     let s = setting c.args.script.now c.args.rules.now tells in
     let over = sym (c.if-is_over.ensures c.args.rules.now tells) in
     let left = left_so s (job_view c.args.job.now) over in
@@ -45,5 +46,5 @@ returns-clause-halts c tells now begun sat =
       more = not_over (has_clients c.args.script.now) s (job_view c.args.job.now) over;
       attempts = c.in_default.ensures;
       free = free s now (job_view c.args.job.now) c.args.sentinels.now.seats sat left c.in_default.ensures c.in_default-waits_for.ensures.waits;
-      room = omega (arith, begun, few);
+      room = room_left c.args.script.now _ _ (begun_count now) begun c.requires.waiting.1 few;
     }

@@ -30,6 +30,7 @@ loop-job-preserved g c =
           ∙ was.others other most;
       alone = λ first alone.
           next_alone model job old taking new next.jobs next.first.1 next.same.2 next.first.0 works
+          (subst (λ (o : Opening). IsScripted o.script) (sym next.same.0) was.scripted)
           (λ other low most. was.ended other (subst (λ n. n < other) (sym first) low) most) (was.alone first alone);
     }
 

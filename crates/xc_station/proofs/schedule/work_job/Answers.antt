@@ -10,5 +10,5 @@ loop-preserved g c =
       goes = goes_further c.args.station.now c.loop.station c.step.new.station c.loop.invariant.goes c.step.ensures.goes;
       scripted = subst (λ (o : Opening). IsScripted o.script) (sym c.step.ensures.goes.origin.opening) c.loop.invariant.scripted;
       works = works_further g.H.Host.model c.args.job c.args.station.now c.loop.station c.step.new.station
-          c.loop.invariant.goes.count c.loop.invariant.works c.step.ensures.works;
+          c.loop.invariant.scripted c.loop.invariant.goes.count c.loop.invariant.works c.step.ensures.works;
     }

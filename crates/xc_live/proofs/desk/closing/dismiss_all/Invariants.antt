@@ -12,6 +12,7 @@ invariant-loop-client g l =
       within : l.client ≤ length l.station.jobs;
       ended : (number : ℕ) → number ≤ l.client → live_at l.station.jobs number ≡ false;
       journal : l.station.journal ≡ l.fn.station.journal;
+      gone : l.station.gone ≡ l.fn.station.gone;
       words : l.station.words ≡ l.fn.station.words;
       opening : l.station.opening ≡ l.fn.station.opening;
       rules : l.station.rules ≡ l.fn.station.rules;

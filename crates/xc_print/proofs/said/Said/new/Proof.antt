@@ -23,7 +23,7 @@ use denote.Triple.Entry.{alive}
 use denote.Triple.Spec.{Meets, triple_of}
 use denote.Triple.Table.{entered}
 use denote.Triple.Walked.{says, Stays, walk_of, ends_at, walk_Meets}
-use Rattle.xc_print.proofs.Walks.{none, none_made}
+use Rattle.xc_journal.proofs.Laws.{none, none_made}
 use Rattle.xc_print.specs.contracts.said.Said as Said
 use Rattle.xc_print.specs.contracts.said.Said.new as F
 use Rattle.xc_print.specs.contracts.said.Said.new.Key.{name as #self}

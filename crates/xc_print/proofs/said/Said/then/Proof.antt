@@ -25,7 +25,7 @@ use denote.Triple.Entry.{alive}
 use denote.Triple.Spec.{Meets, triple_of}
 use denote.Triple.Table.{entered}
 use denote.Triple.Walked.{says, Stays, stay_dropped, walk_of, ends_at, walk_Meets, Goes-dropped}
-use Rattle.xc_print.proofs.Walks.{none, none_made}
+use Rattle.xc_journal.proofs.Laws.{none, none_made}
 use Rattle.xc_print.specs.contracts.said.Said as Said
 use Rattle.xc_print.specs.contracts.said.More as More
 use Rattle.xc_print.specs.contracts.said.Said.then as F

@@ -68,6 +68,7 @@ invariant_of-self g c =
           c.self.invariant.backed tells)
           (λ older u pending. back_untaken model station.shared station.journal.items station.jobs.items at was station.opening.script station.rules
           station.opening.faults station.active station.journal.spare station.lines c.self.invariant.steady c.self.invariant.rooms is older u pending tells);
+      unparted = c.self.invariant.unparted;
       indexed = c.self.invariant.indexed;
       starts = starts_still model station.shared shared' station.journal.items station.journal.items station.jobs.items at was job
           (room_of station.jobs station.lines station.ahead) s station.opening.faults c.go_back.result c.self.invariant.steady is.there turned

@@ -208,6 +208,7 @@ invariant_of-self g c =
           (backed_without _ _ _ jobs at was job is.there
           (subst (All (IsBacked (model.contents station.shared.host))) (sym c.commit-entry.ensures.gone.kept) ((c.self.invariant.backed tells).kept))
           (ap active_of gave.0) (c.self.invariant.backed tells)))));
+      unparted = λ own. c.enter.ensures.gone ∙ c.self.invariant.unparted own;
       indexed = c.self.invariant.indexed;
       starts = (let all = c.self.invariant.starts in
           let names : shared'.started.items ≡ station.shared.started.items = ap (λ (r : Roomy (List ℕ)). r.items) c.commit-entry.ensures.started in

@@ -63,3 +63,7 @@ returns-clause-calls g c own =
     let whole = called_end (setting station.opening.script station.rules model.tells) station.opening.faults now c.lines_of.result mine
     c.self.invariant.steady over in
     subst (λ v. AreCalled v.opening.script station.journal.items (model.calls station.shared.host)) c.self.view_is whole
+
+pub returns-clause-unparted : goal.returns-clause-unparted
+returns-clause-unparted g c own =
+    c.self.invariant.unparted (subst (λ (v : StationView g.row.H.Denot). IsScripted v.opening.script) (sym c.self.view_is) own)

@@ -29,6 +29,7 @@ invariant_of-self g c =
       plan = c.self.invariant.plan;
       backed = λ tells. backed_handed jobs at was c.args.ask stands (model.contents station.shared.host) station.shared.buffers.kept
           (c.self.invariant.backed tells);
+      unparted = c.self.invariant.unparted;
       indexed = c.self.invariant.indexed;
       starts = starts_handed jobs at was c.args.ask stands station.opening.script station.shared.started.items
           (room_of station.jobs station.lines station.ahead) c.self.invariant.starts;

@@ -1,4 +1,4 @@
-use Rattle.std.proofs.Common.{◌≡◌, ◌≢◌, refl, sym, subst, ap, ◌∙◌, true, false}
+use Rattle.std.proofs.Common.{◌≡◌, ◌≢◌, ◌+◌, ◌<◌, ◌^◌, arith, rules, refl, sym, subst, ap, ◌∙◌, true, false}
 use Rattle.std.specs.Prelude.{slice_set, All}
 use Rattle.xc_model.specs.Moment.{active_in, with_job}
 use Rattle.xc_model.specs.Setting.{setting}
@@ -12,8 +12,9 @@ use Rattle.xc_station.specs.Moments.{marks_of}
 use Rattle.xc_station.specs.Stations.{moment, now_of, room_of, setting_of}
 use Rattle.xc_station.proofs.Ahead.{ahead_kept, taken_kept}
 use Rattle.xc_station.proofs.BacksKept.{backs_set, safe_idle}
+use Rattle.xc_station.proofs.Begun.{number_left}
 use Rattle.xc_data.proofs.Laws.{get_map}
-use Rattle.xc_station.proofs.Ready.{next_unseated}
+use Rattle.xc_station.proofs.Ready.{few_begun, next_unseated}
 use Rattle.xc_station.proofs.RoomsKept.{rooms_idle_went, rooms_idle_halted, idle_untaken}
 use Rattle.xc_station.proofs.Stages.{IsThere, lent, idle_stage}
 use Rattle.xc_station.proofs.Steady.{steady_kept}
@@ -34,16 +35,17 @@ is_there g c =
     (subst (λ v. IsStage v.jobs c.args.at PlainStage.Idle) (sym c.self.view_is) c.requires) c.index_mut.ensures.value
 
 -- what the call says of the turn
-row : (g : Over) (c : After-begin-turn g) →
+row : (g : Over) (c : After-begin-turn g) (is : IsThere c.self.inside.jobs.items c.args.at PlainStage.Idle c.index_mut.result.now) →
     let station = c.self.inside in
     let now = moment g.H.Host.model station.shared station.journal.items station.jobs.items in
     IdleTurn (mover (setting station.opening.script station.rules g.H.Host.model.tells) c.args.at now (job_view c.index_mut.result.now))
     c.begin-turn.result
     (record (with_job now c.args.at (job_view c.begin-turn.new.job)) { marks = marks_of c.begin-turn.new.sentinels.seats })
-row g c =
+row g c is =
     let station = c.self.inside in
     c.begin-turn.ensures.row g.H.Host.model.tells (moment g.H.Host.model station.shared station.journal.items station.jobs.items) c.args.at
     (record { entered = refl; active = c.self.invariant.rooms.count }) c.self.invariant.rooms.seats refl
+    (get_map job_view station.jobs.items c.args.at c.index_mut.result.now is.there)
 
 -- the turn that it takes
 turned : (g : Over) (c : After-begin-turn g) (is : IsThere c.self.inside.jobs.items c.args.at PlainStage.Idle c.index_mut.result.now)
@@ -56,7 +58,7 @@ turned g c is =
     idle_turned g.H.Host.model station.shared station.journal.items station.jobs.items c.args.at c.index_mut.result.now
     (setting station.opening.script station.rules g.H.Host.model.tells) c.begin-turn.new.sentinels c.begin-turn.new.journal.items
     c.begin-turn.new.job
-    c.begin-turn.result is c.begin-turn.ensures.items (row g c)
+    c.begin-turn.result is c.begin-turn.ensures.items (row g c is)
 
 pub begin-turn-requires-clause-idle : goal.begin-turn-requires-clause-idle
 begin-turn-requires-clause-idle g c =
@@ -70,7 +72,7 @@ invariant_of-self g c =
     let at = c.args.at in
     let s = setting station.opening.script station.rules model.tells in
     let is = is_there g (goal.at.invariant_of-self g c).After-index_mut in
-    let row = row g (goal.at.invariant_of-self g c).After-begin-turn in
+    let row = row g (goal.at.invariant_of-self g c).After-begin-turn is in
     let turned = turned g (goal.at.invariant_of-self g c).After-begin-turn is in
     let journal = c.begin-turn.new.journal in
     let job = c.begin-turn.new.job in
@@ -96,6 +98,7 @@ invariant_of-self g c =
           (ap active_in (idle_stage (doing_of was) is.stage)) row c.begin-turn.ensures.claims c.begin-turn.ensures.seats tx active))
           (All-nil (IsBacked (model.contents station.shared.host))))
           (c.self.invariant.backed tells);
+      unparted = λ own. c.begin-turn.ensures.gone ∙ c.self.invariant.unparted own;
       indexed = c.self.invariant.indexed;
       starts = starts_still model station.shared (record station.shared { sentinels = c.begin-turn.new.sentinels })
           station.journal.items journal.items station.jobs.items at was job (room_of station.jobs station.lines station.ahead) s
@@ -115,7 +118,7 @@ invariant_of-self-else-matches g c =
     let at = c.args.at in
     let s = setting station.opening.script station.rules model.tells in
     let is = is_there g (goal.at.invariant_of-self-else-matches g c).After-index_mut in
-    let row = row g (goal.at.invariant_of-self-else-matches g c).After-begin-turn in
+    let row = row g (goal.at.invariant_of-self-else-matches g c).After-begin-turn is in
     let turned = turned g (goal.at.invariant_of-self-else-matches g c).After-begin-turn is in
     let journal = c.begin-turn.new.journal in
     let job = c.begin-turn.new.job in
@@ -141,6 +144,7 @@ invariant_of-self-else-matches g c =
           (ap active_in (idle_stage (doing_of was) is.stage)) row c.begin-turn.ensures.claims c.begin-turn.ensures.seats tx active))
           (All-nil (IsBacked (model.contents station.shared.host))))
           (c.self.invariant.backed tells);
+      unparted = λ own. c.begin-turn.ensures.gone ∙ c.self.invariant.unparted own;
       indexed = c.self.invariant.indexed;
       starts = starts_still model station.shared (record station.shared { sentinels = c.begin-turn.new.sentinels })
           station.journal.items journal.items station.jobs.items at was job (room_of station.jobs station.lines station.ahead) s
@@ -178,3 +182,29 @@ begin-turn-requires-clause-new g c =
     let station = c.self.inside in
     next_unseated g.H.Host.model station.shared station.journal.items station.jobs.items c.args.at was station.opening.script station.rules
     station.opening.faults station.active station.journal.spare station.lines c.self.invariant.steady c.self.invariant.rooms
+
+pub begin-turn-requires-clause-few : goal.begin-turn-requires-clause-few
+begin-turn-requires-clause-few g c =
+    let station = c.self.inside in
+    let now = moment g.H.Host.model station.shared station.journal.items station.jobs.items in
+    let few = few_begun (setting station.opening.script station.rules g.H.Host.model.tells) station.opening.faults now c.self.invariant.steady in
+    let count = c.self.invariant.rooms.count in
+    omega (arith, few, count)
+
+pub begin-turn-requires-clause-held : goal.begin-turn-requires-clause-held
+begin-turn-requires-clause-held g c = c.self.invariant.unparted
+
+pub overflow_add-self : goal.overflow_add-self
+overflow_add-self g c =
+    let station = c.self.inside in
+    let s = setting station.opening.script station.rules g.H.Host.model.tells in
+    let now = moment g.H.Host.model station.shared station.journal.items station.jobs.items in
+    let went : c.begin-turn.result ≡ turn.Went = elim c.match-matches.branch [
+      | in-Went w ↦ w.in-Went.is
+      | in_default w ↦ let lacks : false ≡ true = sym w.matches-is ∙ c.if-matches.true in cc lacks
+    ] in
+    let count = c.self.invariant.rooms.count in
+    let low = number_left (mover s c.args.at now (job_view c.index_mut.result.now)) c.begin-turn.result _ went
+    (row g (goal.at.overflow_add-self g c).After-begin-turn (is_there g (goal.at.overflow_add-self g c).After-index_mut)) in
+    let fits : station.active + 1 < 2 ^ 32 = omega (arith, count, low) in
+    search (rules, fits)

@@ -80,6 +80,7 @@ invariant_of-self g c =
           let one : with_queue mine.tx gave.0 ≡ tx = cc both in
           subst (λ (t : TxView). All (IsBacked d) t.taken) one took)
           are;
+      unparted = c.self.invariant.unparted;
       indexed = c.self.invariant.indexed;
       starts = starts_set s.script station.shared.started.items station.jobs.items (room_of station.jobs station.lines station.ahead) at was job is.there
           (ap (map child_view) c.end_late.ensures.children ∙ c.self.invariant.starts.children at was is.there

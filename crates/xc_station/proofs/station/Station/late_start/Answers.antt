@@ -140,6 +140,7 @@ invariant_of-self g c =
           let one : tx' ≡ tx = cc both in
           subst (λ (t : TxView). All (IsBacked (model.contents station.shared.host)) t.taken) one
           (are.taken at mine.tx (job_view was, place, ap active_in mine.doing))) are);
+      unparted = c.self.invariant.unparted;
       indexed = c.self.invariant.indexed;
       starts = record {
         children = subst (λ js. (j : ℕ) (x : Job) → slice_get js j ≡ Some x → HasChildren s.script x) (sym items)

@@ -53,6 +53,7 @@ invariant_of-self g c =
       taken = c.self.invariant.taken;
       plan = c.self.invariant.plan;
       backed = c.self.invariant.backed;
+      unparted = c.self.invariant.unparted;
       indexed = c.self.invariant.indexed;
       starts = c.self.invariant.starts;
       undoable = c.self.invariant.undoable;

@@ -1,11 +1,11 @@
 use Rattle.std.proofs.Common.{sym, subst, ◌∙◌, ap, ◌≡◌, arith}
-use Rattle.std.specs.Prelude.{slice_set, All}
+use Rattle.std.specs.Prelude.{length, slice_set, All}
 use Rattle.xc_model.specs.Setting.{setting}
 use Rattle.xc_model.specs.Rows.{IsTurn}
 use Rattle.xc_station.specs.declared.job.Stage.TheVariants as PlainStage
 use Rattle.xc_station.specs.Jobs.{doing_of, IsStage, goes_on, job_view}
 use Rattle.xc_station.specs.Moments.{runs}
-use Rattle.xc_station.specs.Stations.{moment, now_of, room_of, setting_of}
+use Rattle.xc_station.specs.Stations.{StationView, moment, now_of, room_of, setting_of}
 use Rattle.xc_station.proofs.Ahead.{ahead_kept, taken_kept}
 use Rattle.xc_station.proofs.BacksKept.{backs_set, safe_running}
 use Rattle.xc_station.proofs.Ready.{may_run, stands_now, few_words}
@@ -68,7 +68,8 @@ invariant_of-self g c =
     let row = c.run.ensures.row (moment model station.shared station.journal.items station.jobs.items) at
     (stands_now model station.shared station.journal.items station.jobs.items at was station.opening.script station.rules station.opening.faults
     station.active
-    station.journal.spare station.lines c.self.invariant.steady c.self.invariant.rooms PlainStage.Running is) (sym c.len-entered.ensures) in
+    station.journal.spare station.lines c.self.invariant.steady c.self.invariant.rooms PlainStage.Running is)
+    (ap (λ (v : StationView g.row.H.Denot). length v.journal) c.self.view_is ∙ sym c.entries-entered.ensures) in
     let turned = running_turned model station.shared station.journal.items station.jobs.items at was s shared' job c.run.result is c.run.ensures.started row in
     let mine = running_stage (doing_of was) is.stage in
     let lends = c.run.ensures.lends mine.tx mine.doing in record {
@@ -95,6 +96,7 @@ invariant_of-self g c =
           let one : lends.0 ≡ tx = cc both in
           subst (λ (t : TxView). All (IsBacked d) t.taken) one took)
           are;
+      unparted = c.self.invariant.unparted;
       indexed = c.self.invariant.indexed;
       starts = starts_still model station.shared shared' station.journal.items station.journal.items station.jobs.items at was job
           (room_of station.jobs station.lines station.ahead) s station.opening.faults c.run.result c.self.invariant.steady is.there turned c.run.ensures.started
@@ -117,7 +119,8 @@ returns-clause-row g c =
     let row = c.run.ensures.row (moment model station.shared station.journal.items station.jobs.items) at
     (stands_now model station.shared station.journal.items station.jobs.items at was station.opening.script station.rules station.opening.faults
     station.active
-    station.journal.spare station.lines c.self.invariant.steady c.self.invariant.rooms PlainStage.Running is) (sym c.len-entered.ensures) in
+    station.journal.spare station.lines c.self.invariant.steady c.self.invariant.rooms PlainStage.Running is)
+    (ap (λ (v : StationView g.row.H.Denot). length v.journal) c.self.view_is ∙ sym c.entries-entered.ensures) in
     let turned = running_turned model station.shared station.journal.items station.jobs.items at was s shared' job c.run.result is c.run.ensures.started row in
     subst (λ v. IsTurn (setting_of model v) at (now_of model v) c.run.result (moment model shared' station.journal.items (slice_set station.jobs.items at job)))
     c.self.view_is turned

@@ -28,7 +28,7 @@ invariant_of-result g c =
     })
     c.new-journal.result.items rooms.jobs.items) = record {
       words = c.in-Ok.ensures.words;
-      journal = c.new-journal.ensures;
+      journal = c.new-journal.ensures.0;
       kept = ap (λ (lent : Lent). lent.kept) c.in-Ok.ensures.buffers;
       jobs = c.in-Ok.ensures.jobs;
       started = c.in-Ok.ensures.started;
@@ -46,6 +46,7 @@ invariant_of-result g c =
       taken = omega arith;
       plan = c.in_default-open_with.ensures.plan ∙ ap (λ (p : Outline). plan_of p.prologue) c.outline.ensures;
       backed = λ tells. backed_at_start c.args.script _ _ _ c.in-Ok.ensures.jobs (ap (λ (lent : Lent). lent.kept) c.in-Ok.ensures.buffers);
+      unparted = λ own. c.new-journal.ensures.1;
       indexed = c.in-Ok.ensures.places;
       starts = (let count = sym (length-map rooms.jobs.items job_view) ∙ ap length c.in-Ok.ensures.jobs
           ∙ length-map c.args.script.outline.jobs (opened_job c.args.script) in
@@ -67,7 +68,7 @@ pub returns-clause-opening : goal.returns-clause-opening
 returns-clause-opening g c =
     record {
       words = c.in-Ok.ensures.words;
-      journal = c.new-journal.ensures;
+      journal = c.new-journal.ensures.0;
       kept = ap (λ (lent : Lent). lent.kept) c.in-Ok.ensures.buffers;
       jobs = c.in-Ok.ensures.jobs;
       started = c.in-Ok.ensures.started;

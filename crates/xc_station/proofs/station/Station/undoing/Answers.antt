@@ -76,6 +76,7 @@ invariant_of-self g c =
           let one : record back.tx { undo = gave.0 } ≡ tx = cc both in
           (back.tx, (job_view was, get_map job_view station.jobs.items at was is.there, ap active_in back.doing), ap (λ (t : TxView). t.taken) one))
           are);
+      unparted = c.self.invariant.unparted;
       indexed = c.self.invariant.indexed;
       starts = starts_still model station.shared shared' station.journal.items station.journal.items station.jobs.items at was job
           (room_of station.jobs station.lines station.ahead) s station.opening.faults turn.Went c.self.invariant.steady is.there turned refl

@@ -132,6 +132,7 @@ invariant_of-self g c =
           subst (λ h. AreBacked (model.contents h) shared'.buffers.kept (job_views (slice_set station.jobs.items at job))) (sym c.abort-entry.ensures.same.0)
           (backed_without _ _ _ station.jobs.items at was job is.there backed
           (ap active_of gave.0 ∙ back_none (job_view was) mine.tx mine.cause) are);
+      unparted = λ own. c.enter.ensures.gone ∙ c.self.invariant.unparted own;
       indexed = c.self.invariant.indexed;
       starts = starts_still model station.shared shared' station.journal.items c.enter.new.self.items station.jobs.items at was job
           (room_of station.jobs station.lines station.ahead) s station.opening.faults turn.Went c.self.invariant.steady is.there turned
