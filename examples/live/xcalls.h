@@ -14,18 +14,19 @@ enum xc_code {
   XC_WAIT = 1,            /* xc_begin: who ended the client's last attempt is still active; begin again when somebody has ended */
   XC_AGAIN = 2,           /* the transaction was rolled back because of another one, or for want of memory: begin again */
   XC_ABORTED = 3,         /* xc_abort: it is rolled back, as asked */
-  XC_ENDED = 4,           /* xc_begin: the client isn't there, or begins no more: 1,000 attempts failed, the journal is full, no memory */
+  XC_ENDED = 4,           /* xc_begin: the client isn't there, or begins no more: no attempt or no number of a transaction is left */
   XC_NOT_BEGUN = 5,       /* the client has no transaction, or an xc_abort ended it. Nothing was changed, as by each code below */
   XC_BEGUN = 6,           /* xc_begin: the client has one; xc_finish: some client has one */
   XC_MISPLACED = 7,       /* a save within a block, or a keep or a back outside of one */
   XC_CLOSED = 8,          /* the desk is closed; xc_copy_text, xc_free_text: there is no text */
-  XC_OPEN = 9,            /* xc_open: the desk is open; xc_finish: the text is there already */
+  XC_OPEN = 9,            /* xc_open: the desk is open; xc_hand_out, xc_finish: the text is there already */
   XC_BAD_NAME = 10,       /* a name has 1 to 64 letters, digits, dots, underscores and dashes, and isn't of dots alone */
   XC_TOO_MANY_NAMES = 11, /* XC_MOST_NAMES have been used */
   XC_REFUSED = 12,        /* the call was refused, or the host failed: `kind` says how. The transaction goes on */
   XC_TOO_SMALL = 13,      /* there is too little room for what would be written */
-  XC_NO_MEMORY = 14,      /* there was none before the call was asked; xc_finish: none for the text, but the desk is closed */
-  XC_BAD_TEXT = 15        /* xc_open: the text is no prologue, or a number is out of range */
+  XC_NO_MEMORY = 14,      /* there was none to begin, or before the call was asked; xc_finish: none for the text, but the desk is closed */
+  XC_BAD_TEXT = 15,       /* xc_open: the text is no prologue, or a number is out of range */
+  XC_FULL = 16            /* xc_begin: XC_MOST_ENTRIES wait, those of active transactions among them: xc_hand_out first */
 };
 
 /* What a call replied, where its code is XC_OK or XC_REFUSED; from XC_NO_NAME on it was refused. */
@@ -40,12 +41,11 @@ enum {
   XC_MOST_NAMES = 65536,     /* different names that are used with a desk */
   XC_MOST_CLIENTS = 1000,
   XC_MOST_WORDS = 4096,      /* and one at least */
-  XC_MOST_ATTEMPTS = 1000,   /* at one transaction */
-  XC_MOST_ENTRIES = 10000    /* of the journal: one for each attempt */
+  XC_MOST_ENTRIES = 10000    /* of the journal that wait for xc_hand_out: one for each attempt */
 };
 
 typedef struct { void *at; } xc_desk; /* null before xc_open. It isn't copied */
-typedef struct { void *at; } xc_text; /* what a run prints; null before xc_finish. It isn't copied */
+typedef struct { void *at; } xc_text; /* what a run prints; null before xc_hand_out and xc_finish. It isn't copied */
 
 /* A client: its desk, its number, and what its last call replied: the kind, and the number, the handle or the count of bytes */
 typedef struct { xc_desk *desk; uint32_t number, kind; uint64_t value; } xc_client;
@@ -53,14 +53,23 @@ typedef struct { xc_desk *desk; uint32_t number, kind; uint64_t value; } xc_clie
 /* The prologue is lines `file`, `pipe`, `pair`, `fault` and `grain` of a script. Each word begins as 0: a `words` or `word` line is
  * refused, and so is a job. `bad_line` is the first line that is refused, counted from 1; the one behind the prologue says the words. */
 int32_t xc_open(xc_desk *d, uint32_t words, uint32_t clients, const void *prologue, size_t length, uint32_t *bad_line);
+/* The same, where a client begins no more after so many attempts at one transaction: one at least. xc_open sets no bound. */
+int32_t xc_open_with(xc_desk *d, uint32_t words, uint32_t clients, uint32_t attempts, const void *prologue, size_t length,
+                     uint32_t *bad_line);
 int32_t xc_close(xc_desk *d); /* a transaction that goes on is dropped */
-int32_t xc_journal(xc_desk *d, void *into, size_t room, size_t *length); /* the printed journal so far; at XC_TOO_SMALL its length */
 int32_t xc_begin(xc_desk *d, uint32_t client);
 int32_t xc_commit(xc_desk *d, uint32_t client);
 int32_t xc_abort(xc_desk *d, uint32_t client); /* by any thread. The client's own one hears XC_NOT_BEGUN at its next call */
 
-/* Where no client has a transaction, closes the desk, and keeps the text of the whole run: its entries, how each client ended, the
- * words, what is kept, and the totals. `length` is its bytes. xc_copy_text copies those from `from` on for which there is room. */
+/* The journal, printed. xc_hand_out keeps the entries that it didn't hand out before as a text, each one once and in order: the desk
+ * holds them no more, and goes on as before, also beside transactions. `length` is the text's bytes, 0 where nothing waits. Where
+ * XC_MOST_ENTRIES wait a begin says XC_FULL, until they are handed out. xc_journal copies what waits; at XC_TOO_SMALL it says its length. */
+int32_t xc_hand_out(xc_desk *d, xc_text *text, size_t *length);
+int32_t xc_journal(xc_desk *d, void *into, size_t room, size_t *length);
+
+/* Where no client has a transaction, closes the desk, and keeps the last text: the entries that weren't handed out, how each client
+ * ended, the words, what is kept, and the totals of all entries. The texts of xc_hand_out with this one behind them are that of the run.
+ * xc_copy_text copies the bytes from `from` on for which there is room. */
 int32_t xc_finish(xc_desk *d, xc_text *text, size_t *length);
 int32_t xc_copy_text(xc_text *text, size_t from, void *into, size_t room, size_t *copied);
 int32_t xc_free_text(xc_text *text);

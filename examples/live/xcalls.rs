@@ -21,6 +21,7 @@ mod c {
     pub const REFUSED: i32 = 12;
     pub const NO_MEMORY: i32 = 14;
     pub const BAD_TEXT: i32 = 15;
+    pub const FULL: i32 = 16;
     pub const END: u32 = 8;
     pub const EMPTY: u32 = 9;
     pub const MOST_CALL_BYTES: usize = 1024;
@@ -35,11 +36,12 @@ mod c {
     unsafe impl Send for Kept {}
 
     unsafe extern "C" {
-        pub fn xc_open(desk: *mut Kept, words: u32, clients: u32, text: *const u8, length: usize, line: *mut u32) -> i32;
+        pub fn xc_open_with(desk: *mut Kept, words: u32, clients: u32, attempts: u32, text: *const u8, length: usize, line: *mut u32) -> i32;
         pub fn xc_close(desk: *mut Kept) -> i32;
         pub fn xc_begin(desk: *mut Kept, client: u32) -> i32;
         pub fn xc_commit(desk: *mut Kept, client: u32) -> i32;
         pub fn xc_abort(desk: *mut Kept, client: u32) -> i32;
+        pub fn xc_hand_out(desk: *mut Kept, text: *mut Kept, length: *mut usize) -> i32;
         pub fn xc_finish(desk: *mut Kept, text: *mut Kept, length: *mut usize) -> i32;
         pub fn xc_copy_text(text: *mut Kept, from: usize, into: *mut u8, room: usize, copied: *mut usize) -> i32;
         pub fn xc_free_text(text: *mut Kept) -> i32;
@@ -124,11 +126,13 @@ pub enum Stop {
     Again,
     /// The body says: roll back.
     Abort,
-    /// A call was refused. What the body doesn't take is rolled back.
+    /// A call was refused, or there was no memory to begin. What the body doesn't take is rolled back.
     Refused(Refusal),
     /// `Desk::abort` ended the transaction.
     Cut,
-    /// The client begins no transaction any more: it tried 1,000 times, the journal is full, or there is no memory.
+    /// No transaction has begun: 10,000 entries wait for `Desk::hand_out`, those of active transactions among them. Run it again then.
+    Full,
+    /// The client begins no transaction any more: it tried as often as `Desk::open_with` allows.
     Ended,
 }
 
@@ -187,9 +191,14 @@ pub struct Desk {
 impl Desk {
     /// A desk of so many words and clients. The prologue has a script's lines `file`, `pipe`, `pair`, `fault` and `grain`.
     pub fn open(words: u32, clients: u32, prologue: &str) -> Result<Desk, NotOpened> {
+        Desk::open_with(words, clients, u32::MAX, prologue)
+    }
+
+    /// The same, where a client begins no more after so many attempts at one transaction: one at least.
+    pub fn open_with(words: u32, clients: u32, attempts: u32, prologue: &str) -> Result<Desk, NotOpened> {
         let mut open = c::Kept { at: std::ptr::null_mut() };
         let mut line = 0;
-        match unsafe { c::xc_open(&mut open, words, clients, prologue.as_ptr(), prologue.len(), &mut line) } {
+        match unsafe { c::xc_open_with(&mut open, words, clients, attempts, prologue.as_ptr(), prologue.len(), &mut line) } {
             c::OK => Ok(Desk { open: Mutex::new(open), left: Condvar::new(), taken: Mutex::new(vec![false; clients as usize]) }),
             c::BAD_TEXT => Err(NotOpened::BadText { line }),
             _ => Err(NotOpened::NoMemory),
@@ -208,11 +217,22 @@ impl Desk {
         self.enter(|desk| unsafe { c::xc_abort(desk, number) }) == c::ABORTED
     }
 
-    /// Closes the desk. The text of the whole run, as a script's run prints it.
+    /// Hands out the journal: the entries that it didn't hand out before, as a run prints them. The desk goes on, and holds them no more.
+    pub fn hand_out(&self) -> Result<String, Refusal> {
+        self.text(|desk, text, length| unsafe { c::xc_hand_out(desk, text, length) })
+    }
+
+    /// Closes the desk. The last text of the run: the entries that weren't handed out, and how it ended. Behind the texts of `hand_out` it
+    /// is what a script's run prints.
     pub fn finish(self) -> Result<String, Refusal> {
+        self.text(|desk, text, length| unsafe { c::xc_finish(desk, text, length) })
+    }
+
+    /// A text that a call keeps.
+    fn text(&self, keep: impl FnOnce(*mut c::Kept, *mut c::Kept, *mut usize) -> i32) -> Result<String, Refusal> {
         let mut text = c::Kept { at: std::ptr::null_mut() };
         let mut length = 0;
-        if self.enter(|desk| unsafe { c::xc_finish(desk, &mut text, &mut length) }) != c::OK {
+        if self.enter(|desk| keep(desk, &mut text, &mut length)) != c::OK {
             return Err(Refusal::NoMemory);
         }
         let (mut bytes, mut copied) = (vec![0; length], 0);
@@ -239,6 +259,8 @@ impl Desk {
             match unsafe { c::xc_begin(&mut *desk, client) } {
                 c::OK => return Ok(()),
                 c::WAIT => desk = self.left.wait(desk).unwrap_or_else(|broken| broken.into_inner()),
+                c::NO_MEMORY => return Err(Stop::Refused(Refusal::NoMemory)),
+                c::FULL => return Err(Stop::Full),
                 _ => return Err(Stop::Ended),
             }
         }

@@ -112,6 +112,7 @@ fn one_is_cut(desk: &Desk, client: &mut Client) {
 
 fn main() {
     assert_eq!(Desk::open(4, 2, "file\n").err(), Some(NotOpened::BadText { line: 1 }));
+    assert_eq!(Desk::open_with(4, 2, 0, "").err(), Some(NotOpened::BadText { line: 0 }));
     let desk = Desk::open(4, 2, "file a \"abc\"\nfile b\npipe in \"in\"\npair left right\n").expect("a desk");
     let mut client = desk.client(1).expect("a client");
     assert!(desk.client(1).is_none() && desk.client(0).is_none() && desk.client(3).is_none());
@@ -119,6 +120,8 @@ fn main() {
     client.run(channels).expect("channels");
     client.run(what_was_sent).expect("what was sent");
     assert_eq!(client.run(|tx| tx.file_at(place).read_all()), Ok(b"m".to_vec()));
+    print!("{}", desk.hand_out().expect("a text of what waits"));
+    assert_eq!(desk.hand_out(), Ok(String::new()));
     client.run(blocks).expect("blocks");
     one_gives_way(&desk, &mut client);
     one_is_cut(&desk, &mut client);

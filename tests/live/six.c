@@ -1,6 +1,6 @@
 /* Random calls of six threads: words, files, pipes, pairs, inner blocks, aborts, and transactions that fall silent, which another thread
- * ends. Usage: six SEED CALLS WORDS PROLOGUE TOLD. It makes so many calls in all, prints the text of the run, and writes into TOLD what
- * the clients were told: for each attempt a line `attempt CLIENT`, a line `KIND VALUE OTHER BYTES` for each call that replied, and a line
+ * ends. Usage: six SEED CALLS WORDS PROLOGUE TOLD. It makes so many calls in all, prints the text of the run, which is handed out piece by
+ * piece, and writes into TOLD what the clients were told: for each attempt a line `attempt CLIENT`, a line `KIND VALUE OTHER BYTES` for each call that replied, and a line
  * `end CODE`. It ends with status 2 if a code isn't one that is due. */
 #include "xcalls.h"
 #include <pthread.h>
@@ -216,12 +216,36 @@ static void *work(void *arg) {
   return NULL;
 }
 
-/* Ends transactions from outside: those that are silent, and now and then one that isn't. */
+/* Prints a text, in pieces, and frees it. */
+static void print_text(xc_text *text, size_t length) {
+  size_t copied;
+  char piece[PIECE];
+  int32_t code;
+  for (size_t at = 0; at < length; at += copied) {
+    if ((code = xc_copy_text(text, at, piece, sizeof piece, &copied)) || !copied) fail("code of a copy", code);
+    fwrite(piece, 1, copied, stdout);
+  }
+  if ((code = xc_free_text(text)) || text->at || xc_free_text(text) != XC_CLOSED) fail("code of a free", code);
+}
+
+/* Hands the journal out, and prints it. Right behind that nothing waits. */
+static void hand_out(void) {
+  xc_text text = {0};
+  size_t length, left;
+  int32_t code = xc_hand_out(&desk, &text, &length);
+  if (code) fail("code of a handing out", code);
+  if (xc_hand_out(&desk, &text, &left) != XC_OPEN) fail("a handing out beside a text", 1);
+  if ((code = xc_journal(&desk, NULL, 0, &left)) || left) fail("entries that were handed out", code);
+  print_text(&text, length);
+}
+
+/* Ends transactions from outside: those that are silent, and now and then one that isn't. Now and then it hands the journal out. */
 static void watch(void) {
   struct thread by = {.seed = 99991};
   pthread_mutex_lock(&lock);
   for (; threads_left > 0; pause_a_moment()) {
     struct thread *t = &threads[draw(&by, THREADS)];
+    if (!draw(&by, 20)) hand_out();
     if (t->cut_code || draw(&by, t->is_silent ? 4 : 40)) continue;
     int32_t code = xc_abort(XC_BY(&t->c));
     if (code == XC_ABORTED || code == XC_AGAIN) t->cut_code = code;
@@ -241,26 +265,23 @@ static void start(struct thread *t, uint32_t number, uint64_t seed, const char *
   if (!(t->log = open_memstream(&t->log_text, &t->log_length)) || pthread_create(&t->id, NULL, work, t)) fail("no thread", number);
 }
 
-/* Prints the text of the run, in pieces. */
-static void print_text(void) {
+/* Ends the run, and prints the last text. There is no desk any more then. */
+static void finish(void) {
   xc_text text = {0};
-  size_t length, copied;
-  char piece[PIECE];
+  size_t length;
   int32_t code = xc_finish(&desk, &text, &length);
   if (code) fail("code of the finish", code);
-  for (size_t at = 0; at < length; at += copied) {
-    if ((code = xc_copy_text(&text, at, piece, sizeof piece, &copied)) || !copied) fail("code of a copy", code);
-    fwrite(piece, 1, copied, stdout);
-  }
-  if ((code = xc_free_text(&text)) || text.at || xc_free_text(&text) != XC_CLOSED) fail("code of a free", code);
+  print_text(&text, length);
+  if (xc_hand_out(&desk, &text, &length) != XC_CLOSED || text.at) fail("a handing out of a closed desk", 1);
 }
 
-/* While a client has a transaction there is no finish. */
+/* While a client has a transaction there is no finish, and beside it the journal may be handed out. */
 static void finish_too_early(void) {
   xc_text text = {0};
   size_t length;
   if (xc_begin(&desk, 1) || xc_begin(&desk, 1) != XC_BEGUN) fail("a begin", 1);
   if (xc_finish(&desk, &text, &length) != XC_BEGUN || text.at) fail("a finish beside a transaction", 1);
+  hand_out();
   if (xc_abort(&desk, 1) != XC_ABORTED || xc_abort(&desk, 1) != XC_NOT_BEGUN) fail("an abort", 1);
 }
 
@@ -269,6 +290,7 @@ int main(int count, char **arguments) {
   if (count != 6) fail("usage: six SEED CALLS WORDS PROLOGUE TOLD", count);
   calls_left = atol(arguments[2]);
   words = (uint32_t)atol(arguments[3]);
+  if (xc_open_with(&desk, words, THREADS, 0, arguments[4], strlen(arguments[4]), &line) != XC_BAD_TEXT || line) fail("no attempt", line);
   if (xc_open(&desk, words, THREADS, arguments[4], strlen(arguments[4]), &line)) fail("the prologue is refused", line);
   finish_too_early();
   for (uint32_t at = 0; at < THREADS; at++) start(&threads[at], at + 1, (uint64_t)atol(arguments[1]), arguments[4]);
@@ -281,6 +303,6 @@ int main(int count, char **arguments) {
     fclose(threads[at].log);
     fwrite(threads[at].log_text, 1, threads[at].log_length, told);
   }
-  print_text();
+  finish();
   return fclose(told) || fflush(stdout);
 }

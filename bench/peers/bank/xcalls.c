@@ -1,5 +1,6 @@
 /* xcalls: the accounts are words, and the log is a file of a host in memory. Each thread is a client, and takes the mutex for each call
-   alone. So it needs no FILE. The journal has room for 10,000 transactions, failed attempts among them, and a file for 65,536 bytes. */
+   alone. So it needs no FILE. The file has room for 65,536 bytes, and 10,000 entries of the journal, failed attempts among them, may wait
+   to be handed out: here none is. */
 #include "bank.h"
 #include "xcalls.h"
 

@@ -3,12 +3,11 @@ use Rattle.std.proofs.Common.{◌≡◌, ◌⊎◌, ◌∙◌, ℕ, ℤ, pos, tr
 use Rattle.xc_data.specs.Step.{Step}
 use Rattle.xc_data.specs.declared.memory.NoMemory.{NoMemory}
 use Rattle.xc_memhost.specs.State.{MemState}
-use Rattle.xc_station.specs.Stations.{StationView}
 use Rattle.xc_station.specs.declared.run_result.End.{End}
 use Rattle.xc_live.specs.Closing.{NobodyIsActive, SomebodyIsActive}
 use Rattle.xc_live_c.specs.declared.clients.Clients.{Clients}
 use Rattle.xc_live_c.specs.declared.run_text.RunText.{RunText}
-use Rattle.xc_live_c.specs.Finished.{EndsInC, HasFinished, IsEndOfDesk, IsFinishedInC, IsHeldUp, IsTextOfRun, IsTextTold, StaysSo, finished_by, text_of}
+use Rattle.xc_live_c.specs.Finished.{EndsInC, HasFinished, IsEndOfDesk, IsFinishedInC, IsHeldUp, IsTextOfRun, IsTextTold, StaysSo, finished_by, last_text}
 
 -- the text is there already
 pub twice : (c : Clients) (at : Step EndsInC) (code : ℤ) → at.old.desk ≡ Some c → is_some at.old.text ≡ true → code ≡ pos 9
@@ -39,7 +38,7 @@ held_up c at code here lacks somebody same told =
 
 -- nobody has one, and there is the text
 pub ended : (c : Clients) (text : RunText) (at : Step EndsInC) (code : ℤ) → at.old.desk ≡ Some c → is_some at.old.text ≡ false
-    → NobodyIsActive c.desk → at.new.desk ≡ None → at.new.text ≡ Some text → IsTextOfRun c.desk text → code ≡ pos 0
+    → NobodyIsActive c.desk → at.new.desk ≡ None → at.new.text ≡ Some text → IsTextOfRun c text → code ≡ pos 0
     → at.new.size ≡ length text.bytes → IsFinishedInC at code
 ended c text at code here lacks nobody closed there run told size =
     let sizes : Step ℕ = record { old = at.old.size; new = at.new.size } in
@@ -64,11 +63,11 @@ textless c at code here lacks nobody closed same told size =
     })) at.old.text lacks)
 
 -- the text of an end is a text of the run, where there was memory for it
-pub text_of_end : (desk : StationView MemState) (end : End MemState) (told : Result RunText NoMemory) → IsEndOfDesk desk end
-    → IfOk told (λ text. text.bytes ≡ text_of end) → IfOk told (λ text. IsTextOfRun desk text)
-text_of_end desk end (Ok text) so bytes = (end, so, bytes)
-text_of_end desk end (Err why) so bytes = tt
+pub text_of_end : (c : Clients) (end : End MemState) (told : Result RunText NoMemory) → IsEndOfDesk c.desk end
+    → IfOk told (λ text. text.bytes ≡ last_text c.counted end) → IfOk told (λ text. IsTextOfRun c text)
+text_of_end c end (Ok text) so bytes = (end, so, bytes)
+text_of_end c end (Err why) so bytes = tt
 
 -- the same text of the same desk
-pub same_run : (desk other : StationView MemState) (text kept : RunText) → other ≡ desk → kept ≡ text → IsTextOfRun other text → IsTextOfRun desk kept
-same_run desk other text kept same is told = subst (λ t. IsTextOfRun desk t) (sym is) (subst (λ d. IsTextOfRun d text) same told)
+pub same_run : (c other : Clients) (text kept : RunText) → other ≡ c → kept ≡ text → IsTextOfRun other text → IsTextOfRun c kept
+same_run c other text kept same is told = subst (λ t. IsTextOfRun c t) (sym is) (subst (λ d. IsTextOfRun d text) same told)

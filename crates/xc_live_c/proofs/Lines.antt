@@ -1,5 +1,5 @@
 -- The lines of clients, one after another.
-use Rattle.std.proofs.Common.{◌≡◌, ◌++◌, ◌+◌, ℕ, suc, add-one, refl, sym, subst}
+use Rattle.std.proofs.Common.{◌≡◌, ◌++◌, ◌+◌, ℕ, add-one, refl, sym, subst}
 use Rattle.xc_live_c.specs.Opened.{client_line, client_lines}
 
 -- one client more is one line more

@@ -1,5 +1,5 @@
 -- A name gets its place, or none, before the call with it is made.
-use Rattle.std.proofs.Common.{◌≡◌, ℕ, ℤ, Bool, true, false, Option, None, Some, refl, inl, inr, ◌∙◌, subst, ap}
+use Rattle.std.proofs.Common.{◌≡◌, ℕ, ℤ, Bool, true, false, Option, None, Some, inl, inr, ◌∙◌, subst, ap}
 use Rattle.xc_data.specs.declared.call.Call.{Call}
 use Rattle.xc_memhost.specs.State.{mem_host_model}
 use Rattle.xc_live.specs.Called.{IsCalledSo}
@@ -15,6 +15,7 @@ called_before client c old mid new said keeps h = record {
   called = subst (λ desk. IsCalledSo mem_host_model client c (record { old = desk; new = new.desk }) h.answer) keeps.desk h.called;
   told = h.told;
   begun = h.begun ∙ ap (λ begun. with_begun begun client (runs_on h.answer)) keeps.begun;
+  counted = h.counted ∙ keeps.counted;
 }
 
 -- of a client that has begun nothing bars a call

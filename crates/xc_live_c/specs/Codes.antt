@@ -1,5 +1,5 @@
 -- The numbers that C is told.
-use Rattle.std.specs.Prelude.{ℕ, ℤ, pos, ◌≤◌, nat_le, length, if◌then◌else◌}
+use Rattle.std.specs.Prelude.{ℕ, ℤ, pos, nat_le, length, if◌then◌else◌}
 use Rattle.xc_data.specs.declared.call.Reply.{Reply}
 use Rattle.xc_data.specs.declared.call.Reply.TheVariants as reply
 use Rattle.xc_data.specs.declared.entry.Cause.{Cause}
@@ -11,11 +11,13 @@ use Rattle.xc_live.specs.declared.answers.Called.TheVariants as called
 use Rattle.xc_live.specs.declared.answers.Ended.{Ended}
 use Rattle.xc_live.specs.declared.answers.Ended.TheVariants as ended
 
--- of a begin: it began, it waits, or the client begins no more
+-- of a begin: it began, it waits, or the client begins no more; there is no memory for it, or too many entries wait
 abbrev pub began_code : Began → ℤ
 began_code began.Went = pos 0
 began_code (began.Waits holder) = pos 1
 began_code (began.Ended end) = pos 4
+began_code began.NoMemory = pos 14
+began_code began.Full = pos 16
 
 -- of a call: it replied, its transaction is to begin again, or it was misplaced
 abbrev pub called_code : Called → ℤ

@@ -1,4 +1,5 @@
 pub mod Codes
 pub mod Finished
+pub mod Handing
 pub mod Opened
 pub mod Told

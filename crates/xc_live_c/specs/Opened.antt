@@ -7,7 +7,10 @@ use Rattle.xc_data.specs.Step.{Step}
 use Rattle.xc_tokens.specs.declared.why.Why.{Why}
 use Rattle.xc_text.specs.Scripts.{parse_of}
 use Rattle.xc_memhost.specs.State.{mem_host_model}
+use Rattle.xc_model.specs.declared.rules.Rules.{Rules}
 use Rattle.xc_print.specs.Entries.{journal_text}
+use Rattle.xc_print.specs.Totals.{totals_of}
+use Rattle.xc_station.specs.Stations.{entries_held}
 use Rattle.xc_live.specs.Opening.{IsOpenedBy}
 use Rattle.xc_live_c.specs.declared.clients.Clients.{Clients}
 
@@ -29,23 +32,36 @@ pub record DeskAsked : Type 0 where
   pub prologue : List ℕ
   pub words : ℕ
   pub clients : ℕ
+  -- at one transaction of a client
+  pub attempts : ℕ
 
 -- the text of that desk
 abbrev pub asked_text : DeskAsked → List ℕ
 asked_text asked = desk_text asked.prologue asked.words asked.clients
 
--- it is no script, and this is its first bad line; or there are too many clients
+-- there are too many clients, or they may not try once
+abbrev pub IsOutOfRange : DeskAsked → Type 0
+IsOutOfRange asked = (1000 < asked.clients) ⊎ (asked.attempts ≡ 0)
+
+-- it is no script, and this is its first bad line; or a number is out of range
 abbrev pub IsBadDesk : DeskAsked → ℕ → Type 0
-IsBadDesk asked line = ((why : Why) × (parse_of (asked_text asked) ≡ Err (line, why))) ⊎ ((1000 < asked.clients) × (line ≡ 0))
+IsBadDesk asked line = ((why : Why) × (parse_of (asked_text asked) ≡ Err (line, why))) ⊎ (IsOutOfRange asked × (line ≡ 0))
 
 -- why there is no desk: its text, or memory
 abbrev pub IsNotOpened : DeskAsked → ℤ → ℕ → Type 0
 IsNotOpened asked code line = ((code ≡ pos 15) × IsBadDesk asked line) ⊎ ((code ≡ pos 14) × (line ≡ 0))
 
--- the desk of what was asked for, and nobody has begun
+-- the rules of a desk: so many attempts, as much patience as there may be, and so many tries of one compensation
+abbrev pub desk_rules : ℕ → Rules
+desk_rules attempts = record { attempts = attempts; patience = 1000000; undo_tries = 16 }
+
+-- the desk of what was asked for; nobody has begun, and nothing was handed out
 pub record IsDeskAsked (asked : DeskAsked) (c : Clients) : Type 0 where
   pub desk : IsOpenedBy mem_host_model (asked_text asked) c.desk
+  pub rules : c.desk.rules ≡ desk_rules asked.attempts
   pub begun : c.begun.items ≡ replicate (asked.clients + 1) false
+  pub gone : c.desk.gone ≡ 0
+  pub counted : c.counted ≡ totals_of []
 
 -- by what the handle held and holds
 abbrev pub IsOpenedInC : DeskAsked → Option Clients → Option Clients → ℤ → ℕ → Type 0
@@ -58,7 +74,7 @@ abbrev pub closed_code : Option Clients → ℤ
 closed_code None = pos 8
 closed_code (Some c) = pos 0
 
--- ---- the journal so far
+-- ---- the journal that waits to be handed out
 -- a text is handed over if there is room for it
 abbrev pub is_handed : Bool → List ℕ → Step (List ℕ) → ℤ → Type 0
 is_handed true text into code = (code ≡ pos 0) × (take (length text) into.new ≡ text)
@@ -72,8 +88,8 @@ IsHanded text into size code = (size.new ≡ length text) × is_handed (nat_le (
 abbrev pub IsUnhanded : Step (List ℕ) → Step ℕ → Type 0
 IsUnhanded into size = (into.new ≡ into.old) × (size.new ≡ size.old)
 
--- the entries of an open desk, unless there is no memory for their text
+-- the entries of an open desk that weren't handed out, unless there is no memory for their text
 abbrev pub IsJournalInC : Option Clients → Step (List ℕ) → Step ℕ → ℤ → Type 0
 IsJournalInC None into size code = (code ≡ pos 8) × IsUnhanded into size
 IsJournalInC (Some c) into size code =
-    ((code ≡ pos 14) × IsUnhanded into size) ⊎ IsHanded (journal_text c.desk.journal) into size code
+    ((code ≡ pos 14) × IsUnhanded into size) ⊎ IsHanded (journal_text (entries_held c.desk)) into size code

@@ -43,6 +43,7 @@ with_begun begun client goes_on = slice_set begun client goes_on
 pub record KeepsDesk (old new : Clients) : Type 0 where
   pub desk : new.desk ≡ old.desk
   pub begun : new.begun.items ≡ old.begun.items
+  pub counted : new.counted ≡ old.counted
 
 -- where something bars a call, this code says so, and nothing changes; else it does this
 abbrev pub Unless : Option ℤ → Clients → Clients → ℤ → Type 0 → Type 0
@@ -65,13 +66,16 @@ abbrev pub is_went : Began → Bool
 is_went began.Went = true
 is_went (began.Waits holder) = false
 is_went (began.Ended end) = false
+is_went began.NoMemory = false
+is_went began.Full = false
 
--- one turn of the client, by its answer
+-- what the desk's begin does, by its answer
 pub record HasBegunSo (client : ℕ) (old new : Clients) (code : ℤ) : Type 0 where
   pub answer : Began
   pub turn : IsBegunSo mem_host_model client (desks old new) answer
   pub told : code ≡ began_code answer
   pub begun : new.begun.items ≡ with_begun old.begun.items client (is_went answer)
+  pub counted : new.counted ≡ old.counted
 
 -- what bars a begin, by whether the client has a place, lives, and has a transaction
 abbrev pub begin_bar : Bool → Bool → Bool → Option ℤ
@@ -111,6 +115,7 @@ pub record HasCalledSo (client : ℕ) (c : Call) (old new : Clients) (said : Tel
   pub called : IsCalledSo mem_host_model client c (desks old new) answer
   pub told : telling_of answer (last_reply_at (job_views new.desk.jobs) client) said
   pub begun : new.begun.items ≡ with_begun old.begun.items client (runs_on answer)
+  pub counted : new.counted ≡ old.counted
 
 -- what bars a call, by whether the client has begun
 abbrev pub call_bar : Bool → Option ℤ
@@ -208,6 +213,7 @@ pub record HasEndedSo (client : ℕ) (asked : Ask) (old new : Clients) (code : �
   pub ended : IsEndedSo mem_host_model client asked (desks old new) answer
   pub told : code ≡ ended_code answer
   pub begun : new.begun.items ≡ with_begun old.begun.items client false
+  pub counted : new.counted ≡ old.counted
 
 -- a commit or an abort of a client
 abbrev pub IsEndedInC : ℕ → Ask → Clients → Clients → ℤ → Type 0

@@ -1,20 +1,22 @@
-ghost use Rattle.std.specs.Prelude.{◌≡◌, ◌⊎◌, ◌++◌, ◌&&◌, pos, None, true, false, Ok, Err, IfOk, IfErr, OnOk};
+ghost use Rattle.std.specs.Prelude.{◌≡◌, ◌≤◌, ◌⊎◌, ◌++◌, ◌&&◌, [], length, pos, None, true, false, Ok, Err, IfOk, IfErr, OnErr, OnOk};
 ghost use Rattle.std.specs.Option.{option_copied};
 ghost use Rattle.xc_data.specs.Limits.{KeepsLimits};
 ghost use Rattle.xc_data.specs.Spelling.{is_name};
 ghost use Rattle.xc_memhost.specs.State.{mem_host_model};
 ghost use Rattle.xc_model.specs.Opened.{IsOpening};
 ghost use Rattle.xc_print.specs.Entries.{journal_text};
+ghost use Rattle.xc_print.specs.Totals.{totals_of};
 ghost use Rattle.xc_script.specs.declared.ask.Ask.TheVariants as PlainAsk;
 ghost use Rattle.xc_station.specs.HandedTold.{last_reply_at};
 ghost use Rattle.xc_station.specs.Jobs.{job_views};
-ghost use Rattle.xc_station.specs.Stations.{now_of};
+ghost use Rattle.xc_station.specs.Stations.{entries_held, now_of};
 ghost use Rattle.xc_text.specs.Scripts.{IsScript, parse_of};
 ghost use Rattle.xc_tokens.specs.declared.why.Why.{Why};
 ghost use Rattle.xc_live.specs.Closing.{NobodyIsActive, SomebodyIsActive};
 ghost use Rattle.xc_live.specs.declared.answers.Called.TheVariants as PlainCalled;
-ghost use Rattle.xc_live_c.specs.Finished.{IsTextOfRun};
-ghost use Rattle.xc_live_c.specs.Opened.{IsDeskAsked, IsNotOpened, client_lines, desk_text};
+ghost use Rattle.xc_live_c.specs.Finished.{IsTextOfRun, both_totals};
+ghost use Rattle.xc_live_c.specs.Handing.{HasHandedOut};
+ghost use Rattle.xc_live_c.specs.Opened.{IsDeskAsked, IsNotOpened, client_lines, desk_rules, desk_text};
 ghost use Rattle.xc_live_c.specs.Told.{IsBegunInC, IsCalledInC, IsEndedInC, IsNoPlace, IsNotPlaced, KeepsDesk};
 ghost use Rattle.xc_live_c.specs.Told.{has_begun, telling_of, with_begun};
 
@@ -22,6 +24,7 @@ use crate::codes::{
     BAD_NAME, BAD_TEXT, BEGUN, ENDED, NO_MEMORY, NOT_BEGUN, OK, TOO_MANY_NAMES, began_code,
     called_code, ended_code, kind_number, reply_code, value_of,
 };
+use crate::counts::{both_totals, held_totals};
 use crate::run_text::RunText;
 use std::alloc::Global;
 use xc_data::{Call, Chunk, Name, NoMemory, Reply, SharedName, SlotName, Text};
@@ -29,15 +32,11 @@ use xc_live::{Began, Called, Desk};
 use xc_memhost::MemHost;
 use xc_model::Rules;
 use xc_names::{Names, NotPlaced};
-use xc_print::{Page, entry_text};
+use xc_print::{Page, Totals, entry_text};
 use xc_text::{ParseErr, Script, parse};
 
-/// The rules of a desk for C: as many attempts and as much patience as there may be.
-pub const RULES: Rules = Rules {
-    attempts: 1_000,
-    patience: 1_000_000,
-    undo_tries: 16,
-};
+/// No bound on attempts at one transaction: the numbers of transactions end here too.
+pub const ANY_ATTEMPTS: u32 = 4_294_967_295;
 
 /// How many clients a desk has at most.
 pub const MOST_CLIENTS: u32 = 1_000;
@@ -48,7 +47,20 @@ pub struct Clients {
     pub(crate) desk: Desk<MemHost>,
     // The clients that were told that they have begun, and not yet that their transaction has ended. The first place is nobody's.
     pub(crate) begun: Vec<bool>,
+    // What the last line of the run's text counts of the entries that were handed out.
+    pub(crate) counted: Totals,
     names: Names,
+}
+
+// The rules of a desk for C: as much patience as there may be.
+fn desk_rules(attempts: u32) -> Rules
+    ensures { result ≡ desk_rules attempts }
+{
+    Rules {
+        attempts,
+        patience: 1_000_000,
+        undo_tries: 16,
+    }
 }
 
 // The lines of clients, at the end of a page.
@@ -120,21 +132,53 @@ fn read_script(alloc: Global, text: &Chunk) -> Result<Script, NoClients>
     }
 }
 
+// A desk of which it is known that nothing was handed out.
+fn unparted(desk: Desk<MemHost>) -> Result<Desk<MemHost>, NoMemory>
+    requires { desk.journal ≡ [] }
+    ensures { IfOk result (λ new. new ≡ record desk { gone = 0 }) }
+{
+    let mut desk = desk;
+    let _none = desk.hand_out()?;
+    Ok(desk)
+}
+
 impl Clients {
     // A desk of a script that was read. A host in memory can follow each.
-    fn start(alloc: Global, script: Script, begun: Vec<bool>) -> Result<Clients, NoClients>
+    fn start(
+        alloc: Global,
+        script: Script,
+        begun: Vec<bool>,
+        attempts: u32,
+    ) -> Result<Clients, NoClients>
         requires script { IsScript script }
         requires limits { KeepsLimits script.outline }
+        requires attempts { 1 ≤ attempts }
         ensures clients { IfOk result (λ c. c.desk.opening.script ≡ record script { clients = true }) }
         ensures opening { IfOk result (λ c. IsOpening (record script { clients = true }) (now_of mem_host_model c.desk)) }
+        ensures rules { IfOk result (λ c. c.desk.rules ≡ desk_rules attempts) }
         ensures begun { IfOk result (λ c. c.begun.items ≡ begun.items) }
+        ensures gone { IfOk result (λ c. c.desk.gone ≡ 0) }
+        ensures counted { IfOk result (λ c. c.counted ≡ totals_of []) }
         ensures err { IfErr result (λ no. no ≡ record { code = pos 14; line = 0 }) }
     {
         let names = Names::new(alloc)?;
-        match Desk::start(alloc, MemHost::new(alloc), script.for_clients(), RULES) {
-            Ok(desk) => Ok(Clients { desk, begun, names }),
-            Err(_) => Err(NoClients::from(NoMemory)),
-        }
+        let host = MemHost::new(alloc);
+        let Ok(desk) = Desk::start(alloc, host, script.for_clients(), desk_rules(attempts)) else {
+            return Err(NoClients::from(NoMemory));
+        };
+        let desk = unparted(desk)?;
+        let counted = Totals {
+            committed: 0,
+            aborted: 0,
+            faults: 0,
+            remains: 0,
+        };
+        Ok(Clients {
+            desk,
+            begun,
+            counted,
+            names,
+        })
     }
 
     /// A desk of so many clients and words, over the files, pipes and pairs of a prologue. Nobody has begun.
@@ -143,12 +187,14 @@ impl Clients {
         prologue: &[u8],
         words: u32,
         clients: u32,
+        attempts: u32,
     ) -> Result<Clients, NoClients>
-        ensures ok { IfOk result (λ c. IsDeskAsked (record { prologue = prologue.now; words = words; clients = clients }) c) }
-        ensures err { IfErr result (λ no. IsNotOpened (record { prologue = prologue.now; words = words; clients = clients })
-            no.code no.line) }
+        ensures ok { IfOk result (λ c. IsDeskAsked
+            (record { prologue = prologue.now; words = words; clients = clients; attempts = attempts }) c) }
+        ensures err { IfErr result (λ no. IsNotOpened
+            (record { prologue = prologue.now; words = words; clients = clients; attempts = attempts }) no.code no.line) }
     {
-        if clients > MOST_CLIENTS {
+        if clients > MOST_CLIENTS || attempts == 0 {
             return Err(bad_text(0));
         }
         let text = desk_text(alloc, prologue, words, clients)?;
@@ -156,7 +202,7 @@ impl Clients {
         let Ok(begun) = Vec::from_elem(alloc, false, clients as usize + 1) else {
             return Err(NoClients::from(NoMemory));
         };
-        Clients::start(alloc, script, begun)
+        Clients::start(alloc, script, begun, attempts)
     }
 
     // Whether a client was told that it has begun, and not yet that its transaction has ended.
@@ -169,7 +215,7 @@ impl Clients {
     // From now on it is told so, or not.
     fn note(&mut self, client: u32, goes_on: bool)
         ensures begun { self.new.begun.items ≡ with_begun self.old.begun.items client goes_on }
-        ensures desk { self.new.desk ≡ self.old.desk }
+        ensures same { (self.new.desk ≡ self.old.desk) × (self.new.counted ≡ self.old.counted) }
     {
         if let Some(place) = self.begun.get_mut(client as usize) {
             *place = goes_on;
@@ -318,9 +364,9 @@ impl Clients {
         ended_code(&self.desk.abort(client))
     }
 
-    /// The printed journal so far.
+    /// The printed entries that weren't handed out.
     pub(crate) fn journal_text(&self, alloc: Global) -> Result<Text, NoMemory>
-        ensures { IfOk result (λ text. text ≡ journal_text self.now.desk.journal) }
+        ensures { IfOk result (λ text. text ≡ journal_text (entries_held self.now.desk)) }
     {
         let mut out = Page::new(alloc);
         let journal = self.desk.journal();
@@ -328,6 +374,36 @@ impl Clients {
             out.push(entry_text(alloc, entry)?.as_slice())?;
         }
         Ok(out.into_text())
+    }
+
+    // Hands out the entries that wait, and counts them.
+    fn let_go(&mut self) -> Result<(), NoMemory>
+        ensures desk { OnOk result (self.new.desk ≡ record self.old.desk { gone = length self.old.desk.journal }) }
+        ensures begun { OnOk result (self.new.begun.items ≡ self.old.begun.items) }
+        ensures counted { OnOk result (self.new.counted ≡ both_totals self.old.counted (totals_of (entries_held self.old.desk))) }
+        ensures err { OnErr result (self.new ≡ self.old) }
+    {
+        let Some(more) = held_totals(self.desk.journal()) else {
+            return Err(NoMemory);
+        };
+        let Some(counted) = both_totals(self.counted, more) else {
+            return Err(NoMemory);
+        };
+        let _entries = self.desk.hand_out()?;
+        self.counted = counted;
+        Ok(())
+    }
+
+    /// Hands out the entries that wait, as a text. Without memory nothing changes.
+    pub(crate) fn hand_out(&mut self, alloc: Global) -> Result<Box<RunText>, NoMemory>
+        ensures ok { IfOk result (λ text. HasHandedOut self.old self.new text.value) }
+        ensures err { OnErr result (self.new ≡ self.old) }
+    {
+        // What is handed out can't be taken back, so the text comes first.
+        let bytes = self.journal_text(alloc)?;
+        let text = Box::new(alloc, RunText { bytes })?;
+        self.let_go()?;
+        Ok(text)
     }
 
     /// Whether no client has a transaction.
@@ -341,14 +417,15 @@ impl Clients {
     /// Ends all clients, and prints the run.
     pub(crate) fn finish(self, alloc: Global) -> Result<RunText, NoMemory>
         requires { NobodyIsActive self.desk }
-        ensures { IfOk result (λ text. IsTextOfRun self.desk text) }
+        ensures { IfOk result (λ text. IsTextOfRun self text) }
     {
         let Clients {
             desk,
             begun: _begun,
+            counted,
             names: _names,
         } = self;
         let end = desk.close();
-        RunText::of(alloc, &end)
+        RunText::of(alloc, &end, counted)
     }
 }

@@ -22,7 +22,7 @@ pub const BEGUN: i32 = 6;
 pub const MISPLACED: i32 = 7;
 /// The desk is closed. Of a text: there is none. Nothing was changed.
 pub const CLOSED: i32 = 8;
-/// Of an opening: the desk is open already. Of the end: the text is there already. Nothing was changed.
+/// Of an opening: the desk is open already. Of handing out and of the end: the text is there already. Nothing was changed.
 pub const OPEN: i32 = 9;
 /// The bytes are no file's name. Nothing was changed.
 pub const BAD_NAME: i32 = 10;
@@ -32,10 +32,13 @@ pub const TOO_MANY_NAMES: i32 = 11;
 pub const REFUSED: i32 = 12;
 /// There is no room for what would be written. Nothing was changed.
 pub const TOO_SMALL: i32 = 13;
-/// There was no memory before the call was asked. Nothing was changed. Of the end: there is none for the text, and the desk is closed.
+/// There was no memory before the call was asked, or to begin. Nothing was changed. Of the end: there is none for the text, and the
+/// desk is closed.
 pub const NO_MEMORY: i32 = 14;
 /// Of an opening: the text is no prologue, or the numbers of words and clients are out of range.
 pub const BAD_TEXT: i32 = 15;
+/// Of a begin: as many entries wait to be handed out as may. Nothing was changed: begin again when they are handed out.
+pub const FULL: i32 = 16;
 
 // What a begin tells.
 pub(crate) fn began_code(began: &Began) -> i32
@@ -45,6 +48,8 @@ pub(crate) fn began_code(began: &Began) -> i32
         Began::Went => OK,
         Began::Waits { .. } => WAIT,
         Began::Ended(_) => ENDED,
+        Began::NoMemory => NO_MEMORY,
+        Began::Full => FULL,
     }
 }
 

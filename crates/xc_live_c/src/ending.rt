@@ -11,7 +11,7 @@ use xc_data::NoMemory;
 // Ends all clients of a desk, and keeps the text of the run.
 pub(crate) fn finished(alloc: Global, clients: Box<Clients>) -> Result<Box<RunText>, NoMemory>
     requires { NobodyIsActive clients.value.desk }
-    ensures { IfOk result (λ text. IsTextOfRun clients.value.desk text.value) }
+    ensures { IfOk result (λ text. IsTextOfRun clients.value text.value) }
 {
     let text = Box::into_inner(clients).finish(alloc)?;
     Ok(Box::new(alloc, text)?)

@@ -9,33 +9,39 @@ ghost use Rattle.xc_data.specs.Spelling.{is_name};
 ghost use Rattle.xc_data.specs.declared.call.Call.TheVariants as call;
 ghost use Rattle.xc_script.specs.declared.ask.Ask.TheVariants as ask;
 ghost use Rattle.xc_live_c.specs.Finished.{IsCopiedInC, IsFinishedInC, freed_code};
+ghost use Rattle.xc_live_c.specs.Handing.{IsHandedOutInC};
 ghost use Rattle.xc_live_c.specs.Opened.{IsJournalInC, IsOpenedInC, closed_code};
 ghost use Rattle.xc_live_c.specs.Told.{IsBegunInC, IsEndedInC, IsSaid, IsSaidInto, IsSaidOf, IsSaidWith, OfOpen, got_of, other_at};
 
 mod asking;
 mod clients;
 mod codes;
+mod counts;
 mod ending;
 mod growing;
 mod handle;
+mod law;
+mod opening;
 mod run_text;
 mod text_handle;
 
 use asking::{asked, at_name, at_names, no_slot, other_side, put_bytes};
-pub use clients::{Clients, MOST_CLIENTS, RULES};
+pub use clients::{ANY_ATTEMPTS, Clients, MOST_CLIENTS};
 pub use codes::{
     ABORTED, AGAIN, BAD_NAME, BAD_TEXT, BEGUN, CLOSED, ENDED, MISPLACED, NO_MEMORY, NOT_BEGUN, OK,
     OPEN, REFUSED, TOO_MANY_NAMES, TOO_SMALL, WAIT,
 };
 use ending::{finished, has_text};
 pub use handle::DeskHandle;
+pub use law::the_texts_make_the_run;
+use opening::opened;
 pub use run_text::RunText;
 use std::alloc::Global;
 pub use text_handle::TextHandle;
 use xc_data::{Call, Chunk, MOST_CALL_BYTES};
 
 /// Opens a desk: so many words and clients, over the files, pipes and pairs of a prologue's lines. Where the text is refused, `line` is
-/// the number of its first bad line, counted from 1, or 0.
+/// the number of its first bad line, counted from 1, or 0. Attempts at one transaction have no bound.
 #[unsafe(no_mangle)]
 pub extern "C" fn xc_open(
     alloc: Global,
@@ -45,28 +51,27 @@ pub extern "C" fn xc_open(
     prologue: &[u8],
     line: &mut u32,
 ) -> i32
-    ensures { IsOpenedInC (record { prologue = prologue.now; words = words; clients = clients }) desk.old.value desk.new.value
-        result line.new }
+    ensures { IsOpenedInC (record { prologue = prologue.now; words = words; clients = clients; attempts = 4294967295 })
+        desk.old.value desk.new.value result line.new }
 {
-    *line = 0;
-    if let Some(open) = desk.take(alloc) {
-        desk.put(alloc, open);
-        return OPEN;
-    }
-    let opened = match Clients::open(alloc, prologue, words, clients) {
-        Ok(opened) => opened,
-        Err(no) => {
-            *line = no.line;
-            return no.code;
-        }
-    };
-    match Box::new(alloc, opened) {
-        Ok(new) => {
-            desk.put(alloc, new);
-            OK
-        }
-        Err(_) => NO_MEMORY,
-    }
+    opened(alloc, desk, words, clients, ANY_ATTEMPTS, prologue, line)
+}
+
+/// The same, with a bound: a client whose transaction was rolled back so often because of others begins no more.
+#[unsafe(no_mangle)]
+pub extern "C" fn xc_open_with(
+    alloc: Global,
+    desk: &mut DeskHandle,
+    words: u32,
+    clients: u32,
+    attempts: u32,
+    prologue: &[u8],
+    line: &mut u32,
+) -> i32
+    ensures { IsOpenedInC (record { prologue = prologue.now; words = words; clients = clients; attempts = attempts })
+        desk.old.value desk.new.value result line.new }
+{
+    opened(alloc, desk, words, clients, attempts, prologue, line)
 }
 
 /// Closes a desk, and frees it. A transaction that goes on is dropped as it is.
@@ -81,7 +86,7 @@ pub extern "C" fn xc_close(alloc: Global, desk: &mut DeskHandle) -> i32
     }
 }
 
-/// The printed journal so far: `length` is how long it is, and it stands in front of `into` where there is room for it.
+/// The printed entries that weren't handed out: `length` is how long they are, and they stand in front of `into` where there is room.
 #[unsafe(no_mangle)]
 pub extern "C" fn xc_journal(
     alloc: Global,
@@ -109,8 +114,40 @@ pub extern "C" fn xc_journal(
     OK
 }
 
-/// Ends a desk on which no client has a transaction, and keeps the text of the whole run; `length` is how long it is. Where there is no
-/// memory for the text, the desk is closed all the same.
+/// Hands out the printed entries that weren't handed out, and keeps them as a text; `length` is how long it is. The desk goes on, and
+/// holds them no more. Without memory nothing changes.
+#[tactic(auto, using(crate::proofs::Handed::handed_twice, crate::proofs::Handed::handed_over, crate::proofs::Handed::not_handed))]
+#[unsafe(no_mangle)]
+pub extern "C" fn xc_hand_out(
+    alloc: Global,
+    desk: &mut DeskHandle,
+    text: &mut TextHandle,
+    length: &mut usize,
+) -> i32
+    ensures { IsHandedOutInC (record {
+      old = record { desk = desk.old.value; text = text.old.value; size = length.old };
+      new = record { desk = desk.new.value; text = text.new.value; size = length.new };
+    }) result }
+{
+    let Some(mut open) = desk.take(alloc) else {
+        return CLOSED;
+    };
+    if has_text(alloc, text) {
+        desk.put(alloc, open);
+        return OPEN;
+    }
+    let handed = open.hand_out(alloc);
+    desk.put(alloc, open);
+    let Ok(kept) = handed else {
+        return NO_MEMORY;
+    };
+    *length = kept.bytes.len();
+    text.put(alloc, kept);
+    OK
+}
+
+/// Ends a desk on which no client has a transaction, and keeps the text of the run, without the entries that were handed out; `length`
+/// is how long it is. Where there is no memory for the text, the desk is closed all the same.
 #[tactic(auto, using(crate::proofs::Ends::twice, crate::proofs::Ends::held_up, crate::proofs::Ends::ended, crate::proofs::Ends::textless))]
 #[unsafe(no_mangle)]
 pub extern "C" fn xc_finish(
