@@ -96,12 +96,16 @@ def attempts_of(entries):
     return found
 
 
+def prologue_of(made):
+    """The prologue of a run."""
+    return f"{made.prologue}words {WORDS}\n".encode()
+
+
 def judged(made):
     """What is wrong with a run, as text; None if nothing."""
     if made.status:
         return f"status {made.status}: {made.errors.strip()}"
-    prologue = f"{made.prologue}words {WORDS}\n".encode()
-    found = player.told_verdict(prologue, made.text)
+    found = player.told_verdict(prologue_of(made), made.text)
     if found:
         return f"the text is wrong at line {found[0]}: {found[1]}"
     told, shown = attempts_told(made.told), attempts_of(journal.read(made.text).entries)

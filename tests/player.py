@@ -15,9 +15,10 @@ The line is that of the entry, for `tail` the first one behind the entries, and 
 
 `told_verdict(prologue, text)` judges a text of clients (docs/LIVE.md) by a prologue alone: what a client asks is what the entries say.
 `tests/player.py --prologue FILE [--attempts N] [--undo-tries N]` does so with a text on standard input; it prints what a checker prints,
-and ends with status 0 for `yes`, 1 for `no` and 2 for other words. N is 1,000 and 16, as in the library for C. A prologue that names
-no client is that of c1, c2 and so on, as many as the text says. What a client asked last isn't known if the attempt ended for want of
-memory: then what was held for it, and a record of it that is undone, are taken as they stand.
+and ends with status 0 for `yes`, 1 for `no` and 2 for other words. Attempts are 1 to 4,294,967,295, and have no bound but that without N;
+undo tries are 1 to 16, and 16 without N, as in the library for C. Texts that were handed out are judged with the last one behind them, as one text. A prologue that names no client is that
+of c1, c2 and so on, as many as the text says. What a client asked last isn't known if the attempt ended for want of memory: then what was
+held for it, and a record of it that is undone, are taken as they stand.
 """
 import argparse
 import bisect
@@ -36,6 +37,7 @@ import told
 MOST_BYTES = 67108864
 MOST_READ = 68157446
 MOST_ENTRIES = 10000
+ANY_ATTEMPTS, MOST_TRIES = 4294967295, 16
 STARVED = "no memory"
 AGAIN = ("conflict", "revoked")
 SPLIT = b"===="
@@ -222,7 +224,6 @@ class Attempt:
         """Ends the attempt; gives the world behind it."""
         job, entry = self.job, self.entry
         job.least_began = entry.place + 1
-        job.rank = job.rank or entry.number
         if entry.kind == "commit":
             job.variables, job.places = self.walk.variables, self.body.places
             slots = [(call.slot, plain.slot_number(end)) for call, end in zip(self.body.late, entry.late) if call.slot]
@@ -231,7 +232,7 @@ class Attempt:
             return self.body.world
         job.is_starved = self.is_starved()
         if self.is_tried_again():
-            job.tries += 1
+            job.rank, job.tries = job.rank or entry.number, job.tries + 1
         elif not job.is_starved:
             job.pass_on()
         stands = remaining(self.records, entry.undos)
@@ -242,10 +243,10 @@ class Attempt:
 
 
 class Client(Job):
-    """A client: it always goes on, but where memory was wanting."""
+    """A client: it always goes on."""
 
     def lines(self):
-        return None if self.is_starved else []
+        return []
 
 
 class ToldAttempt(Attempt):
@@ -418,10 +419,8 @@ class ToldPlayer(Player):
 
     def ends_of(self, job):
         """A client that didn't end before is done at the close."""
-        if job.is_starved:
-            return [STARVED]
         gave_up = ["gave up"] if job.tries == self.attempts else []
-        return ["done", STARVED, *gave_up] + (["journal full"] if len(self.entries) == MOST_ENTRIES else [])
+        return ["done", *gave_up] + (["journal full"] if len(self.entries) >= MOST_ENTRIES else [])
 
 
 def by_number(number):
@@ -461,12 +460,17 @@ def verdict(script, text, attempts=100, undo_tries=3, by=Player):
     return None if player.is_tail(sheet) else (sheet.line, "tail")
 
 
-def told_verdict(prologue, text, attempts=1000, undo_tries=16):
+def with_clients(prologue, text):
+    """The prologue with clients c1, c2 and so on, as many as the text says; the prologue itself, if it names some."""
+    if re.search(rb"^[\t ]*job\b", prologue, re.M):
+        return prologue
+    clients = len(re.findall(rb"^job ", text, re.M))
+    return prologue + b"\n" + b"".join(b"job c%d\nend\n" % number for number in range(1, clients + 1))
+
+
+def told_verdict(prologue, text, attempts=ANY_ATTEMPTS, undo_tries=MOST_TRIES):
     """None if the text is a true one of clients over the prologue; else a line's number and the reason."""
-    if not re.search(rb"^[\t ]*job\b", prologue, re.M):
-        clients = len(re.findall(rb"^job ", text, re.M))
-        prologue += b"\n" + b"".join(b"job c%d\nend\n" % number for number in range(1, clients + 1))
-    return verdict(prologue, text, attempts, undo_tries, ToldPlayer)
+    return verdict(with_clients(prologue, text), text, attempts, undo_tries, ToldPlayer)
 
 
 def shown_verdict(found):
@@ -487,11 +491,22 @@ def answer(data, attempts=100, undo_tries=3):
     return shown_verdict((0, "toolong") if len(data) >= MOST_READ else verdict(*parted(data), attempts, undo_tries))
 
 
+def within(most):
+    """What reads a number from 1 to the most that there may be."""
+
+    def number(word):
+        if not re.fullmatch(r"\+?[0-9]+", word) or not 1 <= int(word) <= most:
+            raise argparse.ArgumentTypeError(f"{word} is no number from 1 to {most}")
+        return int(word)
+
+    return number
+
+
 def main():
     words = argparse.ArgumentParser(prog="tests/player.py", description="Judges a text of clients by its prologue.")
     words.add_argument("--prologue", required=True, type=pathlib.Path, metavar="FILE")
-    words.add_argument("--attempts", default=1000, type=int, metavar="N")
-    words.add_argument("--undo-tries", default=16, type=int, metavar="N")
+    words.add_argument("--attempts", default=ANY_ATTEMPTS, type=within(ANY_ATTEMPTS), metavar="N")
+    words.add_argument("--undo-tries", default=MOST_TRIES, type=within(MOST_TRIES), metavar="N")
     found = words.parse_args()
     verdict_found = told_verdict(found.prologue.read_bytes(), sys.stdin.buffer.read(), found.attempts, found.undo_tries)
     sys.stdout.write(shown_verdict(verdict_found))

@@ -1,29 +1,26 @@
 -- A transaction at its begin.
-use Rattle.std.proofs.Common.{◌≡◌, ℕ, zero, suc, ◌<◌, ◌≤◌, ◌^◌, true, false, List, [], ◌∷◌, length, Option, refl, ap, sym, ◌∙◌, subst, arith}
+use Rattle.std.proofs.Common.{◌≡◌, ℕ, zero, suc, ◌≤◌, Bool, true, false, List, [], ◌∷◌, Option, refl, ap, sym, ◌∙◌, subst, if◌then◌else◌}
 use Rattle.std.specs.Bool.{Decides}
-use Rattle.std.specs.Prelude.{All, IfOk, IsSome, OnOk, Result, Ok, Err, is_some, slice_get, unwrap_or}
+use Rattle.std.specs.Prelude.{IsSome, OnOk, Result, Ok, Err, is_some, slice_get, unwrap_or}
 use Rattle.std.specs.declared.option.Option.TheVariants.{None, Some}
-use Rattle.std.proofs.lemmas.List.Elements.{All-head, All-tail}
 use Rattle.xc_data.specs.declared.call.Reply.{Reply}
 use Rattle.xc_data.specs.declared.entry.Entry.{Entry}
-use Rattle.xc_data.specs.declared.memory.NoMemory.{NoMemory}
-use Rattle.xc_text.specs.declared.script.Block.{Block}
 use Rattle.xc_text.specs.declared.script.Script.{Script}
-use Rattle.xc_text.specs.Scripts.{IsBlock, IsScript}
+use Rattle.xc_text.specs.Scripts.{IsScript}
 use Rattle.xc_text.specs.Stated.{Statement}
 use Rattle.xc_script.specs.declared.ask.Ask.{Ask}
 use Rattle.xc_script.specs.declared.ask.Ask.TheVariants as ask
-use Rattle.xc_script.specs.Ask.{Job, next_body, transactions_at, transactions_of}
+use Rattle.xc_script.specs.Ask.{Job, next_body, transactions_at}
 use Rattle.xc_script.specs.Asking.{asks}
 use Rattle.xc_script.specs.Blocks.{BlockWalk, IsInner, after_ask, all_replied, block_from, replied}
 use Rattle.xc_script.specs.Position.{Position, at_begin, job_of}
 use Rattle.xc_script.specs.Values.{Variables}
 use Rattle.xc_script.specs.Walks.{past_silent}
-use Rattle.xc_script.proofs.Laws.{begins_inner, scripted_body}
-use Rattle.xc_model.specs.Asked.{AsksEach, IsAskedBy, asked_after}
-use Rattle.xc_model.specs.Live.{IsScripted}
+use Rattle.xc_script.proofs.Laws.{begins_inner}
+use Rattle.xc_model.specs.Asked.{AsksEach, IsAskedBy, ScriptJob, asked_after, last_asked}
+use Rattle.xc_model.specs.Live.{IsScripted, has_clients}
 use Rattle.xc_asked.specs.declared.script_job.Followed.{Followed}
-use Rattle.xc_asked.specs.Walking.{walk_there}
+use Rattle.xc_asked.specs.Walking.{AreFew, client_end, last_told, told_of, walk_there}
 
 -- ---- where a transaction begins
 -- whatever is kept for an abort
@@ -60,39 +57,50 @@ asked_at_end script job replies is =
     ap (λ (body : List Statement). asks (past_silent job.variables 0 false body)) (none_of (next_body script job) is) in
     sym (ap (λ (b : BlockWalk). asks b.walk) (stays (block_from script job) replies commit) ∙ commit)
 
--- ---- the numbers of transactions fit
-few_there : (blocks : List Block) (i : ℕ) → All IsBlock blocks → length (transactions_of (slice_get blocks i)) ≤ 1000
-few_there [] i all = omega arith
-few_there (b ∷ blocks) zero all = (All-head IsBlock b blocks all).transactions
-few_there (b ∷ blocks) (suc i) all = few_there blocks i (All-tail IsBlock b blocks all)
-
-some_within : {A : Type 0} (xs : List A) (i : ℕ) → is_some (slice_get xs i) ≡ true → i < length xs
-some_within [] i is = absurd (let no : false ≡ true = is in cc)
-some_within (x ∷ xs) zero is = omega arith
-some_within (x ∷ xs) (suc i) is = let less = some_within xs i is in omega (arith, less)
-
--- where a transaction is left
-pub few_next : (script : Script) (job : Job) (next : ℕ) → IsScript script → IsScripted script → is_some (next_body script job) ≡ true
-    → next ≡ job.next → next < 2 ^ 32
-few_next script job next read own left same =
-    let less = some_within (transactions_at script job.block) job.next (sym (ap is_some (scripted_body script job own)) ∙ left) in
-    let few = few_there script.blocks job.block read.each_block in
-    omega (arith, less, few, same)
-
 -- ---- what is decided of an entry
-some_left : (o : Option (List Statement)) → is_some o ≡ true → IsSome o
-some_left None is = absurd (let no : false ≡ true = is in cc)
-some_left (Some body) is = refl
-
 -- of a script whose blocks ask it is asked just where its calls are
-pub decided_asked : (script : Script) (job : Job) (e : Entry) (r : Result Followed NoMemory) → IsScripted script → is_some (next_body script job) ≡ true
-    → IfOk r (λ f. f.last ≡ asked_after script job e.replies) → IfOk r (λ f. Decides f.is_asked (AsksEach (block_from script job) e.calls e.replies))
-    → IfOk r (λ f. Decides f.is_asked (IsAskedBy script job f.last e))
-decided_asked script job e (Ok f) own left last asked = (
-  λ yes. record { left = some_left (next_body script job) left; scripted = λ _. record { calls = asked.0 yes; after = last } },
+pub asked_by_block : (script : Script) (job : Job) (e : Entry) (f : Followed) → IsScripted script → IsSome (next_body script job)
+    → f.last ≡ asked_after script job e.replies → Decides f.is_asked (AsksEach (block_from script job) e.calls e.replies)
+    → Decides f.is_asked (IsAskedBy script job f.last e)
+asked_by_block script job e f own left last asked = (
+  λ yes. record { left = left; scripted = λ _. record { calls = asked.0 yes; after = last } },
   λ is. asked.1 (is.scripted own).calls,
 )
-decided_asked script job e (Err n) own left last asked = tt
+
+-- where clients ask it always is
+pub asked_by_client : (script : Script) (job : Job) (last : Ask) (e : Entry) → has_clients script ≡ true → IsSome (next_body script job)
+    → IsAskedBy script job last e
+asked_by_client script job last e clients left =
+    record { left = left; scripted = λ own. let both : true ≡ false = sym clients ∙ own in cc both }
+
+-- what was asked last, where clients ask
+pub told_by_client : (script : Script) (o : Option ScriptJob) (e : Entry) → has_clients script ≡ true → client_end e.outcome ≡ last_told script o e
+told_by_client script o e clients = subst (λ b. client_end e.outcome ≡ told_of b script o e) (sym clients) refl
+
+-- what was asked last, where a script does
+pub told_by_block : (script : Script) (o : Option ScriptJob) (e : Entry) → IsScripted script → last_asked script o e.replies ≡ last_told script o e
+told_by_block script o e own = subst (λ b. last_asked script o e.replies ≡ told_of b script o e) (sym own) refl
+
+-- where no transaction is left a script asks
+scripted_end : (script : Script) (job : Job) → is_some (next_body script job) ≡ false → IsScripted script
+scripted_end script job none = go (has_clients script) refl
+  where
+    go : (b : Bool) → has_clients script ≡ b → b ≡ false
+    go false is = refl
+    go true is =
+        let some : is_some (next_body script job) ≡ true =
+        ap (λ (b : Bool). is_some (if b then Some [] else slice_get (transactions_at script job.block) job.next)) is in
+        cc (some, none)
+
+-- and a commit is told
+pub told_at_end : (script : Script) (j : ScriptJob) (e : Entry) → is_some (next_body script j.job) ≡ false → ask.Commit ≡ last_told script (Some j) e
+told_at_end script j e none = asked_at_end script j.job e.replies none ∙ told_by_block script (Some j) e (scripted_end script j.job none)
+
+-- ---- how far jobs have come
+pub few_at : (count : ℕ) (jobs : List ScriptJob) (at : ℕ) (j : ScriptJob) → AreFew count jobs → slice_get jobs at ≡ Some j → j.job.next ≤ count
+few_at count [] at j few is = absurd (let none : None ≡ Some j = is in cc)
+few_at count (x ∷ jobs) zero j few is = let same : x ≡ j = cc is in subst (λ (y : ScriptJob). y.job.next ≤ count) same few.0
+few_at count (x ∷ jobs) (suc at) j few is = few_at count jobs at j few.1 is
 
 -- ---- results
 pub from_ok : {A E : Type 0} (r : Result A E) (x : A) (P : Type 0) → r ≡ Ok x → OnOk r P → P

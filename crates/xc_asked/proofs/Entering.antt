@@ -13,7 +13,7 @@ use Rattle.xc_model.specs.Asked.{IsAskedBy, IsAskedEntry, ScriptJob, StartsJobs,
 use Rattle.xc_asked.specs.Walking.{children, job_entered, job_outcome}
 
 -- something stands at each place within
-there : {A : Type 0} (xs : List A) (at : ℕ) → at < length xs → (x : A) × (slice_get xs at ≡ Some x)
+pub there : {A : Type 0} (xs : List A) (at : ℕ) → at < length xs → (x : A) × (slice_get xs at ≡ Some x)
 there [] at within = absurd (omega (arith, within))
 there (x ∷ xs) zero within = (x, refl)
 there (x ∷ xs) (suc at) within = there xs at (omega (arith, within))

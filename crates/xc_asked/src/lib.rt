@@ -1,8 +1,9 @@
 //! What a script asked of the jobs of a journal: the started jobs, each before its next transaction, and whether the calls of an entry
-//! are the script's.
+//! are the script's. Where clients ask, any calls are theirs.
 #![tactic(auto)]
 
 mod blocks;
+mod clients;
 mod kept;
 mod same_call;
 mod script_job;

@@ -1,7 +1,6 @@
 ghost use Rattle.std.specs.Bool.{Decides};
-ghost use Rattle.std.specs.Prelude.{◌≡◌, ◌+◌, ◌<◌, ◌^◌, if◌then◌else◌, IfOk, IsSome, OnOk, is_some, true};
-ghost use Rattle.xc_asked.specs.Walking.{IsBehindReplies, job_outcome};
-ghost use Rattle.xc_model.specs.Live.{IsScripted};
+ghost use Rattle.std.specs.Prelude.{◌≡◌, ◌+◌, ◌<◌, ◌^◌, if◌then◌else◌, IfOk, IsSome, List, OnOk, Some, is_some, true, ℕ};
+ghost use Rattle.xc_asked.specs.Walking.{IsBehindReplies, job_outcome, last_told};
 ghost use Rattle.xc_model.specs.Asked.{AsksEach, IsAskedBy, asked_after, job_abort, script_started};
 ghost use Rattle.xc_script.specs.Ask.{Job, block_place, fresh_job, next_body};
 ghost use Rattle.xc_script.specs.Blocks.{block_from};
@@ -10,6 +9,7 @@ ghost use Rattle.xc_text.specs.Scripts.{IsScript};
 ghost use Rattle.xc_text.specs.declared.script.Script.{Script as PlainScript};
 
 use crate::blocks::block_place;
+use crate::clients::client_end;
 use crate::walk::follow;
 use std::alloc::Global;
 use std::marker::Model;
@@ -20,9 +20,9 @@ use xc_text::Script;
 /// What a script asked of an entry's transaction.
 #[derive(Drop)]
 pub struct Followed {
-    /// What was asked after its last reply, also where the calls aren't the script's.
+    /// What was asked after its last reply, also where the calls aren't the script's; of a client as far as a text tells it.
     pub last: Ask,
-    /// Each of its calls was asked.
+    /// Each of its calls was asked. Clients may ask any.
     pub is_asked: bool,
 }
 
@@ -46,8 +46,8 @@ impl Model for ScriptJob {
     ghost invariant = { λ a. a.place ≡ at_begin (job_of a.place) };
 }
 
-// Follows an entry of the job at this place, which has a transaction left.
-fn walk(place: &mut JobState, script: &Script, entry: &Entry) -> Result<Followed, NoMemory>
+// Follows an entry of the job at this place, which has a transaction left, by its block.
+fn walk_block(place: &mut JobState, script: &Script, entry: &Entry) -> Result<Followed, NoMemory>
     requires read { IsScript script.now }
     requires left { IsSome (next_body script.now (job_of place.old)) }
     requires begin { place.old ≡ at_begin (job_of place.old) }
@@ -65,6 +65,26 @@ fn walk(place: &mut JobState, script: &Script, entry: &Entry) -> Result<Followed
     )?;
     let last = place.ask(script)?;
     Ok(Followed { last, is_asked })
+}
+
+// Follows an entry of the job at this place, which has a transaction left. What a client asked is what the entry tells.
+fn walk(place: &mut JobState, script: &Script, entry: &Entry) -> Result<Followed, NoMemory>
+    requires read { IsScript script.now }
+    requires left { IsSome (next_body script.now (job_of place.old)) }
+    requires begin { place.old ≡ at_begin (job_of place.old) }
+    ensures last { (block : List ℕ) → IfOk result (λ f. f.last
+        ≡ last_told script.now (Some (record { block = block; job = job_of place.old })) entry.now) }
+    ensures asked { IfOk result (λ f. Decides f.is_asked (IsAskedBy script.now (job_of place.old) f.last entry.now)) }
+    ensures behind { OnOk result (IsBehindReplies script.now (job_of place.old) entry.now.replies place.new) }
+{
+    let followed = walk_block(place, script, entry)?;
+    if script.clients {
+        return Ok(Followed {
+            last: client_end(&entry.outcome),
+            is_asked: true,
+        });
+    }
+    Ok(followed)
 }
 
 // An abort for this cause is the end of its transaction.
@@ -139,8 +159,8 @@ impl ScriptJob {
     /// Follows an entry of the job. Where a call isn't the script's it goes back to where it was.
     pub(crate) fn follow(&mut self, script: &Script, entry: &Entry) -> Result<Followed, NoMemory>
         requires read { IsScript script.now }
-        requires scripted { IsScripted script.now }
-        ensures last { IfOk result (λ f. f.last ≡ asked_after script.now self.old.job entry.now.replies) }
+        requires few { self.old.job.next < 2 ^ 32 }
+        ensures last { IfOk result (λ f. f.last ≡ last_told script.now (Some self.old) entry.now) }
         ensures asked { IfOk result (λ f. Decides f.is_asked (IsAskedBy script.now self.old.job f.last entry.now)) }
         ensures after { IfOk result (λ f. f.is_asked ≡ true
             → self.new ≡ record self.old { job = job_outcome script.now self.old.job entry.now entry.now.outcome }) }

@@ -1,13 +1,14 @@
 ghost use Rattle.std.specs.Bool.{Decides};
-ghost use Rattle.std.specs.Prelude.{◌≡◌, ◌<◌, [], ◌∷◌, ◌++◌, List, ℕ, IfOk, OnOk, is_some, length, map, slice_get, slice_set, true};
+ghost use Rattle.std.specs.Prelude.{◌≡◌, ◌<◌, [], ◌∷◌, ◌++◌, ◌^◌, List, ℕ, IfOk, None, OnOk, true};
+ghost use Rattle.std.specs.Prelude.{is_some, length, map, slice_get, slice_set};
 ghost use Rattle.std.specs.declared.option.Option.TheVariants.{Some};
-ghost use Rattle.xc_asked.specs.Walking.{children, job_entered, opened_script_job};
-ghost use Rattle.xc_model.specs.Live.{IsScripted};
-ghost use Rattle.xc_model.specs.Asked.{IsAskedBy, IsAskedEntry, ScriptJob as PlainJob, StartsJobs, after_jobs, asked_after, last_asked};
+ghost use Rattle.xc_asked.specs.Walking.{AreFew, children, job_entered, last_told, opened_script_job};
+ghost use Rattle.xc_model.specs.Asked.{IsAskedBy, IsAskedEntry, ScriptJob as PlainJob, StartsJobs, after_jobs};
 ghost use Rattle.xc_model.specs.Asked.{opening_jobs, script_job_of, script_started};
 ghost use Rattle.xc_script.specs.Ask.{next_body};
 ghost use Rattle.xc_text.specs.Scripts.{IsScript};
 
+use crate::clients::client_end;
 use crate::kept::started;
 use crate::script_job::{Followed, ScriptJob};
 use crate::starts::are_starts;
@@ -79,6 +80,16 @@ fn start_jobs(
     Ok(())
 }
 
+// What was asked last of an entry whose job isn't started.
+fn last_of_none(script: &Script, entry: &Entry) -> Ask
+    ensures { result ≡ last_told script.now None entry.now }
+{
+    if script.clients {
+        return client_end(&entry.outcome);
+    }
+    Ask::End
+}
+
 // Follows an entry of the job at a place.
 #[tactic(auto, using(std::proofs::lemmas::Option::get_or_from_slice_get))]
 fn follow_at(
@@ -88,11 +99,11 @@ fn follow_at(
     entry: &Entry,
 ) -> Result<Followed, NoMemory>
     requires read { IsScript script.now }
-    requires scripted { IsScripted script.now }
     requires place { at < length jobs.old.items }
+    requires few { (count : ℕ) × AreFew count jobs.old.items × (count < 2 ^ 32) }
     ensures count { length jobs.new.items ≡ length jobs.old.items }
     ensures followed { (j : PlainJob) → slice_get jobs.old.items at ≡ Some j
-        → IfOk result (λ f. (f.last ≡ asked_after script.now j.job entry.now.replies)
+        → IfOk result (λ f. (f.last ≡ last_told script.now (Some j) entry.now)
         × Decides f.is_asked (IsAskedBy script.now j.job f.last entry.now)
         × (f.is_asked ≡ true → jobs.new.items ≡ slice_set jobs.old.items at (job_entered script.now j entry.now))) }
 {
@@ -170,15 +181,15 @@ impl ScriptJobs {
     /// didn't, the jobs may stand anywhere.
     pub fn follow(&mut self, script: &Script, entry: &Entry) -> Result<Followed, NoMemory>
         requires read { IsScript script.now }
-        requires scripted { IsScripted script.now }
-        ensures last { IfOk result (λ f. f.last ≡ last_asked script.now (script_job_of self.old entry.now) entry.now.replies) }
+        requires few { (count : ℕ) × AreFew count self.old × (count < 2 ^ 32) }
+        ensures last { IfOk result (λ f. f.last ≡ last_told script.now (script_job_of self.old entry.now) entry.now) }
         ensures asked { IfOk result (λ f. Decides f.is_asked (IsAskedEntry script.now self.old f.last entry.now)) }
         ensures after { IfOk result (λ f. f.is_asked ≡ true → self.new ≡ after_jobs script.now self.old entry.now) }
     {
         let at = entry.job.saturating_sub(1) as usize;
         if self.jobs.len() <= at {
             return Ok(Followed {
-                last: Ask::End,
+                last: last_of_none(script, entry),
                 is_asked: false,
             });
         }

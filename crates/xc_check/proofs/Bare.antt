@@ -9,6 +9,7 @@ use Rattle.xc_data.specs.declared.entry.Outcome.{Outcome}
 use Rattle.xc_data.specs.declared.entry.Outcome.TheVariants.{Committed, Aborted}
 use Rattle.xc_judge.specs.Judged.{telling_terms}
 use Rattle.xc_judge.specs.Stepped.{MeetsSo}
+use Rattle.xc_judge.specs.declared.basis.Basis.{Basis}
 use Rattle.xc_judge.specs.declared.reason.Reason.{Reason}
 use Rattle.xc_judge.specs.declared.reason.Reason.TheVariants as reason
 use Rattle.xc_model.specs.Asked.{IsAskedEntry, ScriptJob, StartsJobs, after_jobs, jobs_behind, jobs_outcome, script_job_of}
@@ -16,13 +17,12 @@ use Rattle.xc_model.specs.Course.{Course, Standing}
 use Rattle.xc_model.specs.EntryEnds.{IsHeld, IsHeldAt}
 use Rattle.xc_model.specs.Machine.{HasLates, IsAttempt, IsMachineTrue}
 use Rattle.xc_model.specs.Progress.{body_of}
-use Rattle.xc_model.specs.declared.rules.Rules.{Rules}
 use Rattle.xc_script.specs.declared.ask.Ask.{Ask}
 use Rattle.xc_shown.specs.Shown.{bare, bare_outcome, shown_of}
 use Rattle.xc_text.specs.declared.script.Script.{Script}
 
 -- a value is known by its option
-some_same : {A : Type 0} → (x y : A) → Some x ≡ Some y → x ≡ y
+pub some_same : {A : Type 0} → (x y : A) → Some x ≡ Some y → x ≡ y
 some_same x y h = ap (λ o. unwrap_or o x) h
 
 module _ (e : Entry) where
@@ -66,8 +66,8 @@ module _ (e : Entry) where
       }
 
   -- ---- the machine's part
-  module _ (rules : Rules) (c : Course) (last : Ask) where
-    lates_bare : (o : Outcome) → HasLates (telling_terms rules) c e o → HasLates (telling_terms rules) c (bare e) (bare_outcome o)
+  module _ (basis : Basis) (c : Course) (last : Ask) where
+    lates_bare : (o : Outcome) → HasLates (telling_terms basis) c e o → HasLates (telling_terms basis) c (bare e) (bare_outcome o)
     lates_bare (Committed late) h =
         record { count = h.count; played = λ t. record { ends = (h.played t).ends; late_fits = (h.played t).late_fits } }
     lates_bare (Aborted report) h = tt
@@ -80,7 +80,7 @@ module _ (e : Entry) where
     held_bare (Aborted report) h = h
 
     -- a true entry meets each reason as it is shown
-    pub meets_each : IsMachineTrue (telling_terms rules) c last e → (r : Reason) → MeetsSo rules c last (shown_of e) r
+    pub meets_each : IsMachineTrue (telling_terms basis) c last e → (r : Reason) → MeetsSo basis c last (shown_of e) r
     meets_each h reason.Numbers =
         record {
           standing = h.standing;
@@ -107,7 +107,7 @@ module _ (e : Entry) where
       record {
         attempt = λ f started.
             let same : h.standing ≡ f = some_same h.standing f (sym h.started ∙ started) in
-            subst (λ (g : Standing). IsAttempt rules.attempts g e) same h.entry.story;
+            subst (λ (g : Standing). IsAttempt (telling_terms basis) g e) same h.entry.story;
         asked = h.entry.asked;
       },
     )

@@ -3,14 +3,14 @@ use Rattle.std.proofs.Common.{◌≡◌, ◌∙◌, ℕ, suc, List, [], ◌∷�
 use Rattle.std.specs.List.{fold}
 use Rattle.xc_data.specs.declared.entry.Entry.{Entry}
 use Rattle.xc_grounds.specs.Numbered.{entry_begins, part_begins}
-use Rattle.xc_model.specs.Asked.{ScriptJob, after_jobs, lasts_from, opening_jobs}
+use Rattle.xc_model.specs.Asked.{ScriptJob, after_jobs, opening_jobs}
 use Rattle.xc_model.specs.Course.{Course, after_course, opening_course}
 use Rattle.xc_model.specs.Machine.{machine_parts}
 use Rattle.xc_model.specs.Progress.{Progress, after_entry, opening_progress, progress_of}
 use Rattle.xc_model.specs.Stories.{entry_begin}
 use Rattle.xc_text.specs.declared.script.Script.{Script}
 use Rattle.xc_turns.proofs.Laws.{course_in, course_more, course_opened, jobs_in, jobs_more, jobs_opened}
-use Rattle.xc_check.specs.Fronts.{course_behind, parts_of, script_behind}
+use Rattle.xc_check.specs.Fronts.{course_behind, parts_of, script_behind, told_from}
 
 -- ---- from any state on
 course_led : (script : Script) (p : Progress) (front : List Entry)
@@ -38,13 +38,13 @@ jobs_are script front =
 
 -- ---- what conflicts are judged by
 begins_from : (script : Script) (c : Course) (jobs : List ScriptJob) (front : List Entry)
-    → part_begins (machine_parts c (lasts_from script jobs front) front) ≡ entry_begins front
+    → part_begins (machine_parts c (told_from script jobs front) front) ≡ entry_begins front
 begins_from script c jobs [] = refl
 begins_from script c jobs (e ∷ front) =
     ap (λ (bs : List (ℕ × ℕ)). entry_begin e ∷ bs) (begins_from script (after_course c e) (after_jobs script jobs e) front)
 
 count_from : (script : Script) (c : Course) (jobs : List ScriptJob) (front : List Entry)
-    → length (machine_parts c (lasts_from script jobs front) front) ≡ length front
+    → length (machine_parts c (told_from script jobs front) front) ≡ length front
 count_from script c jobs [] = refl
 count_from script c jobs (e ∷ front) = ap suc (count_from script (after_course c e) (after_jobs script jobs e) front)
 

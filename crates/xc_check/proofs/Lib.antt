@@ -1,5 +1,8 @@
 mod Bare
+mod Clients
+mod Few
 mod Led
+mod Forgotten
 mod Places
 mod Stepping
 mod Texts
@@ -7,3 +10,4 @@ mod TrueEnds
 mod Truths
 mod Verdicts
 pub mod Fronts
+pub mod Laws

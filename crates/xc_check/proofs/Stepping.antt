@@ -1,10 +1,11 @@
 -- One entry more was judged.
 use Rattle.std.proofs.Common.{◌≡◌, ◌≢◌, ◌≤◌, ◌<◌, ◌+◌, ◌∙◌, ℕ, List, [], ◌∷◌, ◌++◌, length, map, reverse, refl, ap, subst, sym, arith}
-use Rattle.std.specs.Prelude.{All, Bool, slice_get, true}
+use Rattle.std.specs.Prelude.{All, slice_get, true}
 use Rattle.std.proofs.lemmas.List.{append_assoc, get_or_append_left, length-append, length-map, map-append, reverse-append}
 use Rattle.std.proofs.lemmas.Option.{get_or_from_slice_get, slice_get_within}
 use Rattle.std.specs.List.{fold}
 use Rattle.std.specs.declared.option.Option.TheVariants.{Some}
+use Rattle.xc_asked.specs.Walking.{last_told}
 use Rattle.xc_data.specs.declared.claim.Claim.{Claim}
 use Rattle.xc_data.specs.declared.entry.Entry.{Entry}
 use Rattle.xc_grounds.specs.Numbered.{AreNumbered, entry_begins}
@@ -13,11 +14,11 @@ use Rattle.xc_judge.specs.Stepped.{IsRefusedSo, IsSteppedTo, MeetsSo}
 use Rattle.xc_judge.specs.declared.reason.Reason.{Reason}
 use Rattle.xc_judge.specs.declared.reason.Reason.TheVariants as reason
 use Rattle.xc_judge.specs.declared.stepped.Stepped.{Stepped}
-use Rattle.xc_model.specs.Asked.{AreAskedBy, IsAskedEntry, ScriptJob, after_jobs, last_asked, lasts_of, opening_jobs, script_job_of}
+use Rattle.xc_model.specs.Asked.{AreAskedBy, IsAskedEntry, ScriptJob, after_jobs, opening_jobs, script_job_of}
 use Rattle.xc_model.specs.Course.{Course, after_course, opening_course}
 use Rattle.xc_model.specs.EntryEnds.{cause_in, next_claims}
 use Rattle.xc_model.specs.Grounds.{Part}
-use Rattle.xc_model.specs.Machine.{AreMachineTrue, IsMachineTrue, machine_part}
+use Rattle.xc_model.specs.Machine.{AreMachineTrue, IsMachineTrue, Terms, machine_part}
 use Rattle.xc_model.specs.Progress.{body_of}
 use Rattle.xc_model.specs.Stories.{entry_begin}
 use Rattle.xc_model.specs.Setting.{Setting}
@@ -25,12 +26,14 @@ use Rattle.xc_model.specs.Truth.{terms_of}
 use Rattle.xc_script.specs.declared.ask.Ask.{Ask}
 use Rattle.xc_shown.specs.Shown.{shown_of}
 use Rattle.xc_shown.specs.declared.shown.Shown.{Shown}
-use Rattle.xc_check.specs.Fronts.{begins_shown, course_behind, last_behind, parts_of, script_behind}
+use Rattle.xc_check.specs.Fronts.{begins_shown, course_behind, last_behind, lasts_told, parts_of, script_behind}
 use Rattle.xc_check.specs.Judging.{IsJudged, IsNewTo}
 use Rattle.xc_check.specs.Refusals.{IsRefusedBehind, IsRefusedIn, MeetsBehind, MeetsSoBehind}
+use Rattle.xc_check.specs.Untold.{basis_of}
 use Rattle.xc_check.specs.declared.judging.Judging.{Judging}
 use Rattle.xc_check.proofs.Bare.{asked_bare, after_bare, meets_each}
-use Rattle.xc_check.proofs.Fronts.{entry_asked_more, machine_more, machine_parts_more, fold_more}
+use Rattle.xc_check.proofs.Clients.{last_bare}
+use Rattle.xc_check.proofs.Fronts.{entry_asked_more, machine_more, machine_parts_more, fold_more, terms_tell}
 use Rattle.xc_turns.proofs.Laws.{get_front}
 
 -- ---- numbers
@@ -86,9 +89,9 @@ begins_shown_with front before shown shows =
 
 -- what was asked last of an entry, by the jobs that a judging has
 pub last_of : (s : Setting) (count : ℕ) (before : List Shown) (shown : Shown) (j : Judging) (last : Ask) (judged : IsJudged s count before j)
-    → last ≡ last_asked s.script (script_job_of j.jobs shown.entry) shown.entry.replies → last ≡ last_behind s.script judged.front shown.entry
+    → last ≡ last_told s.script (script_job_of j.jobs shown.entry) shown.entry → last ≡ last_behind s.script judged.front shown.entry
 last_of s count before shown j last judged asked =
-    asked ∙ ap (λ (jobs : List ScriptJob). last_asked s.script (script_job_of jobs shown.entry) shown.entry.replies) judged.asked
+    asked ∙ ap (λ (jobs : List ScriptJob). last_told s.script (script_job_of jobs shown.entry) shown.entry) judged.asked
 
 -- what an entry is judged by is what the machine says
 pub part_is : (part : Part) (c : Course) (last : Ask) (e : Entry) (wanted : List Claim) → wanted ≡ next_claims (body_of c.state e) last
@@ -162,7 +165,7 @@ module _ (s : Setting) (count : ℕ) (front : List Entry) (shown : Shown) where
     meets_by r reason.Story lower m = absurd (top_place r lower)
 
     -- by the machine behind a front
-    refused_behind : (r : Reason) → IsRefusedSo s.rules (course_behind s.script front) (last_behind s.script front shown.entry) shown r
+    refused_behind : (r : Reason) → IsRefusedSo (basis_of s) (course_behind s.script front) (last_behind s.script front shown.entry) shown r
         → IsRefusedBehind s count front shown r
     refused_behind r h = record { fails = fails_by r h.fails; before = λ other lower. meets_by r other lower (h.before other lower) }
 
@@ -173,29 +176,29 @@ module _ (s : Setting) (count : ℕ) (front : List Entry) (shown : Shown) where
 
 module _ (s : Setting) (count : ℕ) (before : List Shown) (shown : Shown) (j : Judging) (last : Ask) (judged : IsJudged s count before j)
     (numbered : AreNumbered count (begins_shown (before ++ shown ∷ [])))
-    (asked : last ≡ last_asked s.script (script_job_of j.jobs shown.entry) shown.entry.replies) where
+    (asked : last ≡ last_told s.script (script_job_of j.jobs shown.entry) shown.entry) where
   numbered_behind : AreNumbered count (entry_begins judged.front ++ entry_begin shown.entry ∷ [])
   numbered_behind = subst (λ bs. AreNumbered count bs) (begins_shown_with judged.front before shown judged.shows) numbered
 
   -- by the machine behind entries that are shown so
-  pub refused_in : (r : Reason) → IsRefusedSo s.rules j.progress last shown r → IsRefusedIn s count before shown r
+  pub refused_in : (r : Reason) → IsRefusedSo (basis_of s) j.progress last shown r → IsRefusedIn s count before shown r
   refused_in r refused =
       let front = judged.front in
-      let moved : IsRefusedSo s.rules (course_behind s.script front) (last_behind s.script front shown.entry) shown r =
-      subst (λ (x : Ask). IsRefusedSo s.rules (course_behind s.script front) x shown r) (last_of s count before shown j last judged asked)
-      (subst (λ (c : Course). IsRefusedSo s.rules c last shown r) judged.course refused) in
+      let moved : IsRefusedSo (basis_of s) (course_behind s.script front) (last_behind s.script front shown.entry) shown r =
+      subst (λ (x : Ask). IsRefusedSo (basis_of s) (course_behind s.script front) x shown r) (last_of s count before shown j last judged asked)
+      (subst (λ (c : Course). IsRefusedSo (basis_of s) c last shown r) judged.course refused) in
       record { front = front; shows = judged.shows; is_true = judged.is_true; refused = refused_behind s count front shown numbered_behind r moved }
 
   -- by the script behind entries that are shown so
-  pub unasked_in : (to : Stepped) → IsSteppedTo s.rules j.progress last shown to → (IsAskedEntry s.script j.jobs last shown.entry → ⊥)
+  pub unasked_in : (to : Stepped) → IsSteppedTo (basis_of s) j.progress last shown to → (IsAskedEntry s.script j.jobs last shown.entry → ⊥)
       → IsRefusedIn s count before shown reason.Story
   unasked_in to stepped f =
       let front = judged.front in
-      let all : (r : Reason) → MeetsSo s.rules j.progress last shown r =
-      λ r. subst (λ (x : Shown). MeetsSo s.rules j.progress last x r) stepped.shows (meets_each to.entry s.rules j.progress last stepped.true r) in
+      let all : (r : Reason) → MeetsSo (basis_of s) j.progress last shown r =
+      λ r. subst (λ (x : Shown). MeetsSo (basis_of s) j.progress last x r) stepped.shows (meets_each to.entry (basis_of s) j.progress last stepped.true r) in
       let moved : (r : Reason) → MeetsSoBehind s front shown r =
-      λ r. subst (λ (x : Ask). MeetsSo s.rules (course_behind s.script front) x shown r) (last_of s count before shown j last judged asked)
-      (subst (λ (c : Course). MeetsSo s.rules c last shown r) judged.course (all r)) in
+      λ r. subst (λ (x : Ask). MeetsSo (basis_of s) (course_behind s.script front) x shown r) (last_of s count before shown j last judged asked)
+      (subst (λ (c : Course). MeetsSo (basis_of s) c last shown r) judged.course (all r)) in
       record {
         front = front;
         shows = judged.shows;
@@ -207,26 +210,28 @@ module _ (s : Setting) (count : ℕ) (before : List Shown) (shown : Shown) (j : 
       }
 
   -- ---- an entry that was entered
-  module _ (next : Judging) (to : Stepped) (stepped : IsSteppedTo s.rules j.progress last shown to)
+  module _ (next : Judging) (to : Stepped) (stepped : IsSteppedTo (basis_of s) j.progress last shown to)
       (told : IsAskedEntry s.script j.jobs last shown.entry) (tells : s.tells ≡ true) where
     abbrev front_more : List Entry
     front_more = judged.front ++ to.entry ∷ []
 
     last_to : last ≡ last_behind s.script judged.front to.entry
-    last_to = subst (λ (x : Shown). last ≡ last_behind s.script judged.front x.entry) (sym stepped.shows) (last_of s count before shown j last judged asked)
+    last_to =
+        subst (λ (x : Shown). last ≡ last_behind s.script judged.front x.entry) (sym stepped.shows) (last_of s count before shown j last judged asked)
+        ∙ last_bare s.script (script_job_of (script_behind s.script judged.front) to.entry) to.entry
 
-    machine_to : AreMachineTrue (terms_of s) (opening_course s.script.outline) (lasts_of s.script front_more) front_more
+    machine_to : AreMachineTrue (terms_of s) (opening_course s.script.outline) (lasts_told s.script front_more) front_more
     machine_to = machine_more s.script to.entry (terms_of s) (opening_course s.script.outline) (opening_jobs s.script) judged.front
         judged.is_true.machine
         (subst (λ (x : Ask). IsMachineTrue (terms_of s) (course_behind s.script judged.front) x to.entry) last_to
         (subst (λ (c : Course). IsMachineTrue (terms_of s) c last to.entry) judged.course
-        (subst (λ (t : Bool). IsMachineTrue (record { rules = s.rules; tells = t }) j.progress last to.entry) (sym tells) stepped.true)))
+        (subst (λ (t : Terms). IsMachineTrue t j.progress last to.entry) (sym (terms_tell s tells)) stepped.true)))
 
     told_to : IsAskedEntry s.script j.jobs last to.entry
     told_to = asked_bare to.entry s.script j.jobs last
         (subst (λ (x : Shown). IsAskedEntry s.script j.jobs last x.entry) (sym stepped.shows) told)
 
-    asked_to : AreAskedBy s.script (opening_jobs s.script) (lasts_of s.script front_more) front_more
+    asked_to : AreAskedBy s.script (opening_jobs s.script) (lasts_told s.script front_more) front_more
     asked_to = entry_asked_more s.script to.entry (opening_jobs s.script) judged.front judged.is_true.asked
         (subst (λ (x : Ask). IsAskedEntry s.script (script_behind s.script judged.front) x to.entry) last_to
         (subst (λ (jobs : List ScriptJob). IsAskedEntry s.script jobs last to.entry) judged.asked told_to))

@@ -1,6 +1,6 @@
 -- What the lines of a text are, and what a verdict on it says of the whole.
-use Rattle.std.proofs.Common.{◌≡◌, ◌∙◌, inl, inr, ◌+◌, ◌<◌, ◌≤◌, ℕ, suc, All, Err, IfOk, List, [], ◌∷◌, ◌++◌, Ok, length, ap, sym, subst, arith}
-use Rattle.std.specs.Prelude.{Result, true, false}
+use Rattle.std.proofs.Common.{◌≡◌, ◌∙◌, inl, inr, ◌+◌, ◌<◌, ◌≤◌, ℕ, suc, All, Err, IfOk, List, [], ◌∷◌, ◌++◌, Ok, length, refl, ap, sym, subst, arith}
+use Rattle.std.specs.Prelude.{Bool, Result, true, false}
 use Rattle.std.proofs.lemmas.Bool.{cases_lt}
 use Rattle.std.proofs.lemmas.List.{length-append}
 use Rattle.std.proofs.lemmas.List.Elements.{All-head, All-tail}
@@ -8,8 +8,9 @@ use Rattle.xc_data.specs.declared.entry.Entry.{Entry}
 use Rattle.xc_data.specs.declared.entry.JobLine.{JobLine}
 use Rattle.xc_data.specs.declared.entry.KeptItem.{KeptItem}
 use Rattle.xc_data.specs.declared.memory.NoMemory.{NoMemory}
+use Rattle.xc_judge.specs.declared.basis.Basis.{Basis}
+use Rattle.xc_model.specs.Live.{has_clients}
 use Rattle.xc_model.specs.Setting.{Setting}
-use Rattle.xc_model.specs.declared.rules.Rules.{Rules}
 use Rattle.xc_print.specs.Text.{rendered}
 use Rattle.xc_sheet.specs.EndRanges.{IsEndInRange}
 use Rattle.xc_sheet.specs.Lines.{line_text}
@@ -22,15 +23,16 @@ use Rattle.xc_sheet.specs.declared.sheet.Unreadable.{Unreadable}
 use Rattle.xc_sheet.specs.declared.sheet.Unreadable.TheVariants.{TooLong}
 use Rattle.xc_shown.specs.Shown.{IsPlain, IsReplied, bare, is_of_entry, lines_of_shown, shown_lines}
 use Rattle.xc_shown.specs.declared.shown.Shown.{Shown}
-use Rattle.xc_text.specs.Scripts.{parse_of}
+use Rattle.xc_text.proofs.Laws.{of_clients}
+use Rattle.xc_text.specs.Scripts.{IsScript, parse_of}
 use Rattle.xc_text.specs.declared.script.Script.{Script}
 use Rattle.xc_check.specs.Refusals.{IsFalseText, IsFirstFalse, IsPlainlyShown, IsScriptAnd, IsShownBy}
-use Rattle.xc_check.specs.TrueTexts.{IsTrueAsPrinted, telling}
-use Rattle.xc_check.specs.Verdicts.{AcceptsTrueTexts, IsVerdict, IsVerdictIn, IsVerdictOn}
+use Rattle.xc_check.specs.TrueTexts.{IsTrueAsPrinted, script_by, telling_by}
+use Rattle.xc_check.specs.Verdicts.{AcceptsTrueTexts, IsAccepting, IsVerdict, IsVerdictIn, IsVerdictOn}
 use Rattle.xc_check.specs.declared.verdict.CheckWhy.{CheckWhy}
 use Rattle.xc_check.specs.declared.verdict.CheckWhy.TheVariants as why
 use Rattle.xc_check.specs.declared.verdict.Verdict.{Verdict}
-use Rattle.xc_check.specs.declared.verdict.Verdict.TheVariants.{No, Yes}
+use Rattle.xc_check.specs.declared.verdict.Verdict.TheVariants.{No, Untold, Yes}
 use Rattle.xc_check.proofs.Truths.{true_text}
 
 -- ---- how many lines there are
@@ -63,9 +65,9 @@ front_within lines entries tail parts =
     omega (arith, size)
 
 -- ---- of a verdict
-module _ (script : List ℕ) (rules : Rules) (text : List ℕ) (read : Script) (short : length text ≤ 67108864) (parsed : parse_of script ≡ Ok read) where
+module _ (script : List ℕ) (basis : Basis) (text : List ℕ) (read : Script) (short : length text ≤ 67108864) (parsed : parse_of script ≡ Ok read) where
   -- a reason for which it is false is the first one
-  pub first_false : (line : ℕ) (r : CheckWhy) → IsFalseText (telling read rules) text line r → IsFirstFalse script rules text line r
+  pub first_false : (line : ℕ) (r : CheckWhy) → IsFalseText (telling_by basis read) text line r → IsFirstFalse script basis text line r
   first_false line why.TooLong h = absurd h.false_in
   first_false line why.Script h = absurd h.false_in
   first_false line why.Form h = absurd h.false_in
@@ -74,9 +76,10 @@ module _ (script : List ℕ) (rules : Rules) (text : List ℕ) (read : Script) (
   first_false line why.Tail h = (short, read, parsed, h)
 
   -- a verdict on a text whose script is in the grammar
-  pub verdict_with : (verdict : Verdict) → IsVerdictOn (telling read rules) text verdict → IsVerdict script rules text verdict
+  pub verdict_with : (verdict : Verdict) → IsVerdictOn (telling_by basis read) text verdict → IsVerdict script basis text verdict
   verdict_with Yes says = (short, read, parsed, says)
   verdict_with (No line r) says = first_false line r says
+  verdict_with (Untold line) says = (short, read, parsed, says)
 
 -- ---- of entries and the lines behind them
 -- what each entry that was parted shows
@@ -98,6 +101,8 @@ pub verdict_on : (s : Setting) (entries : List Shown) (tail lines : List Line) (
 verdict_on s entries tail lines text parts whole shown tells Yes says = true_text s entries tail lines text tells says parts whole.written
 verdict_on s entries tail lines text parts whole shown tells (No line r) says =
     record { entries = entries; tail = tail; shown = shown; false_in = says }
+verdict_on s entries tail lines text parts whole shown tells (Untold line) says =
+    record { entries = entries; tail = tail; shown = shown; untold_in = says }
 
 -- ---- of what was read
 -- what was read isn't too long
@@ -114,10 +119,26 @@ pub one_script : (bytes : List ℕ) (a b : Script) → parse_of bytes ≡ Ok a �
 one_script bytes a b is other = let same = sym is ∙ other in cc
 
 -- what holds of the text of each true end where there is a verdict
-pub where_accepted : (script : List ℕ) (rules : Rules) (text : List ℕ) (r : Result Verdict NoMemory)
+pub where_accepted : (script : List ℕ) (basis : Basis) (text : List ℕ) (r : Result Verdict NoMemory)
     → ((journal : List Entry) (jobs : List JobLine) (words : List ℕ) (kept : List KeptItem) → IsEndInRange journal jobs words kept
-    → IsScriptAnd script rules text (λ s. IsTrueAsPrinted s journal jobs words kept) → text ≡ rendered journal jobs words kept
-    → IfOk r (λ (verdict : Verdict). verdict ≡ Yes))
-    → IfOk r (AcceptsTrueTexts script rules text)
-where_accepted script rules text (Ok verdict) h = h
-where_accepted script rules text (Err e) h = tt
+    → IsScriptAnd script basis text (λ s. IsTrueAsPrinted s journal jobs words kept) → text ≡ rendered journal jobs words kept
+    → IfOk r (IsAccepting basis.clients))
+    → IfOk r (AcceptsTrueTexts script basis text)
+where_accepted script basis text (Ok verdict) h = h
+where_accepted script basis text (Err e) h = tt
+
+-- ---- of the script that was read, or of the prologue
+-- it is one
+pub is_script_by : (b : Bool) (read : Script) → IsScript read → IsScript (script_by b read)
+is_script_by false read h = h
+is_script_by true read h = of_clients read h
+
+-- with its outline
+pub outline_by : (b : Bool) (read : Script) → (script_by b read).outline ≡ read.outline
+outline_by false read = refl
+outline_by true read = refl
+
+-- and it is asked so
+pub clients_by : (b : Bool) (read : Script) → read.clients ≡ false → has_clients (script_by b read) ≡ b
+clients_by false read own = own
+clients_by true read own = refl

@@ -1,6 +1,7 @@
 -- What a verdict on entries and the lines behind them rests on.
-use Rattle.std.proofs.Common.{◌≡◌, ◌∙◌, ◌+◌, ◌<◌, Err, Ok, ℕ, zero, suc, List, [], ◌∷◌, ◌++◌, length, take, drop, refl, ap, sym, subst, arith}
-use Rattle.std.specs.Prelude.{MatchOption, MatchResult, Option, Result, true}
+use Rattle.std.proofs.Common.{◌≡◌, ◌∙◌, ◌+◌, ◌<◌, Err, Ok, ℕ, zero, suc, List, [], ◌∷◌, ◌++◌, length, take, drop}
+use Rattle.std.proofs.Common.{◌&&◌, Bool, true, false, refl, ap, sym, subst, arith}
+use Rattle.std.specs.Prelude.{MatchOption, MatchResult, Option, Result}
 use Rattle.std.specs.declared.option.Option.TheVariants.{None}
 use Rattle.std.proofs.lemmas.List.{append_assoc, length-append, length-map, take-append-drop}
 use Rattle.xc_grounds.specs.Groundless.{IsFirstGroundless}
@@ -10,6 +11,7 @@ use Rattle.xc_judge.specs.declared.reason.Reason.{Reason}
 use Rattle.xc_judge.specs.declared.reason.Reason.TheVariants as reason
 use Rattle.xc_model.specs.Course.{Course}
 use Rattle.xc_model.specs.Grounds.{AreGrounded, Part, scene_of}
+use Rattle.xc_model.specs.Live.{has_clients}
 use Rattle.xc_model.specs.Progress.{progress_of}
 use Rattle.xc_model.specs.Setting.{Setting}
 use Rattle.xc_model.specs.Stories.{entry_begin}
@@ -19,9 +21,11 @@ use Rattle.xc_shown.specs.Shown.{shown_of}
 use Rattle.xc_shown.specs.declared.shown.Shown.{Shown}
 use Rattle.xc_tail.specs.Tails.{IsTail, Led}
 use Rattle.xc_world.specs.World.{World}
-use Rattle.xc_check.specs.Fronts.{begins_shown, journal_led, parts_of}
+use Rattle.xc_check.specs.Fronts.{are_calls_known, begins_shown, journal_led, parts_of}
 use Rattle.xc_check.specs.Judging.{IsJudged}
 use Rattle.xc_check.specs.Refusals.{IsFalseGround, IsFalseTail, IsRefusedAt, line_behind}
+use Rattle.xc_check.specs.Stopped.{IsStoppedAt}
+use Rattle.xc_check.specs.Untold.{is_untold, lacked_memory}
 use Rattle.xc_check.specs.Verdicts.{AreTotalsOf, IsTrueIn}
 use Rattle.xc_check.specs.declared.entries.Refused.{Refused}
 use Rattle.xc_check.specs.declared.judging.Judging.{Judging}
@@ -56,19 +60,20 @@ module _ (s : Setting) (entries : List Shown) (j : Judging) (judged : IsJudged s
       (subst (λ bs. AreNumbered (length entries) bs) (sym (ap part_begins judged.parts_are ∙ parts_begin s.script judged.front)) judged.is_true.numbered)
 
   -- a conflict that isn't grounded
-  pub false_ground : (line place : ℕ) → IsFirstGroundless j.parts.items place → line ≡ line_behind (take place entries) → IsFalseGround s entries line
+  pub false_ground : (line place : ℕ) → IsFirstGroundless (are_calls_known s) j.parts.items place → line ≡ line_behind (take place entries)
+      → IsFalseGround s entries line
   false_ground line place h line_is =
       record {
         journal = judged.front;
         place = place;
         shows = judged.shows;
         is_true = judged.is_true;
-        groundless = subst (λ parts. IsFirstGroundless parts place) judged.parts_are h;
+        groundless = subst (λ parts. IsFirstGroundless (are_calls_known s) parts place) judged.parts_are h;
         line_is = line_is;
       }
 
   -- ---- where the entries led
-  module _ (grounded : AreGrounded (scene_of true j.parts.items [])) (tells : s.tells ≡ true) (totals : Totals) (are : AreTotalsOf entries totals)
+  module _ (grounded : AreGrounded (scene_of (are_calls_known s) j.parts.items [])) (totals : Totals) (are : AreTotalsOf entries totals)
       (count_of : ℕ) (count_is : count_of ≡ length j.parts.items) (world_of : World) (world_is : world_of ≡ j.progress.state.world) where
     abbrev told_so : Led
     told_so = record { entries = count_of; jobs = (progress_of s.script judged.front).jobs; world = world_of; totals = totals }
@@ -80,10 +85,8 @@ module _ (s : Setting) (entries : List Shown) (j : Judging) (judged : IsJudged s
         world_is ∙ ap (λ (c : Course). c.state.world) (judged.course ∙ course_is s.script judged.front) in
         (λ i. record { entries = count i; jobs = (progress_of s.script judged.front).jobs; world = world i; totals = are judged.front judged.shows i })
 
-    grounded_so : AreGrounded (scene_of s.tells (parts_of s.script judged.front) [])
-    grounded_so =
-        subst (λ t. AreGrounded (scene_of t (parts_of s.script judged.front) [])) (sym tells)
-        (subst (λ (parts : List Part). AreGrounded (scene_of true parts [])) judged.parts_are grounded)
+    grounded_so : AreGrounded (scene_of (are_calls_known s) (parts_of s.script judged.front) [])
+    grounded_so = subst (λ (parts : List Part). AreGrounded (scene_of (are_calls_known s) parts [])) judged.parts_are grounded
 
     -- the lines behind them are those of an end
     pub true_in : (tail : List Line) → IsTail s told_so tail → IsTrueIn s entries tail
@@ -188,6 +191,30 @@ refused_in_front s count entries place at r h =
       refused = h.refused;
     }
 
+-- so is one at which a judgement stopped
+stopped_in_front : (s : Setting) (count : ℕ) (entries : List Shown) (place : ℕ) (stop : Refused) → IsStoppedAt s count (take place entries) stop
+    → IsStoppedAt s count entries stop
+unfolding refused_in_front
+stopped_in_front s count entries place stop h =
+    record { refused = refused_in_front s count entries place stop.place stop.reason h.refused; untold = h.untold }
+
+-- an entry with a wrong number is false whatever it asked last
+number_told : (a b : Bool) → (a && (b && false)) ≡ false
+number_told false b = refl
+number_told true false = refl
+number_told true true = refl
+
+-- so a judgement stops there
+stopped_at_number : (s : Setting) (count : ℕ) (entries : List Shown) (stop : Refused) → stop.reason ≡ reason.Numbers → stop.is_untold ≡ false
+    → IsRefusedAt s count entries stop.place reason.Numbers → IsStoppedAt s count entries stop
+stopped_at_number s count entries stop numbers told h =
+    let at : IsRefusedAt s count entries stop.place stop.reason = subst (λ r. IsRefusedAt s count entries stop.place r) (sym numbers) h in
+    record {
+      refused = at;
+      untold = told ∙ sym (ap (λ r. is_untold s at.shown.entry r) numbers
+          ∙ number_told (has_clients s.script) (lacked_memory at.shown.entry.outcome));
+    }
+
 -- it stands among them
 pub refused_within : (s : Setting) (count : ℕ) (entries : List Shown) (at : ℕ) (r : Reason) → IsRefusedAt s count entries at r → at < length entries
 refused_within s count entries at r h =
@@ -204,7 +231,7 @@ begins_shown_count entries = length-map entries (λ (shown : Shown). entry_begin
 abbrev IsSaidOf : Setting → List Shown → Result Judging Refused → Type 0
 IsSaidOf s front r =
     (count : ℕ) → AreNumbered count (begins_shown front)
-    → MatchResult r (IsJudged s count front) (λ (refused : Refused). IsRefusedAt s count front refused.place refused.reason)
+    → MatchResult r (IsJudged s count front) (IsStoppedAt s count front)
 
 module _ (s : Setting) (entries : List Shown) (place : ℕ) (first : IsFirstMisnumbered (length entries) (begins_shown entries) place)
     (front : List Shown) (is : front ≡ take place entries) where
@@ -214,46 +241,46 @@ module _ (s : Setting) (entries : List Shown) (place : ℕ) (first : IsFirstMisn
 
   -- one of them that is refused is refused among all
   pub refused_of_front : (r : Result Judging Refused) → IsSaidOf s front r → (refused : Refused) → r ≡ Err refused
-      → IsRefusedAt s (length entries) entries refused.place refused.reason
+      → IsStoppedAt s (length entries) entries refused
   refused_of_front r says refused err =
-      let here : IsRefusedAt s (length entries) front refused.place refused.reason =
+      let here : IsStoppedAt s (length entries) front refused =
       subst (λ z. MatchResult z (IsJudged s (length entries) front)
-      (λ (refused : Refused). IsRefusedAt s (length entries) front refused.place refused.reason)) err (says (length entries) front_numbered) in
-      refused_in_front s (length entries) entries place refused.place refused.reason
-      (subst (λ xs. IsRefusedAt s (length entries) xs refused.place refused.reason) is here)
+      (IsStoppedAt s (length entries) front)) err (says (length entries) front_numbered) in
+      stopped_in_front s (length entries) entries place refused (subst (λ xs. IsStoppedAt s (length entries) xs refused) is here)
 
   -- where none of them is, the one at the place is
   pub refused_behind_front : (r : Result Judging Refused) → IsSaidOf s front r → (judging : Judging) → r ≡ Ok judging
-      → IsRefusedAt s (length entries) entries place reason.Numbers
+      → IsStoppedAt s (length entries) entries (record { place = place; reason = reason.Numbers; is_untold = false })
   refused_behind_front r says judging ok =
       let here : IsJudged s (length entries) front judging =
       subst (λ z. MatchResult z (IsJudged s (length entries) front)
-      (λ (refused : Refused). IsRefusedAt s (length entries) front refused.place refused.reason)) ok (says (length entries) front_numbered) in
+      (IsStoppedAt s (length entries) front)) ok (says (length entries) front_numbered) in
       let count = begins_shown_count entries in
       let low = first.0 in
-      misnumbered s entries place judging (omega (arith, count, low)) (subst (λ xs. IsJudged s (length entries) xs judging) is here) first.2
+      stopped_at_number s (length entries) entries (record { place = place; reason = reason.Numbers; is_untold = false }) refl refl
+      (misnumbered s entries place judging (omega (arith, count, low)) (subst (λ xs. IsJudged s (length entries) xs judging) is here) first.2)
 
 -- ---- entries whose numbers all go on in order
 module _ (s : Setting) (entries : List Shown) (begins : List (ℕ × ℕ)) (are : begins ≡ begins_shown entries) (numbered : AreNumbered (length begins) begins)
     (moved : List Shown) (same : moved ≡ entries) (r : Result Judging Refused) (says : IsSaidOf s moved r) where
   -- what is said of them
   said_of_all : MatchResult r (IsJudged s (length entries) entries)
-      (λ (refused : Refused). IsRefusedAt s (length entries) entries refused.place refused.reason)
+      (IsStoppedAt s (length entries) entries)
   said_of_all =
       let all : AreNumbered (length entries) (begins_shown entries) =
       subst (λ n. AreNumbered n (begins_shown entries)) (begins_shown_count entries) (subst (λ bs. AreNumbered (length bs) bs) are numbered) in
       subst (λ xs. MatchResult r (IsJudged s (length entries) xs)
-      (λ (refused : Refused). IsRefusedAt s (length entries) xs refused.place refused.reason)) same
+      (IsStoppedAt s (length entries) xs)) same
       (says (length entries) (subst (λ bs. AreNumbered (length entries) bs) (sym (ap begins_shown same)) all))
 
   -- they were judged
   pub judged_all : (judging : Judging) → r ≡ Ok judging → IsJudged s (length entries) entries judging
   judged_all judging ok =
       subst (λ z. MatchResult z (IsJudged s (length entries) entries)
-      (λ (refused : Refused). IsRefusedAt s (length entries) entries refused.place refused.reason)) ok said_of_all
+      (IsStoppedAt s (length entries) entries)) ok said_of_all
 
   -- one is refused
-  pub refused_of_all : (refused : Refused) → r ≡ Err refused → IsRefusedAt s (length entries) entries refused.place refused.reason
+  pub refused_of_all : (refused : Refused) → r ≡ Err refused → IsStoppedAt s (length entries) entries refused
   refused_of_all refused err =
       subst (λ z. MatchResult z (IsJudged s (length entries) entries)
-      (λ (refused : Refused). IsRefusedAt s (length entries) entries refused.place refused.reason)) err said_of_all
+      (IsStoppedAt s (length entries) entries)) err said_of_all

@@ -1,5 +1,5 @@
 -- What has been judged so far.
-use Rattle.std.specs.Prelude.{◌≡◌, ◌≢◌, ℕ, ◌<◌, List, [], true, length, map, slice_get}
+use Rattle.std.specs.Prelude.{◌≡◌, ◌≢◌, ℕ, ◌<◌, List, [], length, map, slice_get}
 use Rattle.std.specs.declared.option.Option.TheVariants.{Some}
 use Rattle.xc_data.specs.declared.entry.Entry.{Entry}
 use Rattle.xc_grounds.specs.Numbered.{entry_begins}
@@ -8,7 +8,7 @@ use Rattle.xc_model.specs.Grounds.{AreGrounded, scene_of}
 use Rattle.xc_model.specs.Setting.{Setting}
 use Rattle.xc_shown.specs.Shown.{shown_of}
 use Rattle.xc_shown.specs.declared.shown.Shown.{Shown}
-use Rattle.xc_check.specs.Fronts.{IsTrueFront, course_behind, parts_of, script_behind}
+use Rattle.xc_check.specs.Fronts.{IsTrueFront, are_calls_known, course_behind, parts_of, script_behind}
 use Rattle.xc_check.specs.declared.judging.Judging.{Judging}
 
 -- none of these has this number
@@ -29,4 +29,4 @@ pub record IsJudged (s : Setting) (count : ℕ) (before : List Shown) (j : Judgi
 -- the same of all entries, whose conflicts and revocations are grounded
 pub record IsTrueSoFar (s : Setting) (entries : List Shown) (j : Judging) : Type 0 where
   pub judged : IsJudged s (length entries) entries j
-  pub grounded : AreGrounded (scene_of true j.parts.items [])
+  pub grounded : AreGrounded (scene_of (are_calls_known s) j.parts.items [])

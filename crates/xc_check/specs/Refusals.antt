@@ -1,5 +1,5 @@
 -- The first reason for which a text is false.
-use Rattle.std.specs.Prelude.{◌≡◌, ℕ, ◌+◌, ◌<◌, ◌≤◌, All, List, [], ◌∷◌, ◌++◌, Err, Ok, false, length, map, slice_get, take}
+use Rattle.std.specs.Prelude.{◌≡◌, ℕ, ◌+◌, ◌<◌, ◌≤◌, All, List, [], ◌∷◌, ◌++◌, Err, Ok, true, false, length, map, slice_get, take}
 use Rattle.std.specs.declared.option.Option.TheVariants.{Some}
 use Rattle.xc_data.specs.declared.entry.Entry.{Entry}
 use Rattle.xc_tokens.specs.declared.why.Why.{Why}
@@ -7,11 +7,11 @@ use Rattle.xc_grounds.specs.Groundless.{IsFirstGroundless}
 use Rattle.xc_grounds.specs.Numbered.{AreNumbered, entry_begins}
 use Rattle.xc_judge.specs.Judged.{place_of_reason}
 use Rattle.xc_judge.specs.Stepped.{MeetsSo}
+use Rattle.xc_judge.specs.declared.basis.Basis.{Basis}
 use Rattle.xc_judge.specs.declared.reason.Reason.{Reason}
 use Rattle.xc_judge.specs.declared.reason.Reason.TheVariants as reason
 use Rattle.xc_model.specs.Asked.{IsAskedEntry}
 use Rattle.xc_model.specs.Grounds.{AreGrounded, scene_of}
-use Rattle.xc_model.specs.declared.rules.Rules.{Rules}
 use Rattle.xc_model.specs.Stories.{entry_begin}
 use Rattle.xc_model.specs.Setting.{Setting}
 use Rattle.xc_sheet.specs.Sheets.{AreWholeFrom, IsReadSheet}
@@ -23,15 +23,16 @@ use Rattle.xc_shown.specs.declared.shown.Shown.{Shown}
 use Rattle.xc_tail.specs.Tails.{IsTail}
 use Rattle.xc_text.specs.Scripts.{parse_of}
 use Rattle.xc_text.specs.declared.script.Script.{Script}
-use Rattle.xc_check.specs.Fronts.{IsTrueFront, course_behind, last_behind, journal_led, parts_of, script_behind}
-use Rattle.xc_check.specs.TrueTexts.{telling}
+use Rattle.xc_check.specs.Fronts.{IsTrueFront, are_calls_known, course_behind, last_behind, journal_led, parts_of, script_behind}
+use Rattle.xc_check.specs.TrueTexts.{telling_by}
+use Rattle.xc_check.specs.Untold.{basis_of, is_untold}
 use Rattle.xc_check.specs.declared.verdict.CheckWhy.{CheckWhy}
 use Rattle.xc_check.specs.declared.verdict.CheckWhy.TheVariants as why
 
 -- ---- of an entry
 -- what the machine asks of it behind a front
 abbrev pub MeetsSoBehind : Setting → List Entry → Shown → Reason → Type 0
-MeetsSoBehind s front shown r = MeetsSo s.rules (course_behind s.script front) (last_behind s.script front shown.entry) shown r
+MeetsSoBehind s front shown r = MeetsSo (basis_of s) (course_behind s.script front) (last_behind s.script front shown.entry) shown r
 
 -- what a reason denies: the numbers go on in order, and the script asked it
 abbrev pub MeetsBehind : Setting → ℕ → List Entry → Shown → Reason → Type 0
@@ -80,6 +81,17 @@ AreFirstLines entries lines =
 pub record IsFalseEntry (s : Setting) (entries : List Shown) (line : ℕ) (r : Reason) : Type 0 where
   pub place : ℕ
   pub refused : IsRefusedAt s (length entries) entries place r
+  -- it is, whatever was asked last
+  pub told : is_untold s refused.shown.entry r ≡ false
+  pub line_is : line ≡ line_behind (take place entries)
+
+-- of the entry of this line it can't be said: those before it are true, and it was aborted for want of memory. By its calls alone it
+-- would be false, but the one that was asked last, which the text doesn't show, may have left a record, and claimed objects
+pub record IsUntoldEntry (s : Setting) (entries : List Shown) (line : ℕ) : Type 0 where
+  pub place : ℕ
+  pub reason : Reason
+  pub refused : IsRefusedAt s (length entries) entries place reason
+  pub untold : is_untold s refused.shown.entry reason ≡ true
   pub line_is : line ≡ line_behind (take place entries)
 
 -- the entries are true, but for the conflict or the revocation of that of this line, which is the first such
@@ -88,7 +100,7 @@ pub record IsFalseGround (s : Setting) (entries : List Shown) (line : ℕ) : Typ
   pub place : ℕ
   pub shows : map shown_of journal ≡ entries
   pub is_true : IsTrueFront s (length entries) journal
-  pub groundless : IsFirstGroundless (parts_of s.script journal) place
+  pub groundless : IsFirstGroundless (are_calls_known s) (parts_of s.script journal) place
   pub line_is : line ≡ line_behind (take place entries)
 
 -- the entries are true, and the lines behind them are not those of an end to which they lead
@@ -96,7 +108,7 @@ pub record IsFalseTail (s : Setting) (entries : List Shown) (tail : List Line) (
   pub journal : List Entry
   pub shows : map shown_of journal ≡ entries
   pub is_true : IsTrueFront s (length entries) journal
-  pub grounded : AreGrounded (scene_of s.tells (parts_of s.script journal) [])
+  pub grounded : AreGrounded (scene_of (are_calls_known s) (parts_of s.script journal) [])
   pub fails : IsTail s (journal_led s.script journal) tail → ⊥
   pub line_is : line ≡ line_behind entries
 
@@ -129,20 +141,27 @@ pub record IsFalseText (s : Setting) (text : List ℕ) (line : ℕ) (r : CheckWh
   pub shown : IsShownBy text entries tail
   pub false_in : IsFalseIn s entries tail line r
 
+-- the same of one of whose entries it can't be said
+pub record IsUntoldText (s : Setting) (text : List ℕ) (line : ℕ) : Type 0 where
+  pub entries : List Shown
+  pub tail : List Line
+  pub shown : IsShownBy text entries tail
+  pub untold_in : IsUntoldEntry s entries line
+
 -- the text is not too long, the script is in the grammar, and this is so
-abbrev pub IsScriptAnd : List ℕ → Rules → List ℕ → (Setting → Type 0) → Type 0
-IsScriptAnd script rules text says = (length text ≤ 67108864) × (read : Script) × (parse_of script ≡ Ok read) × says (telling read rules)
+abbrev pub IsScriptAnd : List ℕ → Basis → List ℕ → (Setting → Type 0) → Type 0
+IsScriptAnd script basis text says = (length text ≤ 67108864) × (read : Script) × (parse_of script ≡ Ok read) × says (telling_by basis read)
 
 -- reading breaks off at this line
 abbrev pub BreaksOff : List ℕ → ℕ → Type 0
 BreaksOff text line = (lines : List Line) × IsReadSheet text lines (Broken line)
 
 -- the first that is false, in the order of the reasons
-abbrev pub IsFirstFalse : List ℕ → Rules → List ℕ → ℕ → CheckWhy → Type 0
-IsFirstFalse script rules text line why.TooLong = (line ≡ 0) × (67108864 < length text)
-IsFirstFalse script rules text line why.Script =
+abbrev pub IsFirstFalse : List ℕ → Basis → List ℕ → ℕ → CheckWhy → Type 0
+IsFirstFalse script basis text line why.TooLong = (line ≡ 0) × (67108864 < length text)
+IsFirstFalse script basis text line why.Script =
     (line ≡ 0) × (length text ≤ 67108864) × (at : ℕ) × (reason : Why) × (parse_of script ≡ Err (at, reason))
-IsFirstFalse script rules text line why.Form = IsScriptAnd script rules text (λ s. BreaksOff text line)
-IsFirstFalse script rules text line (why.Entry r) = IsScriptAnd script rules text (λ s. IsFalseText s text line (why.Entry r))
-IsFirstFalse script rules text line why.Grounds = IsScriptAnd script rules text (λ s. IsFalseText s text line why.Grounds)
-IsFirstFalse script rules text line why.Tail = IsScriptAnd script rules text (λ s. IsFalseText s text line why.Tail)
+IsFirstFalse script basis text line why.Form = IsScriptAnd script basis text (λ s. BreaksOff text line)
+IsFirstFalse script basis text line (why.Entry r) = IsScriptAnd script basis text (λ s. IsFalseText s text line (why.Entry r))
+IsFirstFalse script basis text line why.Grounds = IsScriptAnd script basis text (λ s. IsFalseText s text line why.Grounds)
+IsFirstFalse script basis text line why.Tail = IsScriptAnd script basis text (λ s. IsFalseText s text line why.Tail)

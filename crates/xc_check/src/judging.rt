@@ -5,7 +5,6 @@ ghost use Rattle.xc_check.specs.Refusals.{IsRefusedIn};
 ghost use Rattle.xc_check.specs.TrueTexts.{telling};
 ghost use Rattle.xc_data.specs.Limits.{KeepsLimits};
 ghost use Rattle.xc_grounds.specs.Numbered.{AreNumbered};
-ghost use Rattle.xc_model.specs.Live.{IsScripted};
 ghost use Rattle.xc_model.specs.EntryEnds.{cause_in};
 ghost use Rattle.xc_model.specs.declared.rules.Rules.{Rules as PlainRules};
 ghost use Rattle.xc_shown.specs.Shown.{bare};
@@ -17,7 +16,7 @@ use std::alloc::Global;
 use xc_asked::ScriptJobs;
 use xc_data::{Cause, Claim, Entry, NoMemory, Outcome, Report};
 use xc_grounds::Part;
-use xc_judge::{Progress, Reason, Step};
+use xc_judge::{Basis, Progress, Reason, Step};
 use xc_model::Rules;
 use xc_shown::Shown;
 use xc_text::Script;
@@ -101,7 +100,6 @@ impl Judging {
         shown: Shown,
     ) -> Result<Result<Judging, Reason>, NoMemory>
         requires script { IsScript script.now }
-        requires scripted { IsScripted script.now }
         requires bare { bare shown.entry ≡ shown.entry }
         requires judged { (count : ℕ) × (before : List PlainShown) × IsJudged (telling script.now rules.now) count before self
             × AreNumbered count (begins_shown (before ++ shown ∷ [])) × (length before + 1 < 2 ^ 32) }
@@ -115,8 +113,12 @@ impl Judging {
             mut jobs,
             mut parts,
         } = self;
+        let basis = Basis {
+            rules: *rules,
+            clients: script.clients,
+        };
         let followed = jobs.follow(script, &shown.entry)?;
-        let stepped = match progress.step(rules, &followed.last, shown)? {
+        let stepped = match progress.step(&basis, &followed.last, shown)? {
             Step::Entered(stepped) => stepped,
             Step::Refused(reason) => return Ok(Err(reason)),
         };

@@ -1,4 +1,4 @@
-//! A printed journal, checked against a script.
+//! A printed journal, checked against a script, or against the prologue of clients.
 #![tactic(auto)]
 
 mod entries;
@@ -10,3 +10,4 @@ mod whole;
 
 pub use text::check;
 pub use verdict::{CheckWhy, Verdict};
+pub use xc_judge::Basis;

@@ -54,6 +54,7 @@ pub(crate) fn jobs_left(
     for (at, standing) in judging.progress.jobs().iter().enumerate() {
         left.push(JobLeft {
             block: standing.block(),
+            is_client: script.clients,
             is_left: judging.jobs.has_next(script, at),
             failed: standing.failures(),
             is_starved: standing.is_starved(),

@@ -19,8 +19,11 @@ pub enum CheckWhy {
 
 /// Whether a text is that of a true end; if it isn't, the first reason, and the line that it is found at. Lines count from 1. An
 /// entry's is its first one, and that of the tail the first one behind the entries; it is 0 where the text was not looked at.
+/// `Untold` comes of clients' texts alone: memory was wanting in the entry of this line, so that it depends on a call that the text
+/// doesn't show. All before it is true, and what is behind it was not looked at.
 #[derive(Clone, Copy, Debug, PartialEq, Eq)]
 pub enum Verdict {
     Yes,
     No { line: u32, why: CheckWhy },
+    Untold { line: u32 },
 }

@@ -1,13 +1,13 @@
 ghost use Rattle.std.specs.Prelude.{◌≡◌, ◌≤◌, ◌<◌, ◌^◌, All, List, IfOk, length};
 ghost use Rattle.xc_check.specs.Judging.{IsJudged, IsTrueSoFar};
-ghost use Rattle.xc_check.specs.Refusals.{AreFirstLines, IsRefusedAt, line_behind};
+ghost use Rattle.xc_check.specs.Refusals.{AreFirstLines, line_behind};
+ghost use Rattle.xc_check.specs.Stopped.{IsStoppedAt};
 ghost use Rattle.xc_check.specs.TrueTexts.{telling};
 ghost use Rattle.xc_check.specs.Verdicts.{IsVerdictIn, AreTotalsOf};
 ghost use Rattle.xc_data.specs.Limits.{KeepsLimits};
 ghost use Rattle.xc_grounds.specs.Numbered.{IsFirstMisnumbered};
 ghost use Rattle.xc_check.specs.Fronts.{begins_shown};
 ghost use Rattle.xc_shown.specs.Shown.{bare, shown_lines};
-ghost use Rattle.xc_model.specs.Live.{IsScripted};
 ghost use Rattle.xc_model.specs.Setting.{Setting};
 ghost use Rattle.xc_sheet.specs.declared.lines.Line.{Line as PlainLine};
 ghost use Rattle.xc_shown.specs.declared.shown.Shown.{Shown as PlainShown};
@@ -38,7 +38,6 @@ fn check_tail(
     totals: Totals,
     tail: &[Line],
 ) -> Result<Verdict, NoMemory>
-    requires scripted { IsScripted script.now }
     requires rules { 1 ≤ rules.now.attempts }
     requires judged { (entries : List PlainShown) × IsTrueSoFar (telling script.now rules.now) entries judging }
     ensures { (entries : List PlainShown) → IsTrueSoFar (telling script.now rules.now) entries judging → line ≡ line_behind entries
@@ -66,7 +65,6 @@ fn check_behind(
     totals: Totals,
     tail: &[Line],
 ) -> Result<Verdict, NoMemory>
-    requires scripted { IsScripted script.now }
     requires rules { 1 ≤ rules.now.attempts }
     requires judged { (entries : List PlainShown) × IsJudged (telling script.now rules.now) (length entries) entries judging
         × AreFirstLines entries lines.now × (length entries < 2 ^ 31) }
@@ -74,7 +72,7 @@ fn check_behind(
         → AreFirstLines entries lines.now → AreTotalsOf entries totals
         → IfOk result (IsVerdictIn (telling script.now rules.now) entries tail.now) }
 {
-    match first_groundless(alloc, judging.parts.as_slice())? {
+    match first_groundless(alloc, !script.clients, judging.parts.as_slice())? {
         Some(place) => Ok(Verdict::No {
             line: lines[place as usize],
             why: CheckWhy::Grounds,
@@ -86,14 +84,18 @@ fn check_behind(
     }
 }
 
-// An entry is the first that is false.
+// An entry is the first that is false, or of which it can't be said.
 fn refused_at(lines: &[u32], refused: Refused) -> Verdict
     requires { refused.place < length lines.now }
     ensures { (s : Setting) (entries : List PlainShown) (tail : List PlainLine) → AreFirstLines entries lines.now
-        → IsRefusedAt s (length entries) entries refused.place refused.reason → IsVerdictIn s entries tail result }
+        → IsStoppedAt s (length entries) entries refused → IsVerdictIn s entries tail result }
 {
+    let line = lines[refused.place];
+    if refused.is_untold {
+        return Verdict::Untold { line };
+    }
     Verdict::No {
-        line: lines[refused.place],
+        line,
         why: CheckWhy::Entry(refused.reason),
     }
 }
@@ -108,7 +110,6 @@ fn refuse(
     lines: &[u32],
 ) -> Result<Verdict, NoMemory>
     requires script { IsScript script.now }
-    requires scripted { IsScripted script.now }
     requires limits { KeepsLimits script.now.outline }
     requires bare { All (λ (shown : PlainShown). bare shown.entry ≡ shown.entry) entries.items }
     requires few { length entries.items < 2 ^ 31 }
@@ -124,6 +125,7 @@ fn refuse(
             Refused {
                 place,
                 reason: Reason::Numbers,
+                is_untold: false,
             },
         )),
         Err(refused) => Ok(refused_at(lines, refused)),
@@ -139,7 +141,6 @@ pub(crate) fn check_entries(
     tail: &[Line],
 ) -> Result<Verdict, NoMemory>
     requires script { IsScript script.now }
-    requires scripted { IsScripted script.now }
     requires limits { KeepsLimits script.now.outline }
     requires rules { 1 ≤ rules.now.attempts }
     requires bare { All (λ (shown : PlainShown). bare shown.entry ≡ shown.entry) entries }

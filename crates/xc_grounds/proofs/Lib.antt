@@ -1,4 +1,4 @@
-mod Fronts
+pub mod Fronts
 mod Entering
 mod Orders
 mod Naming

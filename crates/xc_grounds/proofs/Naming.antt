@@ -84,9 +84,9 @@ module _ (parts : List Part) (table : List (Option ℕ)) (has : HasPlaces (part_
       never (subst (λ p. AreTwo e place who p at) here (subst (λ v. AreTwo e place v named.there at) one named.two))
 
 -- ---- what names it
-module _ (parts : List Part) (place : ℕ) (e : Part) (object : Object) (number at : ℕ) where
+module _ (known : Bool) (parts : List Part) (place : ℕ) (e : Part) (object : Object) (number at : ℕ) where
   -- the other transaction is the one that is named
-  named_of : (o : Other (scene parts) number at e.job) → e.began ≤ at → at ≤ place → IsNamed parts place e (mention number at) o.who
+  named_of : (o : Other (scene known parts) number at e.job) → e.began ≤ at → at ≤ place → IsNamed parts place e (mention number at) o.who
   named_of o before within =
       elim o.present [
         | inl (p, stands, later) ↦
@@ -100,7 +100,7 @@ module _ (parts : List Part) (place : ℕ) (e : Part) (object : Object) (number 
       ]
 
   -- and the one that is named is the other
-  other_of : (who : Part) → IsNamed parts place e (mention number at) who → Other (scene parts) number at e.job
+  other_of : (who : Part) → IsNamed parts place e (mention number at) who → Other (scene known parts) number at e.job
   other_of who named =
       record {
         who = who;
@@ -111,13 +111,13 @@ module _ (parts : List Part) (place : ℕ) (e : Part) (object : Object) (number 
       }
 
   -- a conflict names a holder, and a holder that is named makes a conflict
-  pub of_conflict : Ground (scene parts) place e (blame object number at)
-      → (who : Part) × IsNamed parts place e (mention number at) who × ClashesOver who.held e.wanted object
+  pub of_conflict : Ground (scene known parts) place e (blame object number at)
+      → (who : Part) × IsNamed parts place e (mention number at) who × ClashesOver known who.held e.wanted object
   of_conflict g =
-      (g.named.who, named_of g.named g.before g.within, (g.holds.claim, g.holds.names, (g.holds.among, g.clash refl)))
+      (g.named.who, named_of g.named g.before g.within, (g.holds.claim, g.holds.names, (g.holds.among, g.clash)))
 
-  pub to_conflict : (who : Part) → IsNamed parts place e (mention number at) who → ClashesOver who.held e.wanted object
-      → Ground (scene parts) place e (blame object number at)
+  pub to_conflict : (who : Part) → IsNamed parts place e (mention number at) who → ClashesOver known who.held e.wanted object
+      → Ground (scene known parts) place e (blame object number at)
   unfolding other_of
   to_conflict who named (claim, names, meets) =
       record {
@@ -125,17 +125,17 @@ module _ (parts : List Part) (place : ℕ) (e : Part) (object : Object) (number 
         within = named.two.within;
         named = other_of who named;
         holds = record { claim = claim; names = names; among = meets.0 };
-        clash = λ tells. meets.1;
+        clash = meets.1;
       }
 
   -- a revocation names an older one, and an older one that is named makes a revocation
-  pub of_revocation : Revocation (scene parts) place e (blame object number at)
-      → (who : Part) × IsNamed parts place e (mention number at) who × ((who.rank < e.rank) × ClashesOver e.held (who.held ++ who.wanted) object)
+  pub of_revocation : Revocation (scene known parts) place e (blame object number at)
+      → (who : Part) × IsNamed parts place e (mention number at) who × ((who.rank < e.rank) × ClashesOver known e.held (who.held ++ who.wanted) object)
   of_revocation g =
-      (g.named.who, named_of g.named g.before g.within, (g.older, (g.holds.claim, g.holds.names, (g.holds.among, g.clash refl))))
+      (g.named.who, named_of g.named g.before g.within, (g.older, (g.holds.claim, g.holds.names, (g.holds.among, g.clash))))
 
-  pub to_revocation : (who : Part) → IsNamed parts place e (mention number at) who → (who.rank < e.rank) × ClashesOver e.held (who.held ++ who.wanted) object
-      → Revocation (scene parts) place e (blame object number at)
+  pub to_revocation : (who : Part) → IsNamed parts place e (mention number at) who
+      → (who.rank < e.rank) × ClashesOver known e.held (who.held ++ who.wanted) object → Revocation (scene known parts) place e (blame object number at)
   unfolding other_of
   to_revocation who named (older, (claim, names, meets)) =
       record {
@@ -144,41 +144,41 @@ module _ (parts : List Part) (place : ℕ) (e : Part) (object : Object) (number 
         named = other_of who named;
         older = older;
         holds = record { claim = claim; names = names; among = meets.0 };
-        clash = λ tells. meets.1;
+        clash = meets.1;
       }
 
 -- with the one that is named it is decided whether there is a conflict
-pub conflict_decided : (parts : List Part) (table : List (Option ℕ)) → HasPlaces (part_begins parts) table
+pub conflict_decided : (known : Bool) (parts : List Part) (table : List (Option ℕ)) → HasPlaces (part_begins parts) table
     → (place number at : ℕ) (e who : Part) (object : Object) (r : Bool) → IsNamed parts place e (mention number at) who
-    → Decides r (ClashesOver who.held e.wanted object) → Decides r (Ground (scene parts) place e (blame object number at))
-conflict_decided parts table has place number at e who object r named says = (
-  λ holds. to_conflict parts place e object number at who named (says.0 holds),
+    → Decides r (ClashesOver known who.held e.wanted object) → Decides r (Ground (scene known parts) place e (blame object number at))
+conflict_decided known parts table has place number at e who object r named says = (
+  λ holds. to_conflict known parts place e object number at who named (says.0 holds),
   λ ground.
-      let (w, its, meets) = of_conflict parts place e object number at ground in
-      says.1 (subst (λ (v : Part). ClashesOver v.held e.wanted object) (named_once parts table has place number at e w who its named) meets),
+      let (w, its, meets) = of_conflict known parts place e object number at ground in
+      says.1 (subst (λ (v : Part). ClashesOver known v.held e.wanted object) (named_once parts table has place number at e w who its named) meets),
 )
 
 -- without one there is no conflict
-pub no_conflict : (parts : List Part) (place number at : ℕ) (e : Part) (object : Object) → ((who : Part) → IsNamed parts place e (mention number at) who → ⊥)
-    → Ground (scene parts) place e (blame object number at) → ⊥
-no_conflict parts place number at e object none ground =
-    let (w, its, meets) = of_conflict parts place e object number at ground in none w its
+pub no_conflict : (known : Bool) (parts : List Part) (place number at : ℕ) (e : Part) (object : Object)
+    → ((who : Part) → IsNamed parts place e (mention number at) who → ⊥) → Ground (scene known parts) place e (blame object number at) → ⊥
+no_conflict known parts place number at e object none ground =
+    let (w, its, meets) = of_conflict known parts place e object number at ground in none w its
 
 -- the same of a revocation
-pub revocation_decided : (parts : List Part) (table : List (Option ℕ)) → HasPlaces (part_begins parts) table
+pub revocation_decided : (known : Bool) (parts : List Part) (table : List (Option ℕ)) → HasPlaces (part_begins parts) table
     → (place number at : ℕ) (e who : Part) (object : Object) (r : Bool) → IsNamed parts place e (mention number at) who
-    → Decides r ((who.rank < e.rank) × ClashesOver e.held (who.held ++ who.wanted) object)
-    → Decides r (Revocation (scene parts) place e (blame object number at))
-revocation_decided parts table has place number at e who object r named says = (
-  λ holds. to_revocation parts place e object number at who named (says.0 holds),
+    → Decides r ((who.rank < e.rank) × ClashesOver known e.held (who.held ++ who.wanted) object)
+    → Decides r (Revocation (scene known parts) place e (blame object number at))
+revocation_decided known parts table has place number at e who object r named says = (
+  λ holds. to_revocation known parts place e object number at who named (says.0 holds),
   λ revoked.
-      let (w, its, meets) = of_revocation parts place e object number at revoked in
-      says.1 (subst (λ (v : Part). (v.rank < e.rank) × ClashesOver e.held (v.held ++ v.wanted) object)
+      let (w, its, meets) = of_revocation known parts place e object number at revoked in
+      says.1 (subst (λ (v : Part). (v.rank < e.rank) × ClashesOver known e.held (v.held ++ v.wanted) object)
       (named_once parts table has place number at e w who its named) meets),
 )
 
 -- without one there is no revocation
-pub no_revocation : (parts : List Part) (place number at : ℕ) (e : Part) (object : Object) → ((who : Part) → IsNamed parts place e (mention number at) who → ⊥)
-    → Revocation (scene parts) place e (blame object number at) → ⊥
-no_revocation parts place number at e object none revoked =
-    let (w, its, meets) = of_revocation parts place e object number at revoked in none w its
+pub no_revocation : (known : Bool) (parts : List Part) (place number at : ℕ) (e : Part) (object : Object)
+    → ((who : Part) → IsNamed parts place e (mention number at) who → ⊥) → Revocation (scene known parts) place e (blame object number at) → ⊥
+no_revocation known parts place number at e object none revoked =
+    let (w, its, meets) = of_revocation known parts place e object number at revoked in none w its

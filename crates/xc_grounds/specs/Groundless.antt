@@ -1,32 +1,32 @@
 -- The first transaction whose conflict or revocation isn't grounded.
-use Rattle.std.specs.Prelude.{◌≡◌, ◌≢◌, ℕ, ◌<◌, ◌≤◌, List, [], slice_get, true, Contains}
+use Rattle.std.specs.Prelude.{◌≡◌, ◌≢◌, ℕ, ◌<◌, ◌≤◌, Bool, List, [], slice_get, Contains, IsTrue}
 use Rattle.std.specs.declared.option.Option.TheVariants.{Some}
 use Rattle.xc_data.specs.declared.claim.Claim.{Claim}
 use Rattle.xc_data.specs.declared.object.Object.{Object}
 use Rattle.xc_model.specs.Grounds.{Blame, Clashes, IsGrounded, Part, Scene, scene_of}
 
--- these are judged against one another, over a host that tells
-abbrev pub scene : List Part → Scene
-scene parts = scene_of true parts []
+-- these are judged against one another, over a host that tells; of each it is known which call it was asked last, or of none
+abbrev pub scene : Bool → List Part → Scene
+scene known parts = scene_of known parts []
 
 -- why the one at this place is aborted is grounded
-abbrev pub IsGroundedAt : List Part → ℕ → Part → Type 0
-IsGroundedAt parts place e = IsGrounded (scene parts) place e e.cause
+abbrev pub IsGroundedAt : Bool → List Part → ℕ → Part → Type 0
+IsGroundedAt known parts place e = IsGrounded (scene known parts) place e e.cause
 
 -- this one isn't grounded, and all before it are
-pub record IsFirstGroundless (parts : List Part) (place : ℕ) : Type 0 where
+pub record IsFirstGroundless (known : Bool) (parts : List Part) (place : ℕ) : Type 0 where
   pub part : Part
   pub at : slice_get parts place ≡ Some part
-  pub groundless : IsGroundedAt parts place part → ⊥
-  pub before : (i : ℕ) (e : Part) → i < place → slice_get parts i ≡ Some e → IsGroundedAt parts i e
+  pub groundless : IsGroundedAt known parts place part → ⊥
+  pub before : (i : ℕ) (e : Part) → i < place → slice_get parts i ≡ Some e → IsGroundedAt known parts i e
 
--- this is held, and one of the other claims clashes with it
-abbrev pub ClashesIn : List Claim → List Claim → Claim → Type 0
-ClashesIn held others claim = Contains held claim × Clashes others claim
+-- this is held, and where the other claims are known one of them clashes with it
+abbrev pub ClashesIn : Bool → List Claim → List Claim → Claim → Type 0
+ClashesIn known held others claim = Contains held claim × (IsTrue known → Clashes others claim)
 
--- of the held claims one is of this object, and one of the others clashes with it
-abbrev pub ClashesOver : List Claim → List Claim → Object → Type 0
-ClashesOver held others object = (claim : Claim) × (claim.object ≡ object) × ClashesIn held others claim
+-- of the held claims one is of this object, and where the others are known one of them clashes with it
+abbrev pub ClashesOver : Bool → List Claim → List Claim → Object → Type 0
+ClashesOver known held others object = (claim : Claim) × (claim.object ≡ object) × ClashesIn known held others claim
 
 -- what names them
 abbrev pub blame : Object → ℕ → ℕ → Blame

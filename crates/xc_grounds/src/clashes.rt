@@ -1,5 +1,5 @@
 ghost use Rattle.std.specs.Bool.{Decides};
-ghost use Rattle.std.specs.Prelude.{◌++◌, Contains};
+ghost use Rattle.std.specs.Prelude.{◌++◌, Contains, IsTrue};
 ghost use Rattle.xc_data.specs.Claims.{Clash, claim};
 ghost use Rattle.xc_grounds.specs.Groundless.{ClashesIn, ClashesOver};
 ghost use Rattle.xc_model.specs.Grounds.{Clashes};
@@ -41,32 +41,41 @@ fn any_clashes(listed: &[KeptClaim], wanted: &[Claim], held: &Claim) -> bool
     kept_clashes(listed, held) || clashes(wanted, held)
 }
 
-// The object is held in this mode, and one of the other claims, listed or wanted, clashes with that.
+// One of either does, where they are known.
+fn may_clash(known: bool, listed: &[KeptClaim], wanted: &[Claim], held: &Claim) -> bool
+    ensures { Decides result (IsTrue known → Clashes (listed.now ++ wanted.now) held.now) }
+{
+    !known || any_clashes(listed, wanted, held)
+}
+
+// The object is held in this mode, and one of the other claims, listed or wanted, clashes with that where they are known.
 fn clashes_in(
+    known: bool,
     held: &[KeptClaim],
     listed: &[KeptClaim],
     wanted: &[Claim],
     object: &Object,
     mode: Mode,
 ) -> bool
-    ensures { Decides result (ClashesIn held.now (listed.now ++ wanted.now) (claim mode object.now)) }
+    ensures { Decides result (ClashesIn known held.now (listed.now ++ wanted.now) (claim mode object.now)) }
 {
     let claim = Claim {
         object: object.again(),
         mode,
     };
-    is_held(held, &claim) && any_clashes(listed, wanted, &claim)
+    is_held(held, &claim) && may_clash(known, listed, wanted, &claim)
 }
 
-/// The object is held, and one of the other claims, listed or wanted, clashes with that.
+/// The object is held, and one of the other claims, listed or wanted, clashes with that where they are known.
 pub(crate) fn clashes_over(
+    known: bool,
     held: &[KeptClaim],
     listed: &[KeptClaim],
     wanted: &[Claim],
     object: &Object,
 ) -> bool
-    ensures { Decides result (ClashesOver held.now (listed.now ++ wanted.now) object.now) }
+    ensures { Decides result (ClashesOver known held.now (listed.now ++ wanted.now) object.now) }
 {
-    clashes_in(held, listed, wanted, object, Mode::Shared)
-        || clashes_in(held, listed, wanted, object, Mode::Exclusive)
+    clashes_in(known, held, listed, wanted, object, Mode::Shared)
+        || clashes_in(known, held, listed, wanted, object, Mode::Exclusive)
 }

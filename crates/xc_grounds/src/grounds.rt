@@ -1,6 +1,6 @@
 ghost use Rattle.std.specs.Bool.{Decides};
 ghost use Rattle.std.specs.Option.{option_copied};
-ghost use Rattle.std.specs.Prelude.{◌<◌, ◌^◌, ◌++◌, [], IfOk, MatchOption, length, true};
+ghost use Rattle.std.specs.Prelude.{◌<◌, ◌^◌, ◌++◌, [], IfOk, MatchOption, length};
 ghost use Rattle.xc_grounds.specs.Groundless.{AreTwo, ClashesOver, IsFirstGroundless, IsGroundedAt, IsNamed, blame, mention, scene};
 ghost use Rattle.xc_grounds.specs.Numbered.{AreNumbered, part_begins};
 ghost use Rattle.xc_grounds.specs.Places.{HasPlaces};
@@ -59,15 +59,23 @@ fn named<'a>(
     None
 }
 
-// It holds the object, and the call that this one was asked last clashes with that.
-fn is_holder(who: &Part, part: &Part, object: &Object) -> bool
-    ensures { Decides result (ClashesOver who.now.held part.now.wanted object.now) }
+// It holds the object, and the call that this one was asked last clashes with that where it is known.
+fn is_holder(known: bool, who: &Part, part: &Part, object: &Object) -> bool
+    ensures { Decides result (ClashesOver known who.now.held part.now.wanted object.now) }
 {
-    clashes_over(who.held.as_slice(), &[], part.wanted.as_slice(), object)
+    clashes_over(
+        known,
+        who.held.as_slice(),
+        &[],
+        part.wanted.as_slice(),
+        object,
+    )
 }
 
-// The conflict of the one at this place names a holder of the object, with whom the call clashes that it was asked last.
+// The conflict of the one at this place names a holder of the object, with whom the call clashes that it was asked last, where it is
+// known.
 fn is_conflict(
+    known: bool,
     places: &Places,
     parts: &[Part],
     place: usize,
@@ -77,22 +85,24 @@ fn is_conflict(
     at: u32,
 ) -> bool
     requires { HasPlaces (part_begins parts.now) places.now.by_number.items }
-    ensures { Decides result (Ground (scene parts.now) place part.now (blame object.now number at)) }
+    ensures { Decides result (Ground (scene known parts.now) place part.now (blame object.now number at)) }
 {
     match named(places, parts, place, part, number, at) {
-        Some(who) => is_holder(who, part, object),
+        Some(who) => is_holder(known, who, part, object),
         None => false,
     }
 }
 
-// It has a smaller rank, and it holds or was asked last for the object that this one holds.
-fn is_older(who: &Part, part: &Part, object: &Object) -> bool
-    ensures { Decides result ((who.now.rank < part.now.rank) × ClashesOver part.now.held (who.now.held ++ who.now.wanted) object.now) }
+// It has a smaller rank, and it holds or was asked last for the object that this one holds; what it was asked last may be unknown.
+fn is_older(known: bool, who: &Part, part: &Part, object: &Object) -> bool
+    ensures { Decides result ((who.now.rank < part.now.rank)
+        × ClashesOver known part.now.held (who.now.held ++ who.now.wanted) object.now) }
 {
     if who.rank >= part.rank {
         return false;
     }
     clashes_over(
+        known,
         part.held.as_slice(),
         who.held.as_slice(),
         who.wanted.as_slice(),
@@ -100,8 +110,10 @@ fn is_older(who: &Part, part: &Part, object: &Object) -> bool
     )
 }
 
-// The revocation of the one at this place names an older transaction, which holds or was asked last for the object that this one holds.
+// The revocation of the one at this place names an older transaction, which holds or was asked last for the object that this one holds;
+// what it was asked last may be unknown.
 fn is_revocation(
+    known: bool,
     places: &Places,
     parts: &[Part],
     place: usize,
@@ -111,39 +123,40 @@ fn is_revocation(
     at: u32,
 ) -> bool
     requires { HasPlaces (part_begins parts.now) places.now.by_number.items }
-    ensures { Decides result (Revocation (scene parts.now) place part.now (blame object.now number at)) }
+    ensures { Decides result (Revocation (scene known parts.now) place part.now (blame object.now number at)) }
 {
     match named(places, parts, place, part, number, at) {
-        Some(who) => is_older(who, part, object),
+        Some(who) => is_older(known, who, part, object),
         None => false,
     }
 }
 
 // Why the one at this place was aborted is grounded.
-fn is_grounded(places: &Places, parts: &[Part], place: usize, part: &Part) -> bool
+fn is_grounded(known: bool, places: &Places, parts: &[Part], place: usize, part: &Part) -> bool
     requires { HasPlaces (part_begins parts.now) places.now.by_number.items }
-    ensures { Decides result (IsGroundedAt parts.now place part.now) }
+    ensures { Decides result (IsGroundedAt known parts.now place part.now) }
 {
     match &part.cause {
         Some(Cause::Conflict { object, holder, at }) => {
-            is_conflict(places, parts, place, part, object, *holder, *at)
+            is_conflict(known, places, parts, place, part, object, *holder, *at)
         }
         Some(Cause::Revoked { object, by, at }) => {
-            is_revocation(places, parts, place, part, object, *by, *at)
+            is_revocation(known, places, parts, place, part, object, *by, *at)
         }
         Some(Cause::Asked | Cause::NoMemory | Cause::Stuck { .. }) | None => true,
     }
 }
 
 /// The place of the first of these whose conflict names no holder, or whose revocation names no older transaction, if there is one.
-pub fn first_groundless(alloc: Global, parts: &[Part]) -> Result<Option<u32>, NoMemory>
+/// Where it isn't known which calls they were asked last, these need not clash with what is held.
+pub fn first_groundless(alloc: Global, known: bool, parts: &[Part]) -> Result<Option<u32>, NoMemory>
     requires numbered { AreNumbered (length parts.now) (part_begins parts.now) }
     requires few { length parts.now < 2 ^ 32 }
-    ensures { IfOk result (λ r. MatchOption r (AreGrounded (scene_of true parts.now [])) (IsFirstGroundless parts.now)) }
+    ensures { IfOk result (λ r. MatchOption r (AreGrounded (scene_of known parts.now [])) (IsFirstGroundless known parts.now)) }
 {
     let places = places_of(alloc, parts)?;
     for (place, part) in parts.iter().enumerate() {
-        if !is_grounded(&places, parts, place, part) {
+        if !is_grounded(known, &places, parts, place, part) {
             return Ok(Some(place as u32));
         }
     }

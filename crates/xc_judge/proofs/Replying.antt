@@ -15,7 +15,7 @@ use Rattle.xc_world.specs.Run.{BodyResult, asked_of, body}
 use Rattle.xc_world.specs.Sound.{IsReady, IsSound}
 use Rattle.xc_world.specs.World.{State, World}
 use Rattle.xc_machine.specs.Replay.{AreEnded, AreReplayed}
-use Rattle.xc_model.specs.declared.rules.Rules.{Rules}
+use Rattle.xc_judge.specs.declared.basis.Basis.{Basis}
 use Rattle.xc_model.specs.Course.{Course, Standing}
 use Rattle.xc_model.specs.Machine.{HasLateEnds, HasReplies}
 use Rattle.xc_model.specs.Progress.{body_of, private_of}
@@ -26,14 +26,14 @@ use Rattle.xc_judge.specs.declared.ran.Ran.{Ran}
 use Rattle.xc_judge.proofs.Committing.{commit_from_lates, ended_from, course_of, played_from, replayed_from}
 use Rattle.xc_judge.proofs.PlainReplies.{replies_in_time, word_replies}
 
-module _ (rules : Rules) (w : World) (hs : List (List Place)) (js : List Standing) (n : ℕ) (e : Entry) where
+module _ (basis : Basis) (w : World) (hs : List (List Place)) (js : List Standing) (n : ℕ) (e : Entry) where
   -- the entry's private state at its begin
   abbrev pub begun_private : Private
   begun_private = private_of (record { world = w; handles = hs }) e.job
 
   -- a body that is replayed with few faults has the replies that it says
-  pub has_replies : AreReplayed w begun_private e.tx e.calls e.replies → AreFewFaults rules.undo_tries no_records e.calls e.replies
-      → HasReplies (telling_terms rules) (course_of w hs js n) e
+  pub has_replies : AreReplayed w begun_private e.tx e.calls e.replies → AreFewFaults basis.rules.undo_tries no_records e.calls e.replies
+      → HasReplies (telling_terms basis) (course_of w hs js n) e
   has_replies all few =
       record {
         words = word_replies w begun_private e.tx e.calls e.replies all;
@@ -43,7 +43,7 @@ module _ (rules : Rules) (w : World) (hs : List (List Place)) (js : List Standin
       }
 
   -- and the other way round
-  pub replayed_so : HasReplies (telling_terms rules) (course_of w hs js n) e → AreReplayed w begun_private e.tx e.calls e.replies
+  pub replayed_so : HasReplies (telling_terms basis) (course_of w hs js n) e → AreReplayed w begun_private e.tx e.calls e.replies
   replayed_so has = replayed_from (record { world = w; handles = hs }) e (has.played refl)
 
 module _ (s : State) (e : Entry) where
@@ -100,10 +100,10 @@ few_there tries calls there replies others p q few =
 
 -- ---- late ends
 -- where late calls end as recorded, with an end for each kept call, they are those of a commit
-pub ends_decide : (rules : Rules) (c : Course) (e : Entry) (late : List LateEnd) (ran : Ran) (v : World) (made : List LateCall) (b : Bool)
+pub ends_decide : (basis : Basis) (c : Course) (e : Entry) (late : List LateEnd) (ran : Ran) (v : World) (made : List LateCall) (b : Bool)
     → IsRan ran (body_of c.state e) e.tx → length late ≡ length (kept_calls e.calls e.replies) → v ≡ ran.world → made ≡ ran.traced.replied.late
-    → Decides b (AreEnded v made late) → Decides b (HasLateEnds (telling_terms rules) c e late)
-ends_decide rules c e late ran v made b so count world made_is decides =
+    → Decides b (AreEnded v made late) → Decides b (HasLateEnds (telling_terms basis) c e late)
+ends_decide basis c e late ran v made b so count world made_is decides =
     let left = world ∙ so.world_is in
     let lates = made_is ∙ so.late in (
       λ test. record {

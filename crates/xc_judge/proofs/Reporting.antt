@@ -13,7 +13,7 @@ use Rattle.xc_shown.specs.Shown.{effects_shown, record_shown}
 use Rattle.xc_shown.specs.declared.shown.Shown.{Shown}
 use Rattle.xc_world.specs.Ends.{Ending}
 use Rattle.xc_world.specs.Run.{BodyResult}
-use Rattle.xc_model.specs.declared.rules.Rules.{Rules}
+use Rattle.xc_judge.specs.declared.basis.Basis.{Basis}
 use Rattle.xc_model.specs.Course.{Course}
 use Rattle.xc_world.specs.RecordOf.{AreRecordsOf}
 use Rattle.xc_model.specs.EntryEnds.{AreRecords}
@@ -51,74 +51,74 @@ module _ (b : BodyResult) (tx : ℕ) (last : Ask) (why : Cause) (shown : Shown) 
       subst (λ s. AreNotTraced b tx last s) seen (tested_false test _ _ is so)
 
 -- ---- its report
-module _ (rules : Rules) (c : Course) (last : Ask) (e : Entry) (seen : ReportShown) where
+module _ (basis : Basis) (c : Course) (last : Ask) (e : Entry) (seen : ReportShown) where
   -- the records that its calls left
   abbrev left : Recorded
   left = all_records no_records e.calls e.replies
 
   -- a report of such records has as many
-  counted : (report : Report) → IsShownSo seen report → HasReport (telling_terms rules) c last e report
-      → IsCountedReport rules.undo_tries (length left.now) (record { cause = seen.cause; records = report.records })
-  counted report so has = subst (λ y. IsCountedReport rules.undo_tries (length left.now) (record { cause = y; records = report.records })) so.cause
-      (report_counted rules.undo_tries left report has.counted)
+  counted : (report : Report) → IsShownSo seen report → HasReport (telling_terms basis) c last e report
+      → IsCountedReport basis.rules.undo_tries (length left.now) (record { cause = seen.cause; records = report.records })
+  counted report so has = subst (λ y. IsCountedReport basis.rules.undo_tries (length left.now) (record { cause = y; records = report.records })) so.cause
+      (report_counted basis.rules.undo_tries left report has.counted)
 
   -- the records of its body, with the replies that it tells, are those of its calls
-  of_calls : HasReplies (telling_terms rules) c e → AreRecordsOf left.now (body_of c.state e).trail
+  of_calls : HasReplies (telling_terms basis) c e → AreRecordsOf left.now (body_of c.state e).trail
   of_calls has = body_of_calls c.state.world (private_of c.state e.job) e.tx e.calls e.replies (replayed_from c.state e (has.played refl))
 
   -- its records are true
-  traced : (report : Report) → IsShownSo seen report → HasReport (telling_terms rules) c last e report
+  traced : (report : Report) → IsShownSo seen report → HasReport (telling_terms basis) c last e report
       → AreRecords (body_of c.state e) e.tx last seen.cause (undos_of report.records)
   traced report so has = subst (λ y. AreRecords (body_of c.state e) e.tx last y (undos_of report.records)) so.cause (has.played refl)
 
   -- and shown so
-  there : (report : Report) → IsShownSo seen report → HasReport (telling_terms rules) c last e report → AreShown seen report.records
-  there report so has = record { tries = rules.undo_tries; legal = has.counted.legal; kinds = so.kinds; effects = so.effects }
+  there : (report : Report) → IsShownSo seen report → HasReport (telling_terms basis) c last e report → AreShown seen report.records
+  there report so has = record { tries = basis.rules.undo_tries; legal = has.counted.legal; kinds = so.kinds; effects = so.effects }
 
   -- no true records are shown so
   pub not_traced : AreNotTraced (body_of c.state e) e.tx last seen → (report : Report) → IsShownSo seen report
-      → HasReport (telling_terms rules) c last e report → ⊥
+      → HasReport (telling_terms basis) c last e report → ⊥
   not_traced none report so has = none report.records (traced report so has) (there report so has)
 
   module _ (us : List Undo) (trail : AreTraced (body_of c.state e) e.tx last seen us) (records : List Ending) (undos : undos_of records ≡ us)
       (ends : ends_of records ≡ shown_ends seen.records) where
     -- those of a true report that is shown so are like these
-    like : (report : Report) → IsShownSo seen report → HasReport (telling_terms rules) c last e report → AreAllAlike seen.cause report.records records
+    like : (report : Report) → IsShownSo seen report → HasReport (telling_terms basis) c last e report → AreAllAlike seen.cause report.records records
     like report so has = trail.alike report.records (traced report so has) (there report so has) records undos ends
 
     -- they are of other kinds
     pub not_kinds : (map record_shown records ≡ seen.records → ⊥) → (report : Report) → IsShownSo seen report
-        → HasReport (telling_terms rules) c last e report → ⊥
+        → HasReport (telling_terms basis) c last e report → ⊥
     not_kinds none report so has = none (sym (like report so has).kinds ∙ so.kinds)
 
     -- other effects stand
     pub not_effects : (effects_shown records ≡ seen.effects → ⊥) → (report : Report) → IsShownSo seen report
-        → HasReport (telling_terms rules) c last e report → ⊥
+        → HasReport (telling_terms basis) c last e report → ⊥
     not_effects none report so has = none (sym (like report so has).effects ∙ so.effects)
 
     -- no report has them
     pub not_reported : (k : ℕ) (cause : Cause) → k ≡ length left.now → cause ≡ seen.cause
-        → (IsCountedReport rules.undo_tries k (record { cause = cause; records = records }) → ⊥) → (report : Report) → IsShownSo seen report
-        → HasReport (telling_terms rules) c last e report → ⊥
+        → (IsCountedReport basis.rules.undo_tries k (record { cause = cause; records = records }) → ⊥) → (report : Report) → IsShownSo seen report
+        → HasReport (telling_terms basis) c last e report → ⊥
     not_reported k cause count same none report so has =
-        none (subst (λ y. IsCountedReport rules.undo_tries k (record { cause = y; records = records })) (sym same)
-        (subst (λ n. IsCountedReport rules.undo_tries n (record { cause = seen.cause; records = records })) (sym count)
-        ((like report so has).reports rules.undo_tries (length left.now) (counted report so has))))
+        none (subst (λ y. IsCountedReport basis.rules.undo_tries k (record { cause = y; records = records })) (sym same)
+        (subst (λ n. IsCountedReport basis.rules.undo_tries n (record { cause = seen.cause; records = records })) (sym count)
+        ((like report so has).reports basis.rules.undo_tries (length left.now) (counted report so has))))
 
     -- a report has them
-    pub reported : HasReplies (telling_terms rules) c e → (k : ℕ) (cause : Cause) → k ≡ length left.now → cause ≡ seen.cause
+    pub reported : HasReplies (telling_terms basis) c e → (k : ℕ) (cause : Cause) → k ≡ length left.now → cause ≡ seen.cause
         → map record_shown records ≡ seen.records → effects_shown records ≡ seen.effects
-        → IsCountedReport rules.undo_tries k (record { cause = cause; records = records })
+        → IsCountedReport basis.rules.undo_tries k (record { cause = cause; records = records })
         → IsShownSo seen (record { cause = cause; records = records })
-        × HasReport (telling_terms rules) c last e (record { cause = cause; records = records })
+        × HasReport (telling_terms basis) c last e (record { cause = cause; records = records })
     reported replies k cause count same kinds effects report =
         let true_so : AreRecords (body_of c.state e) e.tx last cause (undos_of records) =
         subst (λ y. AreRecords (body_of c.state e) e.tx last y (undos_of records)) (sym same)
         (subst (AreRecords (body_of c.state e) e.tx last seen.cause) (sym undos) trail.records) in (
           record { cause = same; kinds = kinds; effects = effects },
           record {
-            counted = report_so rules.undo_tries left (body_of c.state e) e.tx last (record { cause = cause; records = records }) (of_calls replies) true_so
-                (subst (λ n. IsCountedReport rules.undo_tries n (record { cause = cause; records = records })) count report);
+            counted = report_so basis.rules.undo_tries left (body_of c.state e) e.tx last (record { cause = cause; records = records }) (of_calls replies)
+                true_so (subst (λ n. IsCountedReport basis.rules.undo_tries n (record { cause = cause; records = records })) count report);
             played = λ _. true_so;
           },
         )

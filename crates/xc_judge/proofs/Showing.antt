@@ -9,7 +9,7 @@ use Rattle.xc_script.specs.declared.ask.Ask.{Ask}
 use Rattle.xc_shown.specs.Shown.{Shows, bare, bare_outcome, record_shown, records_of, shown_of}
 use Rattle.xc_shown.specs.declared.shown.Shown.{Shown}
 use Rattle.xc_world.specs.Run.{BodyResult}
-use Rattle.xc_model.specs.declared.rules.Rules.{Rules}
+use Rattle.xc_judge.specs.declared.basis.Basis.{Basis}
 use Rattle.xc_model.specs.Course.{Course, Standing, standing_of}
 use Rattle.xc_model.specs.EntryEnds.{IsCauseOf, IsHeld, cause_in, failures_with}
 use Rattle.xc_model.specs.Machine.{HasLates, HasRecordsOf, HasReplies, IsAttempt, IsEndAsked, IsMachineTrue}
@@ -26,20 +26,20 @@ use Rattle.xc_judge.proofs.Newest.{stuck_alike}
 use Rattle.xc_judge.proofs.Tracing.{shown_ends_are}
 
 -- its job is started, and its replies and late ends are true
-pub record IsShownPlayed (rules : Rules) (c : Course) (e : Entry) : Type 0 where
+pub record IsShownPlayed (basis : Basis) (c : Course) (e : Entry) : Type 0 where
   pub numbered : IsInSomeTurn c e
-  pub replies : HasReplies (telling_terms rules) c e
-  pub lates : HasLates (telling_terms rules) c e e.outcome
+  pub replies : HasReplies (telling_terms basis) c e
+  pub lates : HasLates (telling_terms basis) c e e.outcome
 
 -- so it is where its body was run again, and its late calls end so
-pub played_so : (rules : Rules) (c : Course) (e : Entry) (ran : Ran) → IsRunSo rules c e ran → HasLates (telling_terms rules) c e e.outcome
-    → IsShownPlayed rules c e
-played_so rules c e ran run lates = record { numbered = run.numbered; replies = run.replies; lates = lates }
+pub played_so : (basis : Basis) (c : Course) (e : Entry) (ran : Ran) → IsRunSo basis c e ran → HasLates (telling_terms basis) c e e.outcome
+    → IsShownPlayed basis c e
+played_so basis c e ran run lates = record { numbered = run.numbered; replies = run.replies; lates = lates }
 
 -- ---- nothing but its records looks at more than is shown
-module _ (rules : Rules) (c : Course) (last : Ask) (e : Entry) where
+module _ (basis : Basis) (c : Course) (last : Ask) (e : Entry) where
   -- replies
-  replies_so : HasReplies (telling_terms rules) c (bare e) → HasReplies (telling_terms rules) c e
+  replies_so : HasReplies (telling_terms basis) c (bare e) → HasReplies (telling_terms basis) c e
   replies_so so =
       record {
         words = so.words;
@@ -49,7 +49,7 @@ module _ (rules : Rules) (c : Course) (last : Ask) (e : Entry) where
       }
 
   -- late ends
-  lates_so : (o : Outcome) → HasLates (telling_terms rules) c (bare e) (bare_outcome o) → HasLates (telling_terms rules) c e o
+  lates_so : (o : Outcome) → HasLates (telling_terms basis) c (bare e) (bare_outcome o) → HasLates (telling_terms basis) c e o
   lates_so (Committed late) so =
       record { count = so.count; played = λ tells. record { ends = (so.played tells).ends; late_fits = (so.played tells).late_fits } }
   lates_so (Aborted report) so = tt
@@ -65,22 +65,22 @@ module _ (rules : Rules) (c : Course) (last : Ask) (e : Entry) where
   failures_so failed (Aborted report) = refl
 
   -- the attempt
-  attempt_so : (f : Standing) → IsAttempt rules.attempts f (bare e) → IsAttempt rules.attempts f e
+  attempt_so : (f : Standing) → IsAttempt (telling_terms basis) f (bare e) → IsAttempt (telling_terms basis) f e
   attempt_so f so =
-      record { goes_on = so.goes_on; rank = so.rank; failures = subst (λ n. n ≤ rules.attempts) (failures_so f.failed e.outcome) so.failures }
+      record { goes_on = so.goes_on; rank = so.rank; failures = subst (λ n. n ≤ basis.rules.attempts) (failures_so f.failed e.outcome) so.failures }
 
   -- the attempt, without its records
-  attempt_bare : (f : Standing) → IsAttempt rules.attempts f e → IsAttempt rules.attempts f (bare e)
+  attempt_bare : (f : Standing) → IsAttempt (telling_terms basis) f e → IsAttempt (telling_terms basis) f (bare e)
   attempt_bare f so =
       record {
         goes_on = so.goes_on;
         rank = so.rank;
-        failures = subst (λ n. n ≤ rules.attempts) (sym (failures_so f.failed e.outcome)) so.failures;
+        failures = subst (λ n. n ≤ basis.rules.attempts) (sym (failures_so f.failed e.outcome)) so.failures;
       }
 
   -- so it is true where it is so as far as it is shown, and its records and its story are true
-  bare_true : IsShownPlayed rules c (bare e) → IsHeld (body_of c.state e) last (bare_outcome e.outcome) e.held
-      → IsToldBy rules c last e → HasRecordsOf (telling_terms rules) c last e e.outcome → IsMachineTrue (telling_terms rules) c last e
+  bare_true : IsShownPlayed basis c (bare e) → IsHeld (body_of c.state e) last (bare_outcome e.outcome) e.held
+      → IsToldBy basis c last e → HasRecordsOf (telling_terms basis) c last e e.outcome → IsMachineTrue (telling_terms basis) c last e
   bare_true run held told records =
       let turn = run.numbered.in_turn in
       let f = run.numbered.standing in
@@ -108,11 +108,11 @@ abbrev pub HeldSo : Course → Ask → Entry → Type 0
 HeldSo c last e = IsHeld (body_of c.state e) last e.outcome e.held
 
 -- an entry that is shown so is true
-pub judged_true : (rules : Rules) (c : Course) (last : Ask) (shown : Shown) (e : Entry) → Shows shown e → IsShownPlayed rules c shown.entry
-    → HeldSo c last shown.entry → IsToldBy rules c last e → HasRecordsOf (telling_terms rules) c last e e.outcome → IsMachineTrue (telling_terms rules) c last e
-judged_true rules c last shown e shows run held told records =
+pub judged_true : (basis : Basis) (c : Course) (last : Ask) (shown : Shown) (e : Entry) → Shows shown e → IsShownPlayed basis c shown.entry
+    → HeldSo c last shown.entry → IsToldBy basis c last e → HasRecordsOf (telling_terms basis) c last e e.outcome → IsMachineTrue (telling_terms basis) c last e
+judged_true basis c last shown e shows run held told records =
     let same = shown_bare shown e shows in
-    bare_true rules c last e (subst (IsShownPlayed rules c) same run) (subst (HeldSo c last) same held) told records
+    bare_true basis c last e (subst (IsShownPlayed basis c) same run) (subst (HeldSo c last) same held) told records
 
 -- ---- its story looks at nothing of its records but their ends
 -- the end of another entry with the same calls, which is shown so, was asked too
@@ -134,24 +134,24 @@ asked_alike last e d (Aborted report) (Aborted other) calls replies same records
     }
 
 -- so of two entries that are shown alike both tell their story, or neither
-pub told_alike : (rules : Rules) (c : Course) (last : Ask) (shown : Shown) (e d : Entry) → Shows shown e → Shows shown d → IsToldBy rules c last e
-    → IsToldBy rules c last d
-told_alike rules c last shown e d at_e at_d told =
+pub told_alike : (basis : Basis) (c : Course) (last : Ask) (shown : Shown) (e d : Entry) → Shows shown e → Shows shown d → IsToldBy basis c last e
+    → IsToldBy basis c last d
+told_alike basis c last shown e d at_e at_d told =
     let same : shown_of e ≡ shown_of d = at_e ∙ sym at_d in
     let bares : bare e ≡ bare d = ap (λ (s : Shown). s.entry) same in
     record {
       attempt = λ f started.
           let there : standing_of c (bare e) ≡ Some f = subst (λ (x : Entry). standing_of c x ≡ Some f) (sym bares) started in
-          attempt_so rules c last d f
-          (subst (λ (x : Entry). IsAttempt rules.attempts f x) bares (attempt_bare rules c last e f (told.attempt f there)));
+          attempt_so basis c last d f
+          (subst (λ (x : Entry). IsAttempt (telling_terms basis) f x) bares (attempt_bare basis c last e f (told.attempt f there)));
       asked = asked_alike last e d e.outcome d.outcome (ap (λ (x : Entry). x.calls) bares) (ap (λ (x : Entry). x.replies) bares)
           (ap (λ (x : Entry). x.outcome) bares) (ap (λ (s : Shown). s.records) same) told.asked;
     }
 
 -- ---- the first reason for which it is refused
-module _ (rules : Rules) (c : Course) (last : Ask) (shown : Shown) where
+module _ (basis : Basis) (c : Course) (last : Ask) (shown : Shown) where
   -- what comes before its records is so
-  before_records : IsShownPlayed rules c shown.entry → (other : Reason) → place_of_reason other < 3 → MeetsSo rules c last shown other
+  before_records : IsShownPlayed basis c shown.entry → (other : Reason) → place_of_reason other < 3 → MeetsSo basis c last shown other
   before_records run reason.Numbers less = run.numbered
   before_records run reason.Reply less = run.replies
   before_records run reason.Late less = run.lates
@@ -160,8 +160,8 @@ module _ (rules : Rules) (c : Course) (last : Ask) (shown : Shown) where
   before_records run reason.Story less = absurd (omega (arith, less))
 
   -- and what comes behind them
-  before_held : IsShownPlayed rules c shown.entry → MeetsSo rules c last shown reason.Records → (other : Reason) → place_of_reason other < 4
-      → MeetsSo rules c last shown other
+  before_held : IsShownPlayed basis c shown.entry → MeetsSo basis c last shown reason.Records → (other : Reason) → place_of_reason other < 4
+      → MeetsSo basis c last shown other
   before_held run records reason.Numbers less = run.numbered
   before_held run records reason.Reply less = run.replies
   before_held run records reason.Late less = run.lates
@@ -170,8 +170,8 @@ module _ (rules : Rules) (c : Course) (last : Ask) (shown : Shown) where
   before_held run records reason.Story less = absurd (omega (arith, less))
 
   -- and what comes before its story
-  before_story : IsShownPlayed rules c shown.entry → MeetsSo rules c last shown reason.Records → MeetsSo rules c last shown reason.Held
-      → (other : Reason) → place_of_reason other < 5 → MeetsSo rules c last shown other
+  before_story : IsShownPlayed basis c shown.entry → MeetsSo basis c last shown reason.Records → MeetsSo basis c last shown reason.Held
+      → (other : Reason) → place_of_reason other < 5 → MeetsSo basis c last shown other
   before_story run records held reason.Numbers less = run.numbered
   before_story run records held reason.Reply less = run.replies
   before_story run records held reason.Late less = run.lates
@@ -180,7 +180,7 @@ module _ (rules : Rules) (c : Course) (last : Ask) (shown : Shown) where
   before_story run records held reason.Story less = absurd (omega (arith, less))
 
   -- before its replies
-  before_reply : IsInSomeTurn c shown.entry → (other : Reason) → place_of_reason other < 1 → MeetsSo rules c last shown other
+  before_reply : IsInSomeTurn c shown.entry → (other : Reason) → place_of_reason other < 1 → MeetsSo basis c last shown other
   before_reply numbered reason.Numbers less = numbered
   before_reply numbered reason.Reply less = absurd (omega (arith, less))
   before_reply numbered reason.Late less = absurd (omega (arith, less))
@@ -189,8 +189,8 @@ module _ (rules : Rules) (c : Course) (last : Ask) (shown : Shown) where
   before_reply numbered reason.Story less = absurd (omega (arith, less))
 
   -- and before its late ends
-  before_late : IsInSomeTurn c shown.entry → HasReplies (telling_terms rules) c shown.entry → (other : Reason) → place_of_reason other < 2
-      → MeetsSo rules c last shown other
+  before_late : IsInSomeTurn c shown.entry → HasReplies (telling_terms basis) c shown.entry → (other : Reason) → place_of_reason other < 2
+      → MeetsSo basis c last shown other
   before_late numbered replies reason.Numbers less = numbered
   before_late numbered replies reason.Reply less = replies
   before_late numbered replies reason.Late less = absurd (omega (arith, less))
@@ -199,7 +199,7 @@ module _ (rules : Rules) (c : Course) (last : Ask) (shown : Shown) where
   before_late numbered replies reason.Story less = absurd (omega (arith, less))
 
   -- its body fails
-  pub refused_run : (why : Reason) → FailsToRun rules c shown.entry why → IsRefusedSo rules c last shown why
+  pub refused_run : (why : Reason) → FailsToRun basis c shown.entry why → IsRefusedSo basis c last shown why
   refused_run reason.Numbers fails = record { fails = fails; before = λ other less. absurd (omega (arith, less)) }
   refused_run reason.Reply fails = record { fails = fails.1; before = before_reply fails.0 }
   refused_run reason.Late fails = record { fails = fails.2; before = before_late fails.0 fails.1 }
@@ -208,20 +208,20 @@ module _ (rules : Rules) (c : Course) (last : Ask) (shown : Shown) where
   refused_run reason.Story fails = absurd fails
 
   -- its records do
-  pub refused_records : IsShownPlayed rules c shown.entry
-      → ((e : Entry) → Shows shown e → HasRecordsOf (telling_terms rules) c last e e.outcome → ⊥) → IsRefusedSo rules c last shown reason.Records
+  pub refused_records : IsShownPlayed basis c shown.entry
+      → ((e : Entry) → Shows shown e → HasRecordsOf (telling_terms basis) c last e e.outcome → ⊥) → IsRefusedSo basis c last shown reason.Records
   refused_records run none = record { fails = λ some. none some.0 some.1 some.2; before = before_records run }
 
   -- what was held does
-  pub refused_held : IsShownPlayed rules c shown.entry → (e : Entry) → Shows shown e → HasRecordsOf (telling_terms rules) c last e e.outcome
-      → (HeldSo c last shown.entry → ⊥) → IsRefusedSo rules c last shown reason.Held
+  pub refused_held : IsShownPlayed basis c shown.entry → (e : Entry) → Shows shown e → HasRecordsOf (telling_terms basis) c last e e.outcome
+      → (HeldSo c last shown.entry → ⊥) → IsRefusedSo basis c last shown reason.Held
   refused_held run e shows records fails = record { fails = fails; before = before_held run (e, shows, records) }
 
   -- its story does
-  pub refused_story : IsShownPlayed rules c shown.entry → (e : Entry) → Shows shown e → HasRecordsOf (telling_terms rules) c last e e.outcome
-      → HeldSo c last shown.entry → (IsToldBy rules c last e → ⊥) → IsRefusedSo rules c last shown reason.Story
+  pub refused_story : IsShownPlayed basis c shown.entry → (e : Entry) → Shows shown e → HasRecordsOf (telling_terms basis) c last e e.outcome
+      → HeldSo c last shown.entry → (IsToldBy basis c last e → ⊥) → IsRefusedSo basis c last shown reason.Story
   refused_story run e shows records held fails =
       record {
-        fails = λ some. fails (told_alike rules c last shown some.0 e some.1 shows some.2);
+        fails = λ some. fails (told_alike basis c last shown some.0 e some.1 shows some.2);
         before = before_story run (e, shows, records) held;
       }

@@ -4,7 +4,7 @@ ghost use Rattle.xc_judge.specs.Ran.{IsKept};
 ghost use Rattle.xc_model.specs.Course.{after_course};
 ghost use Rattle.xc_model.specs.Machine.{IsMachineTrue};
 ghost use Rattle.xc_model.specs.Progress.{body_of};
-ghost use Rattle.xc_model.specs.declared.rules.Rules.{Rules as PlainRules};
+ghost use Rattle.xc_judge.specs.declared.basis.Basis.{Basis as PlainBasis};
 ghost use Rattle.xc_script.specs.declared.ask.Ask.{Ask as PlainAsk};
 
 use crate::Progress;
@@ -16,7 +16,7 @@ impl Progress {
     pub(crate) fn enter(self, entry: &Entry, kept: Option<Ran>) -> Result<Progress, NoMemory>
         requires open { IsOpenTo self entry.now.tx }
         requires room { self.entered + 1 < 2 ^ 32 }
-        requires judged { (rules : PlainRules) × (last : PlainAsk) × IsMachineTrue (telling_terms rules) self last entry.now }
+        requires judged { (basis : PlainBasis) × (last : PlainAsk) × IsMachineTrue (telling_terms basis) self last entry.now }
         requires kept { IsKept kept (body_of self.state entry.now) entry.now.outcome }
         ensures value { IfOk result (λ next. next ≡ after_course self entry.now) }
         ensures open { (ty : ℕ) → (ty ≢ entry.now.tx) → IsOpenTo self ty → IfOk result (λ next. IsOpenTo next ty) }

@@ -4,6 +4,7 @@
 
 mod abort;
 mod accessors;
+mod basis;
 mod counted;
 mod effects;
 mod enter;
@@ -25,6 +26,7 @@ mod stepped;
 mod story;
 mod undos;
 
+pub use basis::Basis;
 pub use progress::Progress;
 pub use reason::Reason;
 pub use standing::Standing;

@@ -5,12 +5,11 @@ ghost use Rattle.xc_judge.specs.Ran.{IsLedOn, IsLedOnBy, IsRan};
 ghost use Rattle.xc_model.specs.Machine.{HasLateEnds, HasLates, HasReplies};
 ghost use Rattle.xc_model.specs.Progress.{body_of};
 
-use crate::Progress;
 use crate::faults::are_few_faults;
+use crate::{Basis, Progress};
 use xc_asked::kept_count;
 use xc_data::{Entry, LateEnd, NoMemory, Outcome, Private};
 use xc_machine::{Traced, World, replay_lates, replay_traced};
-use xc_model::Rules;
 
 /// An entry's body, run again from where the journal led: the world and the private state that it left, and what it gave. The late
 /// calls of an entry that committed lead on from that world. Its 256 handles are large: they stand in a box.
@@ -23,11 +22,11 @@ pub(crate) struct Ran {
 
 impl Progress {
     /// An entry's body, run again, if its replies are the plain machine's.
-    pub(crate) fn run_again(&self, rules: &Rules, entry: &Entry) -> Result<Option<Ran>, NoMemory>
+    pub(crate) fn run_again(&self, basis: &Basis, entry: &Entry) -> Result<Option<Ran>, NoMemory>
         requires open { IsOpenTo self.now entry.now.tx }
         requires numbered { 1 ≤ entry.now.job }
-        ensures { IfOk result (λ r. MatchOption r (HasReplies (telling_terms rules.now) self.now entry.now → ⊥) (λ ran.
-            HasReplies (telling_terms rules.now) self.now entry.now × IsRan ran (body_of self.now.state entry.now) entry.now.tx)) }
+        ensures { IfOk result (λ r. MatchOption r (HasReplies (telling_terms basis.now) self.now entry.now → ⊥) (λ ran.
+            HasReplies (telling_terms basis.now) self.now entry.now × IsRan ran (body_of self.now.state entry.now) entry.now.tx)) }
     {
         let (calls, replies) = (entry.calls.as_slice(), entry.replies.as_slice());
         let alloc = *self.jobs.allocator();
@@ -37,7 +36,7 @@ impl Progress {
         else {
             return Ok(None);
         };
-        if !are_few_faults(rules.undo_tries, calls, replies) {
+        if !are_few_faults(basis.rules.undo_tries, calls, replies) {
             return Ok(None);
         }
         Ok(Some(Ran { world, me, traced }))
@@ -46,13 +45,13 @@ impl Progress {
     // The late calls that an entry's body left end so, one after another. They lead on from there.
     fn ends_so(
         &self,
-        rules: &Rules,
+        basis: &Basis,
         ran: &mut Ran,
         entry: &Entry,
         late: &[LateEnd],
     ) -> Result<bool, NoMemory>
         requires ran { IsRan ran.old (body_of self.now.state entry.now) entry.now.tx }
-        ensures decides { IfOk result (λ yes. Decides yes (HasLateEnds (telling_terms rules.now) self.now entry.now late.now)) }
+        ensures decides { IfOk result (λ yes. Decides yes (HasLateEnds (telling_terms basis.now) self.now entry.now late.now)) }
         ensures leads { IfOk result (λ yes. OnTrue yes
             (IsLedOn ran.new.world ran.new.me.value (body_of self.now.state entry.now) late.now)) }
     {
@@ -67,18 +66,18 @@ impl Progress {
     /// The late calls of an entry that committed end as it says, and lead on from its body.
     pub(crate) fn has_lates(
         &self,
-        rules: &Rules,
+        basis: &Basis,
         ran: &mut Ran,
         entry: &Entry,
     ) -> Result<bool, NoMemory>
         requires ran { IsRan ran.old (body_of self.now.state entry.now) entry.now.tx }
-        ensures decides { IfOk result (λ yes. Decides yes (HasLates (telling_terms rules.now) self.now entry.now entry.now.outcome)) }
+        ensures decides { IfOk result (λ yes. Decides yes (HasLates (telling_terms basis.now) self.now entry.now entry.now.outcome)) }
         ensures leads { IfOk result (λ yes. OnTrue yes
             (IsLedOnBy ran.new (body_of self.now.state entry.now) entry.now.tx entry.now.outcome)) }
     {
         match &entry.outcome {
             Outcome::Committed { late } => {
-                let yes = self.ends_so(rules, ran, entry, late.as_slice())?;
+                let yes = self.ends_so(basis, ran, entry, late.as_slice())?;
                 Ok(yes)
             }
             Outcome::Aborted(_) => Ok(true),

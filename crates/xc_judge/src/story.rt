@@ -1,11 +1,12 @@
 ghost use Rattle.std.specs.Bool.{Decides};
-ghost use Rattle.std.specs.Prelude.{◌≡◌, ◌≤◌};
+ghost use Rattle.std.specs.Prelude.{◌≡◌, ◌≤◌, false};
 ghost use Rattle.xc_model.specs.EntryEnds.{IsCauseOf, HasAbortCause, failures_with, is_tried_again};
 ghost use Rattle.xc_model.specs.Machine.{IsAttempt, IsEndAsked};
 ghost use Rattle.xc_model.specs.Recorded.{all_records, no_records};
+ghost use Rattle.xc_judge.specs.Judged.{telling_terms};
 
-use crate::Standing;
 use crate::faults::records_of;
+use crate::{Basis, Standing};
 use xc_data::{Call, Cause, Entry, Outcome, Report};
 use xc_script::Ask;
 
@@ -51,6 +52,13 @@ fn is_end_asked(last: &Ask, entry: &Entry) -> bool
 }
 
 impl Standing {
+    // The job goes on after its last entry: want of memory ends one that no client asks.
+    fn goes_on(&self, clients: bool) -> bool
+        ensures { Decides result (clients ≡ false → self.now.starved ≡ false) }
+    {
+        clients || !self.starved
+    }
+
     // Not too many attempts at its transaction failed, one with this outcome among them.
     fn are_few_failures(&self, attempts: u32, outcome: &Outcome) -> bool
         ensures { Decides result (failures_with self.now.failed outcome.now ≤ attempts) }
@@ -66,18 +74,19 @@ impl Standing {
     }
 
     /// The job goes on with this attempt: its rank is the number of the first one, and not too many failed.
-    pub(crate) fn goes_on_with(&self, attempts: u32, entry: &Entry) -> bool
-        ensures { Decides result (IsAttempt attempts self.now entry.now) }
+    pub(crate) fn goes_on_with(&self, basis: &Basis, entry: &Entry) -> bool
+        ensures { Decides result (IsAttempt (telling_terms basis.now) self.now entry.now) }
     {
-        !self.starved
+        self.goes_on(basis.clients)
             && entry.rank == self.first.unwrap_or(entry.tx)
-            && self.are_few_failures(attempts, &entry.outcome)
+            && self.are_few_failures(basis.rules.attempts, &entry.outcome)
     }
 
     /// The same, and its end was asked.
-    pub(crate) fn is_told(&self, attempts: u32, last: &Ask, entry: &Entry) -> bool
-        ensures { Decides result (IsAttempt attempts self.now entry.now × IsEndAsked last.now entry.now entry.now.outcome) }
+    pub(crate) fn is_told(&self, basis: &Basis, last: &Ask, entry: &Entry) -> bool
+        ensures { Decides result (IsAttempt (telling_terms basis.now) self.now entry.now
+            × IsEndAsked last.now entry.now entry.now.outcome) }
     {
-        self.goes_on_with(attempts, entry) && is_end_asked(last, entry)
+        self.goes_on_with(basis, entry) && is_end_asked(last, entry)
     }
 }

@@ -9,15 +9,14 @@ ghost use Rattle.xc_model.specs.Progress.{body_of};
 ghost use Rattle.xc_world.specs.Run.{BodyResult};
 ghost use Rattle.xc_world.specs.Sound.{IsSound};
 
-use crate::Progress;
 use crate::effects::{have_effects, have_kinds};
 use crate::faults::records_of;
 use crate::ran::Ran;
 use crate::records::is_starved;
+use crate::{Basis, Progress};
 use xc_data::{Cause, Items, NoMemory, RecordList, Report, Undo, UndoEnd};
 use xc_lines::{EffectShown, UndoKind};
 use xc_machine::Traced;
-use xc_model::Rules;
 use xc_script::Ask;
 use xc_shown::Shown;
 
@@ -97,18 +96,18 @@ impl Progress {
     /// The report of an aborted entry for this cause, by what is shown of its records; none where no true one is shown so.
     pub(crate) fn report(
         &self,
-        rules: &Rules,
+        basis: &Basis,
         ran: Ran,
         last: &Ask,
         cause: &Cause,
         shown: &Shown,
     ) -> Result<Option<Report>, NoMemory>
         requires ran { IsRan ran (body_of self.now.state shown.now.entry) shown.now.entry.tx }
-        requires replies { HasReplies (telling_terms rules.now) self.now shown.now.entry }
+        requires replies { HasReplies (telling_terms basis.now) self.now shown.now.entry }
         ensures { let seen = report_shown cause.now shown.now in IfOk result (λ found. MatchOption found
-            ((report : PlainReport) → IsShownSo seen report → HasReport (telling_terms rules.now) self.now last.now shown.now.entry report
+            ((report : PlainReport) → IsShownSo seen report → HasReport (telling_terms basis.now) self.now last.now shown.now.entry report
             → ⊥)
-            (λ report. IsShownSo seen report × HasReport (telling_terms rules.now) self.now last.now shown.now.entry report)) }
+            (λ report. IsShownSo seen report × HasReport (telling_terms basis.now) self.now last.now shown.now.entry report)) }
     {
         let mut ran = ran;
         let entry = &shown.entry;
@@ -129,7 +128,7 @@ impl Progress {
         };
         let counted = records_of(entry.calls.as_slice(), entry.replies.as_slice());
         let alloc = *self.jobs.allocator();
-        if !counted.is_report(alloc, rules.undo_tries, &report) {
+        if !counted.is_report(alloc, basis.rules.undo_tries, &report) {
             return Ok(None);
         }
         Ok(Some(report))

@@ -3,13 +3,14 @@ use Rattle.std.proofs.Common.{◌≡◌, ◌∙◌, ◌<◌, ◌^◌, ℕ, List,
 use Rattle.std.specs.List.{AllByRecursion}
 use Rattle.std.specs.Prelude.{IsTrue}
 use Rattle.xc_data.specs.declared.entry.Entry.{Entry}
-use Rattle.xc_check.specs.TrueTexts.{IsTrueAsPrinted, IsTrueText, telling}
+use Rattle.xc_check.specs.TrueTexts.{IsTrueAsPrinted, IsTrueBy, IsTrueText, telling}
 use Rattle.xc_host.specs.Model.{HostModel}
+use Rattle.xc_model.specs.Live.{IsScripted}
 use Rattle.xc_model.specs.Setting.{setting}
 use Rattle.xc_model.specs.declared.rules.Rules.{Rules}
 use Rattle.xc_outcome.specs.Runs.{IsEndOver, end_text}
 use Rattle.xc_station.specs.declared.run_result.End.{End}
-use Rattle.xc_text.proofs.Laws.{in_limits, parsed}
+use Rattle.xc_text.proofs.Laws.{in_limits, parsed, parsed_blocks}
 use Rattle.xc_text.specs.Scripts.{parse_of}
 use Rattle.xc_own_text.proofs.Counts.{each_answered, as_many_words}
 use Rattle.xc_text.specs.declared.script.Script.{Script}
@@ -26,11 +27,12 @@ tells_so script read rules tells same told = ap (λ (s : Script). setting s rule
 
 module _ {H : Type 0} (model : HostModel H) (rules : Rules) (host : H) (end : End H) (told : IsTrue model.tells) (over : IsEndOver model rules host end) where
   -- its end is true as it is printed
-  true_as_printed : IsTrueAsPrinted (setting end.opening.script rules model.tells) end.journal.items end.jobs end.words end.kept
-  true_as_printed =
+  true_as_printed : IsScripted end.opening.script
+      → IsTrueAsPrinted (setting end.opening.script rules model.tells) end.journal.items end.jobs end.words end.kept
+  true_as_printed own =
       let state = over.whole.state told in
       record {
-        is_true = over.whole.journal;
+        is_true = subst (λ b. IsTrueBy b (setting end.opening.script rules model.tells) end.journal.items) (sym own) over.whole.journal;
         words_are = state.words;
         ends = over.whole.ends;
         front = record { order = over.kept; contents = model.contents end.host; front = state.host };
@@ -41,7 +43,8 @@ module _ {H : Type 0} (model : HostModel H) (rules : Rules) (host : H) (end : En
       → IsTrueAsPrinted (telling read rules) end.journal.items end.jobs end.words end.kept
   own_end bytes read is other =
       subst (λ s. IsTrueAsPrinted s end.journal.items end.jobs end.words end.kept)
-      (tells_so end.opening.script read rules model.tells (one_script bytes end.opening.script read is other) told) true_as_printed
+      (tells_so end.opening.script read rules model.tells (one_script bytes end.opening.script read is other) told)
+      (true_as_printed (parsed_blocks bytes end.opening.script is))
 
   pub own_text : (bytes : List ℕ) (read : Script) → parse_of bytes ≡ Ok end.opening.script → parse_of bytes ≡ Ok read
       → IsTrueText (telling read rules) (end_text end)

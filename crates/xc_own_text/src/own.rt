@@ -3,7 +3,7 @@ ghost use Rattle.xc_check.specs.declared.verdict.Verdict.TheVariants.{Yes};
 ghost use Rattle.xc_outcome.specs.Runs.{IsRunOf, end_text};
 
 use std::alloc::Global;
-use xc_check::{Verdict, check};
+use xc_check::{Basis, Verdict, check};
 use xc_data::{Chunk, NoMemory};
 use xc_host::Host;
 use xc_model::Rules;
@@ -32,5 +32,9 @@ pub fn check_own<H: Host>(
         end.words.as_slice(),
         end.kept.as_slice(),
     );
-    check(alloc, script, rules, text)
+    let basis = Basis {
+        rules: *rules,
+        clients: false,
+    };
+    check(alloc, script, &basis, text)
 }

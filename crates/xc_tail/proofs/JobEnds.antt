@@ -1,6 +1,6 @@
 -- How a job ended, by what its line shows, and the lines that begin with those of the jobs.
-use Rattle.std.proofs.Common.{◌≡◌, ℕ, ◌+◌, ◌≤◌, ◌==◌, ◌&&◌, Bool, true, false, not, is_some, Option, None, Some, List, [], ◌∷◌, ◌++◌, length, drop}
-use Rattle.std.proofs.Common.{refl, ap, sym, ◌∙◌, subst, arith}
+use Rattle.std.proofs.Common.{◌≡◌, ◌⊎◌, inl, inr, ℕ, ◌+◌, ◌≤◌, ◌==◌, ◌&&◌, ◌||◌, Bool, true, false, not, is_some, Option, None, Some}
+use Rattle.std.proofs.Common.{List, [], ◌∷◌, ◌++◌, length, drop, refl, ap, sym, ◌∙◌, subst, arith}
 use Rattle.std.specs.Prelude.{nat_eq, nat_le, nat_lt, MatchOption, if◌then◌else◌}
 use Rattle.std.specs.List.{AllZip}
 use Rattle.std.specs.Cmp.Derive.{both_true}
@@ -13,7 +13,7 @@ use Rattle.xc_data.specs.declared.entry.JobLine.{JobLine}
 use Rattle.xc_lines.specs.declared.shown.JobShown.{JobShown}
 use Rattle.xc_lines.specs.declared.shown.JobShown.TheVariants as ended
 use Rattle.xc_model.specs.Ending.{IsEnd, IsLine, AreEnds}
-use Rattle.xc_model.specs.Live.{IsScripted}
+use Rattle.xc_model.specs.Live.{GoesOn}
 use Rattle.xc_model.specs.Progress.{Following}
 use Rattle.xc_model.specs.Setting.{Setting}
 use Rattle.xc_model.specs.declared.rules.Rules.{Rules}
@@ -21,7 +21,7 @@ use Rattle.xc_script.specs.Ask.{next_body}
 use Rattle.xc_sheet.specs.Ends.{job_end_shown, lines_of_jobs}
 use Rattle.xc_sheet.specs.declared.lines.Line.{Line}
 use Rattle.xc_sheet.specs.declared.lines.Line.TheVariants as line
-use Rattle.xc_tail.specs.JobLines.{ends_so, is_job_line, behind_jobs, Numbered, numbered_jobs, HasJobLines}
+use Rattle.xc_tail.specs.JobLines.{ends_so, goes_on, is_job_line, behind_jobs, Numbered, numbered_jobs, HasJobLines}
 use Rattle.xc_tail.specs.Tails.{IsToldOf}
 use Rattle.xc_tail.specs.declared.job_left.JobLeft.{JobLeft}
 
@@ -50,57 +50,90 @@ abbrev pub FindsJobLines : Setting → ℕ → Numbered → List Line → Option
 FindsJobLines s entries from lines found =
     MatchOption found ((rest : List Line) → HasJobLines s entries from lines rest → ⊥) (HasJobLines s entries from lines)
 
-module _ (s : Setting) (rules : Rules) (entries : ℕ) (own : IsScripted s.script) (same : s.rules ≡ rules) (some : 1 ≤ rules.attempts) where
+-- one of two is so
+or_parts_of : (a b : Bool) → (a || b) ≡ true → (a ≡ true) ⊎ (b ≡ true)
+or_parts_of true b is = inl refl
+or_parts_of false b is = inr is
+
+or_so : (a b : Bool) → (a ≡ false → b ≡ true) → (a || b) ≡ true
+or_so true b so = refl
+or_so false b so = so refl
+
+-- where one of two isn't so the other is
+where_other : (a b : Bool) → (a || b) ≡ true → a ≡ false → b ≡ true
+where_other a b is lacks =
+    elim (or_parts_of a b is) [
+      | inl first ↦ cc (first, lacks)
+      | inr second ↦ second
+    ]
+
+module _ (s : Setting) (rules : Rules) (entries : ℕ) (same : s.rules ≡ rules) (some : 1 ≤ rules.attempts) where
   -- the attempts that are allowed
   most : s.rules.attempts ≡ rules.attempts
   most = ap (λ (r : Rules). r.attempts) same
 
   module _ (f : Following) (j : JobLeft) (told : IsToldOf s.script f j) where
+    -- a job that goes on does so by the code
+    going : GoesOn s.script f.starved → goes_on j ≡ true
+    going on = or_so j.is_client (not j.is_starved) (λ own. not_from_false j.is_starved (told.starved ∙ on (sym told.client ∙ own)))
+
+    gone_on : goes_on j ≡ true → GoesOn s.script f.starved
+    gone_on is own = sym told.starved ∙ not-true j.is_starved (where_other j.is_client (not j.is_starved) is (told.client ∙ own))
+
     -- where an end passes, the job may have ended so
     ends_to : (shown : JobShown) → ends_so rules entries j shown ≡ true → EndsAs s entries f shown
     ends_to ended.Done passed =
-        let p = and_parts (not j.is_starved) (not j.is_left) passed in
-        let none = none_there (next_body s.script f.job) (sym told.left ∙ not-true j.is_left p.1) in
-        (job_end.Done, refl, (sym told.starved ∙ not-true j.is_starved p.0, λ _. none))
+        let p = and_parts (goes_on j) (j.is_client || not j.is_left) passed in (
+          job_end.Done,
+          refl,
+          (
+            gone_on p.0,
+            λ own.
+                let lacks = where_other j.is_client (not j.is_left) p.1 (told.client ∙ own) in
+                none_there (next_body s.script f.job) (sym told.left ∙ not-true j.is_left lacks),
+          ),
+        )
     ends_to ended.GaveUp passed =
-        let p = and_parts (not j.is_starved && j.is_left) (nat_le rules.attempts j.failed) passed in
-        let q = and_parts (not j.is_starved) j.is_left p.0 in
+        let p = and_parts (goes_on j && j.is_left) (nat_le rules.attempts j.failed) passed in
+        let q = and_parts (goes_on j) j.is_left p.0 in
         let enough = leb-true rules.attempts j.failed p.1 in
         let count = told.failed in
         let last = last_cause f.failed (omega (arith, some, enough, count)) in (
           job_end.GaveUp last.0,
           refl,
-          (sym told.starved ∙ not-true j.is_starved q.0, sym told.left ∙ q.1, (omega (arith, enough, count, most), last.1, last.2)),
+          (gone_on q.0, sym told.left ∙ q.1, (omega (arith, enough, count, most), last.1, last.2)),
         )
     ends_to ended.JournalFull passed =
-        let r = and_parts (not j.is_starved && j.is_left && nat_lt j.failed rules.attempts) (nat_le 10000 entries) passed in
-        let p = and_parts (not j.is_starved && j.is_left) (nat_lt j.failed rules.attempts) r.0 in
-        let q = and_parts (not j.is_starved) j.is_left p.0 in
+        let r = and_parts (goes_on j && j.is_left && nat_lt j.failed rules.attempts) (nat_le 10000 entries) passed in
+        let p = and_parts (goes_on j && j.is_left) (nat_lt j.failed rules.attempts) r.0 in
+        let q = and_parts (goes_on j) j.is_left p.0 in
         let fewer = ltb-true j.failed rules.attempts p.1 in
         let count = told.failed in (
           job_end.JournalFull,
           refl,
-          (sym told.starved ∙ not-true j.is_starved q.0, sym told.left ∙ q.1, omega (arith, fewer, count, most), leb-true 10000 entries r.1),
+          (gone_on q.0, sym told.left ∙ q.1, omega (arith, fewer, count, most), leb-true 10000 entries r.1),
         )
-    ends_to ended.NoMemory passed = (job_end.NoMemory, refl, sym told.left ∙ passed)
+    ends_to ended.NoMemory passed =
+        let p = and_parts (not j.is_client) j.is_left passed in (job_end.NoMemory, refl, (sym told.client ∙ not-true j.is_client p.0, sym told.left ∙ p.1))
 
-    -- the job has a transaction left, and memory
-    goes_on : f.starved ≡ false → is_some (next_body s.script f.job) ≡ true → (not j.is_starved && j.is_left) ≡ true
-    goes_on fed left = both_true (not_from_false j.is_starved (told.starved ∙ fed)) (told.left ∙ left)
+    -- the job has a transaction left, and goes on
+    has_left : GoesOn s.script f.starved → is_some (next_body s.script f.job) ≡ true → (goes_on j && j.is_left) ≡ true
+    has_left on left = both_true (going on) (told.left ∙ left)
 
     -- a job's end passes
     end_so : (e : JobEnd) → IsEnd s entries f e → ends_so rules entries j (job_end_shown e) ≡ true
     end_so job_end.Done end =
-        both_true (not_from_false j.is_starved (told.starved ∙ end.0)) (not_from_false j.is_left (told.left ∙ ap is_some (end.1 own)))
+        both_true (going end.0)
+        (or_so j.is_client (not j.is_left) (λ own. not_from_false j.is_left (told.left ∙ ap is_some (end.1 (sym told.client ∙ own)))))
     end_so (job_end.GaveUp c) end =
         let enough = end.2 in
         let count = told.failed in
-        both_true (goes_on end.0 end.1) (le-leb rules.attempts j.failed (omega (arith, enough, count, most)))
+        both_true (has_left end.0 end.1) (le-leb rules.attempts j.failed (omega (arith, enough, count, most)))
     end_so job_end.JournalFull end =
         let fewer = end.2 in
         let count = told.failed in
-        both_true (both_true (goes_on end.0 end.1) (lt-ltb j.failed rules.attempts (omega (arith, fewer, count, most)))) (le-leb 10000 entries end.3)
-    end_so job_end.NoMemory end = told.left ∙ end
+        both_true (both_true (has_left end.0 end.1) (lt-ltb j.failed rules.attempts (omega (arith, fewer, count, most)))) (le-leb 10000 entries end.3)
+    end_so job_end.NoMemory end = both_true (not_from_false j.is_client (told.client ∙ end.0)) (told.left ∙ end.1)
 
     -- where the job may have ended so, the end passes
     ends_from : (shown : JobShown) → EndsAs s entries f shown → ends_so rules entries j shown ≡ true
@@ -177,11 +210,11 @@ module _ (s : Setting) (rules : Rules) (entries : ℕ) (own : IsScripted s.scrip
       by_line false passed finds = without_line number f fs l lines (λ shown. cc (line_from f j told.0 number l shown, passed))
 
 -- the same of what was found
-pub jobs_at : (s : Setting) (rules : Rules) (entries : ℕ) → IsScripted s.script → s.rules ≡ rules → 1 ≤ rules.attempts
+pub jobs_at : (s : Setting) (rules : Rules) (entries : ℕ) → s.rules ≡ rules → 1 ≤ rules.attempts
     → (told : List Following) (jobs : List JobLeft) (lines : List Line) → AllZip (IsToldOf s.script) told jobs
     → (found : Option (List Line)) → found ≡ behind_jobs rules entries 1 jobs lines → FindsJobLines s entries (numbered_jobs 1 told) lines found
-jobs_at s rules entries own same some told jobs lines zip found is =
-    subst (FindsJobLines s entries (numbered_jobs 1 told) lines) (sym is) (jobs_found s rules entries own same some 1 told jobs lines zip)
+jobs_at s rules entries same some told jobs lines zip found is =
+    subst (FindsJobLines s entries (numbered_jobs 1 told) lines) (sym is) (jobs_found s rules entries same some 1 told jobs lines zip)
 
 -- what is behind them is so much of the lines
 pub jobs_rest : (s : Setting) (entries number : ℕ) (told : List Following) (lines rest : List Line)

@@ -1,5 +1,6 @@
 -- The lines of the jobs, by what the code is told of them.
-use Rattle.std.specs.Prelude.{◌≡◌, ℕ, ◌+◌, ◌==◌, ◌&&◌, Bool, false, not, nat_eq, nat_le, nat_lt, List, [], ◌∷◌, ◌++◌, Option, if◌then◌else◌}
+use Rattle.std.specs.Prelude.{◌≡◌, ℕ, ◌+◌, ◌==◌, ◌&&◌, ◌||◌, Bool, false, not, nat_eq, nat_le, nat_lt, if◌then◌else◌}
+use Rattle.std.specs.Prelude.{List, [], ◌∷◌, ◌++◌, Option}
 use Rattle.std.specs.declared.option.Option.TheVariants.{None, Some}
 use Rattle.std.specs.Cmp.Lexicographic.{pointwise}
 use Rattle.xc_data.specs.declared.entry.JobLine.{JobLine}
@@ -14,12 +15,16 @@ use Rattle.xc_sheet.specs.declared.lines.Line.{Line}
 use Rattle.xc_sheet.specs.declared.lines.Line.TheVariants as line
 use Rattle.xc_tail.specs.declared.job_left.JobLeft.{JobLeft}
 
+-- whether a job goes on after its last entry, where its client asks it or memory wasn't wanting
+abbrev pub goes_on : JobLeft → Bool
+goes_on j = j.is_client || not j.is_starved
+
 -- whether a job may have ended so, behind so many entries
 abbrev pub ends_so : Rules → ℕ → JobLeft → JobShown → Bool
-ends_so rules entries j ended.Done = not j.is_starved && not j.is_left
-ends_so rules entries j ended.GaveUp = not j.is_starved && j.is_left && nat_le rules.attempts j.failed
-ends_so rules entries j ended.JournalFull = not j.is_starved && j.is_left && nat_lt j.failed rules.attempts && nat_le 10000 entries
-ends_so rules entries j ended.NoMemory = j.is_left
+ends_so rules entries j ended.Done = goes_on j && (j.is_client || not j.is_left)
+ends_so rules entries j ended.GaveUp = goes_on j && j.is_left && nat_le rules.attempts j.failed
+ends_so rules entries j ended.JournalFull = goes_on j && j.is_left && nat_lt j.failed rules.attempts && nat_le 10000 entries
+ends_so rules entries j ended.NoMemory = not j.is_client && j.is_left
 
 -- whether a line is that of a job of this number
 abbrev pub is_job_line : Rules → ℕ → ℕ → JobLeft → Line → Bool

@@ -6,6 +6,7 @@ use Rattle.xc_data.specs.declared.entry.KeptItem.{KeptItem}
 use Rattle.xc_host.specs.Contents.{Contents, contents_of}
 use Rattle.xc_host.specs.Kept.{with_kept}
 use Rattle.xc_model.specs.Ending.{AreEnds}
+use Rattle.xc_model.specs.Live.{has_clients}
 use Rattle.xc_model.specs.Progress.{Following}
 use Rattle.xc_model.specs.Setting.{Setting}
 use Rattle.xc_print.specs.Kept.{joined}
@@ -43,6 +44,7 @@ pub record IsTail (s : Setting) (led : Led) (lines : List Line) : Type 0 where
 -- what the code is told of a started job
 pub record IsToldOf (script : Script) (f : Following) (j : JobLeft) : Type 0 where
   pub block : j.block ≡ f.block
+  pub client : j.is_client ≡ has_clients script
   pub left : j.is_left ≡ is_some (next_body script f.job)
   pub failed : j.failed ≡ length f.failed
   pub starved : j.is_starved ≡ f.starved

@@ -1,5 +1,5 @@
 ghost use Rattle.std.specs.Prelude.{◌≡◌};
-ghost use Rattle.xc_tail.specs.JobLines.{ends_so, is_job_line};
+ghost use Rattle.xc_tail.specs.JobLines.{ends_so, goes_on, is_job_line};
 
 use xc_data::Ident;
 use xc_lines::JobShown;
@@ -9,29 +9,37 @@ use xc_sheet::Line;
 /// So long a journal is full.
 const MOST_ENTRIES: usize = 10_000;
 
-/// Where a started job stands behind the last entry: whether a transaction is left, how many attempts at it failed, and whether memory
-/// ran out.
+/// Where a started job stands behind the last entry: whether a client asks it, whether a transaction is left, how many attempts at it
+/// failed, and whether memory ran out.
 #[derive(Clone, Copy, Debug)]
 pub struct JobLeft {
     pub block: Ident,
+    pub is_client: bool,
     pub is_left: bool,
     pub failed: usize,
     pub is_starved: bool,
 }
 
 impl JobLeft {
+    // The job goes on after its last entry.
+    fn goes_on(&self) -> bool
+        ensures { result ≡ goes_on self.now }
+    {
+        self.is_client || !self.is_starved
+    }
+
     // The job may have ended so, behind so many entries.
     fn ends_so(&self, rules: &Rules, entries: usize, end: JobShown) -> bool
         ensures { result ≡ ends_so rules.now entries self.now end }
     {
         let has_attempt = self.failed < rules.attempts as usize;
         match end {
-            JobShown::Done => !self.is_starved && !self.is_left,
-            JobShown::GaveUp => !self.is_starved && self.is_left && !has_attempt,
+            JobShown::Done => self.goes_on() && (self.is_client || !self.is_left),
+            JobShown::GaveUp => self.goes_on() && self.is_left && !has_attempt,
             JobShown::JournalFull => {
-                !self.is_starved && self.is_left && has_attempt && entries >= MOST_ENTRIES
+                self.goes_on() && self.is_left && has_attempt && entries >= MOST_ENTRIES
             }
-            JobShown::NoMemory => self.is_left,
+            JobShown::NoMemory => !self.is_client && self.is_left,
         }
     }
 

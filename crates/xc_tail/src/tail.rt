@@ -1,7 +1,6 @@
 ghost use Rattle.std.specs.Bool.{Decides};
 ghost use Rattle.std.specs.List.{AllZip};
 ghost use Rattle.std.specs.Prelude.{◌≡◌, ◌≤◌, List, IfOk};
-ghost use Rattle.xc_model.specs.Live.{IsScripted};
 ghost use Rattle.xc_model.specs.Progress.{Following};
 ghost use Rattle.xc_model.specs.Setting.{Setting};
 ghost use Rattle.xc_sheet.specs.Ends.{line_of_totals};
@@ -47,7 +46,7 @@ pub fn is_tail(
     lines: &[Line],
 ) -> Result<bool, NoMemory>
     requires { 1 ≤ rules.now.attempts }
-    ensures { (s : Setting) (told : List Following) → IsScripted s.script → s.rules ≡ rules.now → AllZip (IsToldOf s.script) told jobs.now
+    ensures { (s : Setting) (told : List Following) → s.rules ≡ rules.now → AllZip (IsToldOf s.script) told jobs.now
         → IfOk result (λ yes.
         Decides yes (IsTail s (record { entries = entries; jobs = told; world = world; totals = totals }) lines.now)) }
 {

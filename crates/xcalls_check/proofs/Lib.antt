@@ -1,1 +1,2 @@
 pub mod LineEnds
+mod Said

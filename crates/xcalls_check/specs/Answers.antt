@@ -10,9 +10,9 @@ use Rattle.xc_check.specs.declared.verdict.CheckWhy.{CheckWhy}
 use Rattle.xc_check.specs.declared.verdict.CheckWhy.TheVariants as why
 use Rattle.xc_check.specs.declared.verdict.Verdict.{Verdict}
 use Rattle.xc_check.specs.declared.verdict.Verdict.TheVariants as verdict
+use Rattle.xc_judge.specs.declared.basis.Basis.{Basis}
 use Rattle.xc_judge.specs.declared.reason.Reason.{Reason}
 use Rattle.xc_judge.specs.declared.reason.Reason.TheVariants as reason
-use Rattle.xc_model.specs.declared.rules.Rules.{Rules}
 use Rattle.xcalls_check.specs.declared.answer.CheckAnswer.{CheckAnswer}
 use Rattle.xcalls_check.specs.declared.answer.CheckAnswer.TheVariants as answer
 use Rattle.xcalls_check.specs.declared.status.CheckStatus.{CheckStatus}
@@ -43,11 +43,16 @@ why_name why.Tail = codes "tail"
 abbrev pub no_line : ℕ → CheckWhy → List ℕ
 no_line line why = codes "no line " ++ decimal line ++ codes " " ++ why_name why ++ codes "\n"
 
+-- the line that says that nothing can be said
+abbrev pub untold_line : ℕ → List ℕ
+untold_line line = codes "untold line " ++ decimal line ++ codes "\n"
+
 -- the line of an answer
 abbrev pub answer_line : CheckAnswer → List ℕ
 answer_line (answer.Judged verdict.Yes) = codes "yes\n"
 answer_line (answer.Judged (verdict.No line why)) = no_line line why
-answer_line answer.Usage = codes "usage: xcalls_check [--attempts N] [--undo-tries N]\n"
+answer_line (answer.Judged (verdict.Untold line)) = untold_line line
+answer_line answer.Usage = codes "usage: xcalls_check [--attempts N] [--undo-tries N] [--prologue]\n"
 answer_line answer.ReadFault = codes "read fault\n"
 answer_line answer.NoMemory = codes "no memory\n"
 
@@ -56,6 +61,7 @@ answer_line answer.NoMemory = codes "no memory\n"
 abbrev pub check_status_of : CheckAnswer → CheckStatus
 check_status_of (answer.Judged verdict.Yes) = status.Yes
 check_status_of (answer.Judged (verdict.No line why)) = status.No
+check_status_of (answer.Judged (verdict.Untold line)) = status.Untold
 check_status_of answer.Usage = status.Usage
 check_status_of answer.ReadFault = status.ReadFault
 check_status_of answer.NoMemory = status.NoMemory
@@ -68,6 +74,7 @@ check_status_number status.Usage = 2
 check_status_number status.ReadFault = 3
 check_status_number status.WriteFault = 4
 check_status_number status.NoMemory = 5
+check_status_number status.Untold = 6
 
 -- ---- what is said
 -- all was written, and the program ends with the status that was meant; or a front, and it ends with the sink's failure
@@ -86,25 +93,25 @@ abbrev pub most_input : ℕ
 most_input = 68157446
 
 -- what is found of the bytes that came: they are too many, or this is the verdict on their halves
-pub record IsFound (rules : Rules) (input : List ℕ) (found : Verdict) : Type 0 where
+pub record IsFound (basis : Basis) (input : List ℕ) (found : Verdict) : Type 0 where
   pub too_long : length input ≡ most_input → found ≡ verdict.No 0 why.TooLong
-  pub judged : length input < most_input → IsVerdict (script_part input) rules (text_of input) found
-  pub only : length input < most_input → AcceptsTrueTexts (script_part input) rules (text_of input) found
+  pub judged : length input < most_input → IsVerdict (script_part input) basis (text_of input) found
+  pub only : length input < most_input → AcceptsTrueTexts (script_part input) basis (text_of input) found
 
--- by the rules that the words choose, this is found of the bytes that came from the source
-pub record IsCheckJudged (rules : Option Rules) (source : Step StreamView) (found : Verdict) : Type 0 where
-  pub chosen : Rules
+-- by what the words choose, this is found of the bytes that came from the source
+pub record IsCheckJudged (basis : Option Basis) (source : Step StreamView) (found : Verdict) : Type 0 where
+  pub chosen : Basis
   pub input : List ℕ
-  pub rules_are : rules ≡ Some chosen
+  pub basis_is : basis ≡ Some chosen
   pub came : Came most_input source.old source.new input
   pub is_found : IsFound chosen input found
 
--- an answer has its cause: in the rules that the words choose, and in the source before and after it was read
-abbrev pub IsCheckCaused : Option Rules → Step StreamView → CheckAnswer → Type 0
-IsCheckCaused rules source (answer.Judged found) = IsCheckJudged rules source found
-IsCheckCaused rules source answer.Usage = rules ≡ None
-IsCheckCaused rules source answer.ReadFault = IsSome rules × HasFailed source.old source.new
-IsCheckCaused rules source answer.NoMemory = Unit {0}
+-- an answer has its cause: in what the words choose, and in the source before and after it was read
+abbrev pub IsCheckCaused : Option Basis → Step StreamView → CheckAnswer → Type 0
+IsCheckCaused basis source (answer.Judged found) = IsCheckJudged basis source found
+IsCheckCaused basis source answer.Usage = basis ≡ None
+IsCheckCaused basis source answer.ReadFault = IsSome basis × HasFailed source.old source.new
+IsCheckCaused basis source answer.NoMemory = Unit {0}
 
 -- an answer was meant that has its cause, and it was said
 pub record IsCheckAnswered (words : List (List ℕ)) (source sink : Step StreamView) (ends : CheckStatus) : Type 0 where

@@ -1,4 +1,5 @@
-//! Reads a script, a line `====` and a printed journal on standard input, and says on standard output whether the journal is true.
+//! Reads a script, a line `====` and a printed journal on standard input, and says on standard output whether the journal is true. With
+//! `--prologue` the journal is one of clients, and the script their prologue.
 #![tactic(auto)]
 
 mod answer;

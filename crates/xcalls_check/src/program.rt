@@ -10,19 +10,18 @@ use crate::settings::check_settings;
 use crate::status::CheckStatus;
 use std::alloc::{AllocGlobal, Global};
 use std::io;
-use xc_check::{CheckWhy, Verdict, check};
+use xc_check::{Basis, CheckWhy, Verdict, check};
 use xc_data::{Chunk, NoMemory};
 use xc_edge::{ReadErr, Sink, Source, read_up_to};
-use xc_model::Rules;
 use xc_options::SettingsErr;
 
 // The most bytes that are read: one more than a script, the line between and a text of the largest sizes.
 const MOST_INPUT: usize = 68_157_446;
 
 // What is found of the bytes that came.
-fn verdict_on(alloc: Global, rules: &Rules, input: &[u8]) -> Result<Verdict, NoMemory>
-    requires rules { 1 ≤ rules.now.attempts }
-    ensures { IfOk result (IsFound rules.now input.now) }
+fn verdict_on(alloc: Global, basis: &Basis, input: &[u8]) -> Result<Verdict, NoMemory>
+    requires rules { 1 ≤ basis.now.rules.attempts }
+    ensures { IfOk result (IsFound basis.now input.now) }
 {
     if input.len() == MOST_INPUT {
         return Ok(Verdict::No {
@@ -31,13 +30,13 @@ fn verdict_on(alloc: Global, rules: &Rules, input: &[u8]) -> Result<Verdict, NoM
         });
     }
     let (script, text) = halves(input);
-    check(alloc, &Chunk::new(alloc, script)?, rules, text)
+    check(alloc, &Chunk::new(alloc, script)?, basis, text)
 }
 
-// What is to be said of the source, by these rules.
-fn answer_by<S: Source>(alloc: Global, rules: &Rules, source: &mut S) -> CheckAnswer
-    requires rules { 1 ≤ rules.now.attempts }
-    ensures caused { IsCheckCaused (Some rules.now) (record { old = S.told source.old; new = S.told source.new }) result }
+// What is to be said of the source, by what the words chose.
+fn answer_by<S: Source>(alloc: Global, basis: &Basis, source: &mut S) -> CheckAnswer
+    requires rules { 1 ≤ basis.now.rules.attempts }
+    ensures caused { IsCheckCaused (Some basis.now) (record { old = S.told source.old; new = S.told source.new }) result }
     ensures few { ConsumesUpTo most_input (S.told source.old) (S.told source.new) }
 {
     let input = match read_up_to(alloc, source, MOST_INPUT) {
@@ -45,7 +44,7 @@ fn answer_by<S: Source>(alloc: Global, rules: &Rules, source: &mut S) -> CheckAn
         Err(ReadErr::Failed) => return CheckAnswer::ReadFault,
         Err(ReadErr::NoMemory) => return CheckAnswer::NoMemory,
     };
-    match verdict_on(alloc, rules, input.as_slice()) {
+    match verdict_on(alloc, basis, input.as_slice()) {
         Ok(verdict) => CheckAnswer::Judged(verdict),
         Err(NoMemory) => CheckAnswer::NoMemory,
     }
@@ -59,13 +58,14 @@ fn answer<S: Source>(alloc: Global, words: &[String], source: &mut S) -> CheckAn
     ensures few { ConsumesUpTo most_input (S.told source.old) (S.told source.new) }
 {
     match check_settings(alloc, words) {
-        Ok(rules) => answer_by(alloc, &rules, source),
+        Ok(basis) => answer_by(alloc, &basis, source),
         Err(SettingsErr::Usage) => CheckAnswer::Usage,
         Err(SettingsErr::NoMemory) => CheckAnswer::NoMemory,
     }
 }
 
-/// Reads a script and a printed journal from the source, and writes to the sink whether the journal is true.
+/// Reads a script and a printed journal from the source, and writes to the sink whether the journal is true. Where the words say so it
+/// is a journal of clients, and their prologue stands in place of the script.
 ///
 /// `words` are those of the command line after the program's name.
 pub fn check_run<R: AllocGlobal, S: Source, K: Sink>(

@@ -13,6 +13,8 @@ pub enum CheckStatus {
     ReadFault,
     WriteFault,
     NoMemory,
+    /// Of clients' journal nothing can be said from some entry on.
+    Untold,
 }
 
 impl CheckStatus {
@@ -27,6 +29,7 @@ impl CheckStatus {
             CheckStatus::ReadFault => 3,
             CheckStatus::WriteFault => 4,
             CheckStatus::NoMemory => 5,
+            CheckStatus::Untold => 6,
         }
     }
 }

@@ -1,13 +1,15 @@
-use Rattle.std.proofs.Common.{◌≡◌, ◌∙◌, ◌+◌, [], ◌∷◌, ◌++◌, length, reverse, refl, sym, ap, subst, arith}
+use Rattle.std.proofs.Common.{◌≡◌, ◌∙◌, ◌&&◌, ◌+◌, [], ◌∷◌, ◌++◌, length, reverse, refl, sym, ap, subst, arith}
 use Rattle.std.specs.Prelude.{MatchResult}
 use Rattle.std.proofs.lemmas.List.{length-append, reverse-reverse}
 use Rattle.xc_grounds.specs.Numbered.{AreNumbered}
+use Rattle.xc_model.specs.Live.{has_clients}
 use Rattle.xc_shown.specs.Shown.{bare}
 use Rattle.xc_shown.specs.declared.shown.Shown.{Shown}
 use Rattle.xc_check.specs.Fronts.{begins_shown}
 use Rattle.xc_check.specs.Judging.{IsJudged}
 use Rattle.xc_check.specs.Refusals.{IsRefusedIn}
 use Rattle.xc_check.specs.TrueTexts.{telling}
+use Rattle.xc_check.specs.Untold.{looks_at_last}
 use Rattle.xc_check.proofs.Stepping.{all_behind, next_of_reverse, numbered_to_one, passed_on}
 use Rattle.xc_check.proofs.entries.judge_entries.Goals as goal
 
@@ -48,13 +50,17 @@ returns-in-Err c count numbered =
     let s = telling c.args.script.now c.args.rules.now in
     let to_one = numbered_to_one count h.0 c.in-Some.shown (reverse c.pop.new.self.items) (subst (λ xs. AreNumbered count (begins_shown xs)) parts numbered) in
     record {
-      before = h.0;
-      shown = c.in-Some.shown;
-      behind = reverse c.pop.new.self.items;
-      parts = parts;
-      at = h.2;
-      refused = subst (λ r. MatchResult r (IsJudged s count (h.0 ++ c.in-Some.shown ∷ [])) (IsRefusedIn s count h.0 c.in-Some.shown)) c.in-Err.is
-          (c.in_ok-next.ensures count h.0 (h.3 count numbered) to_one);
+      refused = record {
+        before = h.0;
+        shown = c.in-Some.shown;
+        behind = reverse c.pop.new.self.items;
+        parts = parts;
+        at = h.2;
+        refused = subst (λ r. MatchResult r (IsJudged s count (h.0 ++ c.in-Some.shown ∷ [])) (IsRefusedIn s count h.0 c.in-Some.shown)) c.in-Err.is
+            (c.in_ok-next.ensures count h.0 (h.3 count numbered) to_one);
+      };
+      untold = c.is_left_open.ensures
+          ∙ ap (λ lacked. has_clients c.args.script.now && (lacked && looks_at_last c.in-Err.reason)) c.lacked_memory-lacked.ensures;
     }
 
 pub loop-shown-preserved : goal.loop-shown-preserved

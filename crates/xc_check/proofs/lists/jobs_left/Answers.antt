@@ -26,12 +26,14 @@ loop-at-preserved c told standings jobs =
     subst (λ xs. slice_get xs k ≡ Some (script_job_in f)) (sym jobs) (get_map script_job_in told k f at.there) in
     let left : JobLeft = record {
       block = c.block.result;
+      is_client = script.clients;
       is_left = c.has_next.result;
       failed = c.failures.result;
       is_starved = c.is_starved.result;
     } in
     let one : IsToldOf script f left = record {
       block = c.block.ensures ∙ ap (λ (s : _). s.block) (sym at.is);
+      client = refl;
       left = c.has_next.ensures (script_job_in f) job_there;
       failed = c.failures.ensures ∙ ap (λ (s : _). length s.failed) (sym at.is);
       starved = c.is_starved.ensures ∙ ap (λ (s : _). s.starved) (sym at.is);

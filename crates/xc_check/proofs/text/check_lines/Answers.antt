@@ -2,11 +2,10 @@ use Rattle.std.proofs.Common.{◌≡◌, length, ap, subst, refl, arith}
 use Rattle.std.specs.Prelude.{IfOk}
 use Rattle.std.proofs.lemmas.Result.{IfOk-weaker}
 use Rattle.xc_check.specs.TrueTexts.{telling}
-use Rattle.xc_check.specs.Verdicts.{IsVerdictIn, IsVerdictOn}
-use Rattle.xc_check.specs.declared.verdict.Verdict.{Verdict}
-use Rattle.xc_check.specs.declared.verdict.Verdict.TheVariants.{Yes}
+use Rattle.xc_model.specs.Live.{has_clients}
+use Rattle.xc_check.specs.Verdicts.{IsAccepting, IsVerdictIn, IsVerdictOn}
 use Rattle.xc_check.proofs.Texts.{all_plainly, front_within, lines_within, shown_by, verdict_on}
-use Rattle.xc_check.proofs.TrueEnds.{each_replied, says_yes_of}
+use Rattle.xc_check.proofs.TrueEnds.{each_replied, says_so_of}
 use Rattle.xc_check.proofs.text.check_lines.Goals as goal
 
 -- src/text.rt
@@ -33,7 +32,7 @@ pub returns-clause-only : goal.returns-clause-only
 returns-clause-only c journal jobs words kept h are =
     let s = telling c.args.script.now c.args.rules.now in
     let p = c.in_ok-entries.field-0 in
-    let parts = c.in_ok-entries.ensures.only journal jobs words kept are (each_replied s journal c.requires.scripted h.is_true) in
+    let parts = c.in_ok-entries.ensures.only journal jobs words kept are (each_replied s journal refl h.is_true) in
     let says = subst (λ (tail : _). IfOk c.check_entries.result (IsVerdictIn s p.entries tail)) c.as_slice.ensures c.check_entries.ensures in
-    IfOk-weaker c.check_entries.result (IsVerdictIn s p.entries p.tail) (λ (verdict : Verdict). verdict ≡ Yes)
-    (λ verdict. says_yes_of s journal jobs words kept c.requires.scripted refl h p.entries p.tail verdict parts.0 parts.1) says
+    IfOk-weaker c.check_entries.result (IsVerdictIn s p.entries p.tail) (IsAccepting (has_clients s.script))
+    (λ verdict. says_so_of s journal jobs words kept refl h p.entries p.tail verdict parts.0 parts.1) says

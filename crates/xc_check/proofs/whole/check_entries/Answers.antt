@@ -87,7 +87,7 @@ refused_at-requires c =
     (subst (λ xs. AreFirstLines xs c.in_ok-lines.lines.items) c.as_slice.ensures c.in_ok-lines.ensures) in
     let refused = refused_of_all s entries begins are numbered c.into_vec-entries.result.items c.into_vec-entries.ensures c.in_ok-judging.field-0
     c.in_ok-judging.ensures c.in-Err.refused c.in-Err.is in
-    let within = refused_within s (length entries) entries c.in-Err.refused.place c.in-Err.refused.reason refused in
+    let within = refused_within s (length entries) entries c.in-Err.refused.place c.in-Err.refused.reason refused.refused in
     let size = lines.0 in
     omega (arith, within, size)
 

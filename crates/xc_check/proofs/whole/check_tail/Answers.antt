@@ -29,8 +29,8 @@ returns-then-branch c entries so line_is are =
     let standings = ap (λ (x : Course). x.jobs) (j.course ∙ course_is script j.front) in
     let each = subst (λ left. AllZip (IsToldOf script) told left) (sym c.as_slice.ensures.value)
     (c.in_ok-left.ensures told standings (j.asked ∙ jobs_are script j.front)) in
-    let decides = c.in_ok-is_tail.ensures s told c.requires.scripted refl each in
-    true_in s entries c.args.judging j so.grounded refl c.args.totals are (length c.as_slice-count.result.now) (ap length c.as_slice-count.ensures.value)
+    let decides = c.in_ok-is_tail.ensures s told refl each in
+    true_in s entries c.args.judging j so.grounded c.args.totals are (length c.as_slice-count.result.now) (ap length c.as_slice-count.ensures.value)
     c.into_world-world.result c.into_world-world.ensures c.args.tail.now (decides.0 c.if-branch.true)
 
 pub returns : goal.returns
@@ -42,7 +42,7 @@ returns c entries so line_is are =
     let standings = ap (λ (x : Course). x.jobs) (j.course ∙ course_is script j.front) in
     let each = subst (λ left. AllZip (IsToldOf script) told left) (sym c.as_slice.ensures.value)
     (c.in_ok-left.ensures told standings (j.asked ∙ jobs_are script j.front)) in
-    let decides = c.in_ok-is_tail.ensures s told c.requires.scripted refl each in
-    false_tail s entries c.args.judging j so.grounded refl c.args.totals are (length c.as_slice-count.result.now) (ap length c.as_slice-count.ensures.value)
+    let decides = c.in_ok-is_tail.ensures s told refl each in
+    false_tail s entries c.args.judging j so.grounded c.args.totals are (length c.as_slice-count.result.now) (ap length c.as_slice-count.ensures.value)
     c.into_world-world.result c.into_world-world.ensures c.args.tail.now c.args.line
     (λ h. let yes : c.in_ok-is_tail.field-0 ≡ true = decides.1 h in let other : c.in_ok-is_tail.field-0 ≡ false = c.if-branch.false in cc) line_is

@@ -18,7 +18,7 @@ refused_at-requires-in-Err c =
     let refused = c.in-Err.refused in
     let at = refused_of_front s entries c.args.place c.requires.place c.truncate.new.self.items c.truncate.ensures.items c.in_ok-_judging.field-0
     c.in_ok-_judging.ensures refused c.in-Err.is in
-    let within = refused_within s (length entries) entries refused.place refused.reason at in
+    let within = refused_within s (length entries) entries refused.place refused.reason at.refused in
     let lines = c.requires.lines.0 in
     omega (arith, within, lines)
 

@@ -6,4 +6,4 @@ use Rattle.xc_grounds.proofs.grounds.first_groundless.Given as goal
 
 -- those so far are grounded
 abbrev pub invariant-loop-place : goal.invariant-loop-place
-invariant-loop-place l = (i : ℕ) (e : Part) → i < l.place → slice_get l.parts i ≡ Some e → IsGroundedAt l.parts i e
+invariant-loop-place l = (i : ℕ) (e : Part) → i < l.place → slice_get l.parts i ≡ Some e → IsGroundedAt l.known l.parts i e

@@ -8,32 +8,32 @@ use Rattle.xc_tail.proofs.Parts.{refused, decides_more, parted_last, no_jobs, no
 use Rattle.xc_tail.proofs.tail.is_tail.Goals as goal
 
 pub returns-in_default : goal.returns-in_default
-returns-in_default c = λ s told own same zip.
+returns-in_default c = λ s told same zip.
     let a = c.args in
     refused _ (no_jobs s _ a.lines.now
-    (jobs_at s a.rules.now a.entries own same c.requires told a.jobs.now a.lines.now zip _ (ap option_copied (sym c.in_default.is) ∙ c.behind_jobs.ensures)))
+    (jobs_at s a.rules.now a.entries same c.requires told a.jobs.now a.lines.now zip _ (ap option_copied (sym c.in_default.is) ∙ c.behind_jobs.ensures)))
 
 pub returns-in_default-behind_words : goal.returns-in_default-behind_words
-returns-in_default-behind_words c = λ s told own same zip.
+returns-in_default-behind_words c = λ s told same zip.
     let a = c.args in
-    let has = jobs_at s a.rules.now a.entries own same c.requires told a.jobs.now a.lines.now zip _
+    let has = jobs_at s a.rules.now a.entries same c.requires told a.jobs.now a.lines.now zip _
     (ap option_copied (sym c.in-Some.is) ∙ c.behind_jobs.ensures) in
     refused _ (no_words s _ a.lines.now c.in-Some.lines.now has
     (subst (λ words. (rest : List Line) → c.in-Some.lines.now ≡ lines_of_words 0 words ++ rest → ⊥) c.words.ensures c.in_default-behind_words.ensures))
 
 pub returns-in_default-lines : goal.returns-in_default-lines
-returns-in_default-lines c = λ s told own same zip.
+returns-in_default-lines c = λ s told same zip.
     let a = c.args in
-    let has = jobs_at s a.rules.now a.entries own same c.requires told a.jobs.now a.lines.now zip _
+    let has = jobs_at s a.rules.now a.entries same c.requires told a.jobs.now a.lines.now zip _
     (ap option_copied (sym c.in-Some.is) ∙ c.behind_jobs.ensures) in
     let left = c.in-Some-behind_words.lines.now in
     let words = subst (λ ws. c.in-Some.lines.now ≡ lines_of_words 0 ws ++ left) c.words.ensures c.in-Some-behind_words.ensures in
     refused _ (no_total s _ a.lines.now c.in-Some.lines.now left has words c.in_default-lines.len_below)
 
 pub returns-then-not-is_total : goal.returns-then-not-is_total
-returns-then-not-is_total c = λ s told own same zip.
+returns-then-not-is_total c = λ s told same zip.
     let a = c.args in
-    let has = jobs_at s a.rules.now a.entries own same c.requires told a.jobs.now a.lines.now zip _
+    let has = jobs_at s a.rules.now a.entries same c.requires told a.jobs.now a.lines.now zip _
     (ap option_copied (sym c.in-Some.is) ∙ c.behind_jobs.ensures) in
     let left = c.in-Some-behind_words.lines.now in
     let words = subst (λ ws. c.in-Some.lines.now ≡ lines_of_words 0 ws ++ left) c.words.ensures c.in-Some-behind_words.ensures in
@@ -43,9 +43,9 @@ returns-then-not-is_total c = λ s told own same zip.
     (λ e. let yes = c.is_total.ensures.1 e in absurd (cc (yes, un))))
 
 pub returns : goal.returns
-returns c = λ s told own same zip.
+returns c = λ s told same zip.
     let a = c.args in
-    let has = jobs_at s a.rules.now a.entries own same c.requires told a.jobs.now a.lines.now zip _
+    let has = jobs_at s a.rules.now a.entries same c.requires told a.jobs.now a.lines.now zip _
     (ap option_copied (sym c.in-Some.is) ∙ c.behind_jobs.ensures) in
     let left = c.in-Some-behind_words.lines.now in
     let words = subst (λ ws. c.in-Some.lines.now ≡ lines_of_words 0 ws ++ left) c.words.ensures c.in-Some-behind_words.ensures in

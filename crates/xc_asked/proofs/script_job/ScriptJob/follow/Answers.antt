@@ -1,17 +1,18 @@
-use Rattle.std.proofs.Common.{sym, subst, ap, ◌∙◌}
+use Rattle.std.proofs.Common.{◌≡◌, ◌<◌, ◌^◌, sym, subst, ap, ◌∙◌, arith}
 use Rattle.std.specs.Bool.{Decides}
-use Rattle.std.specs.Prelude.{IfOk}
-use Rattle.xc_model.specs.Asked.{IsAskedBy, ScriptJob, asked_after}
+use Rattle.std.specs.Prelude.{IfOk, Some}
+use Rattle.xc_model.specs.Asked.{IsAskedBy, ScriptJob}
 use Rattle.xc_script.specs.Position.{job_of}
 use Rattle.xc_asked.specs.declared.script_job.Followed.{Followed}
-use Rattle.xc_asked.specs.Walking.{IsBehindReplies, job_outcome}
-use Rattle.xc_asked.proofs.Beginning.{asked_at_end, begin_there, decided_asked, few_next, from_ok}
+use Rattle.xc_asked.specs.Walking.{IsBehindReplies, job_outcome, last_told}
+use Rattle.xc_asked.proofs.Beginning.{begin_there, from_ok, told_at_end}
 use Rattle.xc_asked.proofs.script_job.ScriptJob.follow.Goals as goal
 
 pub returns-then-not-has_next-clause-last : goal.returns-then-not-has_next-clause-last
 returns-then-not-has_next-clause-last c =
-    asked_at_end c.args.script.now (job_of c.self.inside.place) c.args.entry.now.replies (sym c.has_next.ensures ∙ c.if-not-has_next.true)
-    ∙ ap (λ (j : ScriptJob). asked_after c.args.script.now j.job c.args.entry.now.replies) c.self.view_is
+    told_at_end c.args.script.now (record { block = c.self.inside.block; job = job_of c.self.inside.place }) c.args.entry.now
+    (sym c.has_next.ensures ∙ c.if-not-has_next.true)
+    ∙ ap (λ (j : ScriptJob). last_told c.args.script.now (Some j) c.args.entry.now) c.self.view_is
 
 pub end-requires : goal.end-requires
 end-requires c =
@@ -19,8 +20,9 @@ end-requires c =
     from_ok c.walk-followed.result c.in-Ok-true.field-0
     (IsBehindReplies c.args.script.now (job_of c.self.inside.place) c.args.entry.now.replies c.walk-followed.new.place)
     c.in-Ok-true.is c.walk-followed.ensures.behind in
-    few_next c.args.script.now (job_of c.self.inside.place) c.walk-followed.new.place.next c.requires.read c.requires.scripted
-    (sym c.has_next.ensures ∙ c.if-not-has_next.false) followed.next
+    let few : (job_of c.self.inside.place).next < 2 ^ 32 = subst (λ (j : ScriptJob). j.job.next < 2 ^ 32) (sym c.self.view_is) c.requires.few in
+    let next = followed.next in
+    omega (arith, few, next)
 
 pub invariant_of-self : goal.invariant_of-self
 invariant_of-self c =
@@ -34,13 +36,19 @@ invariant_of-self c =
 pub returns-in-Ok-true-clause-asked : goal.returns-in-Ok-true-clause-asked
 returns-in-Ok-true-clause-asked c =
     subst (λ (j : ScriptJob). IfOk c.walk-followed.result (λ (f : Followed). Decides f.is_asked (IsAskedBy c.args.script.now j.job f.last c.args.entry.now)))
-    c.self.view_is
-    (decided_asked c.args.script.now (job_of c.self.inside.place) c.args.entry.now c.walk-followed.result c.requires.scripted
-    (sym c.has_next.ensures ∙ c.if-not-has_next.false) c.walk-followed.ensures.last c.walk-followed.ensures.asked)
+    c.self.view_is c.walk-followed.ensures.asked
 
 pub returns-in-Ok-false-clause-asked : goal.returns-in-Ok-false-clause-asked
 returns-in-Ok-false-clause-asked c =
     subst (λ (j : ScriptJob). IfOk c.walk-followed.result (λ (f : Followed). Decides f.is_asked (IsAskedBy c.args.script.now j.job f.last c.args.entry.now)))
-    c.self.view_is
-    (decided_asked c.args.script.now (job_of c.self.inside.place) c.args.entry.now c.walk-followed.result c.requires.scripted
-    (sym c.has_next.ensures ∙ c.if-not-has_next.false) c.walk-followed.ensures.last c.walk-followed.ensures.asked)
+    c.self.view_is c.walk-followed.ensures.asked
+
+pub returns-in-Ok-true-clause-last : goal.returns-in-Ok-true-clause-last
+returns-in-Ok-true-clause-last c =
+    subst (λ (j : ScriptJob). IfOk c.walk-followed.result (λ (f : Followed). f.last ≡ last_told c.args.script.now (Some j) c.args.entry.now))
+    c.self.view_is (c.walk-followed.ensures.last c.self.inside.block)
+
+pub returns-in-Ok-false-clause-last : goal.returns-in-Ok-false-clause-last
+returns-in-Ok-false-clause-last c =
+    subst (λ (j : ScriptJob). IfOk c.walk-followed.result (λ (f : Followed). f.last ≡ last_told c.args.script.now (Some j) c.args.entry.now))
+    c.self.view_is (c.walk-followed.ensures.last c.self.inside.block)

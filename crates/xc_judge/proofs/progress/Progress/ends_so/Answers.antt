@@ -13,7 +13,7 @@ returns-clause-decides c =
     let as_many : length late ≡ c.kept_count-count.result = search rules in
     let count : length late ≡ length (kept_calls e.calls e.replies) =
     as_many ∙ c.kept_count-count.ensures ∙ (λ i. length (kept_calls (c.as_slice.ensures i) (c.as_slice-2.ensures i))) in
-    ends_decide c.args.rules.now c.args.self.now e late ran ran.world c.as_slice-3.result.now c.in_ok-yes.yes c.requires.ran count refl
+    ends_decide c.args.basis.now c.args.self.now e late ran ran.world c.as_slice-3.result.now c.in_ok-yes.yes c.requires.ran count refl
     c.as_slice-3.ensures c.in_ok-yes.ensures.decides
 
 pub returns-clause-leads : goal.returns-clause-leads

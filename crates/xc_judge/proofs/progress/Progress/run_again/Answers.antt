@@ -40,8 +40,8 @@ returns-in_default c = λ has.
       calls_are = c.as_slice-calls.ensures;
       replies_are = c.as_slice-replies.ensures;
     } in
-    let mine = subst (λ (z : Course). HasReplies (telling_terms c.args.rules.now) z e) (sym c.self.view_is) has in
-    let all = replayed_so c.args.rules.now c.self.inside.world c.self.inside.handles.items c.self.inside.jobs.items c.self.inside.entered e mine in
+    let mine = subst (λ (z : Course). HasReplies (telling_terms c.args.basis.now) z e) (sym c.self.view_is) has in
+    let all = replayed_so c.args.basis.now c.self.inside.world c.self.inside.handles.items c.self.inside.jobs.items c.self.inside.entered e mine in
     found_none c.in_ok-traced.field-0 (AreReplayed w me e.tx calls replies → ⊥) (λ _. AreReplayed w me e.tx calls replies) c.in_default.not-Some
     c.in_ok-traced.ensures.decides
     (replayed_here s e w me calls replies so all)
@@ -49,7 +49,7 @@ returns-in_default c = λ has.
 pub returns : goal.returns
 returns c =
     let e = c.args.entry.now in
-    let rules_now = c.args.rules.now in
+    let basis_now = c.args.basis.now in
     let calls = c.as_slice-calls.result.now in
     let replies = c.as_slice-replies.result.now in
     let w = c.in_ok-world.world in
@@ -70,9 +70,9 @@ returns c =
     let all : AreReplayed w me e.tx calls replies =
     found_some c.in_ok-traced.field-0 traced (AreReplayed w me e.tx calls replies → ⊥) (λ _. AreReplayed w me e.tx calls replies) is gave.decides in
     let yes : c.are_few_faults.result ≡ true = search rules in
-    let few = few_there rules_now.undo_tries calls e.calls replies e.replies c.as_slice-calls.ensures c.as_slice-replies.ensures
+    let few = few_there basis_now.rules.undo_tries calls e.calls replies e.replies c.as_slice-calls.ensures c.as_slice-replies.ensures
     (c.are_few_faults.ensures.0 yes) in
-    let there = has_replies rules_now c.self.inside.world c.self.inside.handles.items c.self.inside.jobs.items c.self.inside.entered e
+    let there = has_replies basis_now c.self.inside.world c.self.inside.handles.items c.self.inside.jobs.items c.self.inside.entered e
     (replayed_there s e w me calls replies so all) few in
     let count = if_some (λ (_ : Traced). length v.words ≡ length w.words) traced is gave.words ∙ ap (λ (z : World). length z.words) c.in_ok-world.ensures in
     let ran_so = is_ran s e w me calls replies so ran
@@ -84,6 +84,6 @@ returns c =
     (if_some (λ (_ : Traced). IsSound v m e.tx) traced is gave.sound)
     (if_some (λ (r : Traced). All (IsReady v) r.replied.late) traced is gave.ready)
     (subst (λ k. k ≤ 4096) (sym count) c.self.invariant.1) in (
-      subst (λ (z : Course). HasReplies (telling_terms rules_now) z e) c.self.view_is there,
+      subst (λ (z : Course). HasReplies (telling_terms basis_now) z e) c.self.view_is there,
       subst (λ (z : Course). IsRan ran (body_of z.state e) e.tx) c.self.view_is ran_so,
     )

@@ -11,7 +11,7 @@ use Rattle.xc_judge.proofs.progress.Progress.step.Goals as goal
 pub enter-requires-clause-open : goal.enter-requires-clause-open
 enter-requires-clause-open c = λ job.
     let a = c.args in
-    let so = found_ok c.in_ok-why.field-0 c.in-Ok.judged (IsJudgedSo a.rules.now a.self a.last.now a.shown) (IsRefusedSo a.rules.now a.self a.last.now a.shown)
+    let so = found_ok c.in_ok-why.field-0 c.in-Ok.judged (IsJudgedSo a.basis.now a.self a.last.now a.shown) (IsRefusedSo a.basis.now a.self a.last.now a.shown)
     c.in-Ok.is c.in_ok-why.ensures in
     let same = ap (λ (e : Entry). e.tx) (shown_bare a.shown c.in-Ok.judged.entry so.shows) in
     subst (λ tx. IsSound a.self.state.world (private_of a.self.state job) tx) same (c.requires.open job)
@@ -19,7 +19,7 @@ enter-requires-clause-open c = λ job.
 pub returns-in_ok-progress-in-Ok-clause-open : goal.returns-in_ok-progress-in-Ok-clause-open
 returns-in_ok-progress-in-Ok-clause-open c = λ ty apart opens.
     let a = c.args in
-    let so = found_ok c.in_ok-why.field-0 c.in-Ok.judged (IsJudgedSo a.rules.now a.self a.last.now a.shown) (IsRefusedSo a.rules.now a.self a.last.now a.shown)
+    let so = found_ok c.in_ok-why.field-0 c.in-Ok.judged (IsJudgedSo a.basis.now a.self a.last.now a.shown) (IsRefusedSo a.basis.now a.self a.last.now a.shown)
     c.in-Ok.is c.in_ok-why.ensures in
     let same = ap (λ (e : Entry). e.tx) (shown_bare a.shown c.in-Ok.judged.entry so.shows) in
     c.in_ok-progress-in-Ok.ensures.open ty (λ e. apart (e ∙ sym same)) opens

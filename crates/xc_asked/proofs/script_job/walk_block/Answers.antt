@@ -1,5 +1,5 @@
 use Rattle.xc_asked.proofs.Beginning.{begin_inner}
-use Rattle.xc_asked.proofs.script_job.walk.Goals as goal
+use Rattle.xc_asked.proofs.script_job.walk_block.Goals as goal
 
 pub follow-requires : goal.follow-requires
 follow-requires c =
